@@ -38,11 +38,11 @@ module _ {E : Type 0} {r : _} (fields : E → SymbolFields) (when : Binding) (in
       left = subst (λ found. words_of found ≡ Ok (words_left words)) there left;
       items = text;
       items_are = subst (λ m. IsItemsText fields m of words text) by items;
-      text_is = some_so (slice_get inputs of) _ _ (λ (input : Input) is. subst (λ (p : Bor (List ℕ)). path_text path.now ++ text ≡ path_text p.now ++ text) is refl) named;
+      text_is = some_so (slice_get inputs of) (λ (input : Input). path ≡ input.path) (λ (input : Input). path_text path.now ++ text ≡ path_text input.path.now ++ text) (λ (input : Input) is. subst (λ (p : Bor (List ℕ)). path_text path.now ++ text ≡ path_text p.now ++ text) is refl) named;
     },
     Appends-trans _ _ _ _ _ heading grown,
   )
   object_ends new (Err stop) why = stop_so _ _ _ _ _ _ stop (λ refused told. (
-    some_so (slice_get inputs of) _ _ (λ (input : Input) is. subst (λ p. refused.path ≡ p) is told.0) named,
+    some_so (slice_get inputs of) (λ (input : Input). path ≡ input.path) (λ (input : Input). refused.path ≡ input.path) (λ (input : Input) is. subst (λ (p : Bor (List ℕ)). refused.path ≡ p) is told.0) named,
     by_word lent words refused.error same are told.1,
   )) (λ written. written) (λ never. never) why

@@ -12,7 +12,7 @@ loop-item-preserved g c =
     lines_more g.E.Entry.fields c.args.machine c.args.of c.args.words c.loop-item.item-iterator c.next.new.self c.in-Some.item _ _ c.loop-item.invariant step.0 step.2 _ step.1 c.in-Ok.ensures.0 c.in-Ok.ensures.1
 
 pub returns : goal.returns
-returns g c = lines_end g.E.Entry.fields c.args.machine c.args.of c.args.words _ _ _ (search rules) c.loop-item.invariant
+returns g c = lines_end g.E.Entry.fields c.args.machine c.args.of c.args.words c.loop-item.item-iterator _ _ (search rules) c.loop-item.invariant
 
 pub returns-in-Err : goal.returns-in-Err
 returns-in-Err g c =
