@@ -1,10 +1,10 @@
-use Rattle.std.proofs.Common.{◌<◌, length, refl, sym, ap, subst, Ok, Err, ◌∙◌}
+use Rattle.std.proofs.Common.{◌<◌, length, refl, sym, ap, ◌∙◌}
 use Rattle.std.proofs.lemmas.Option.{slice_get_read}
 use Rattle.elf_loading.specs.FileCheck.{check_file}
-use Rattle.elf_loading.specs.ImageWords.{IsImageCheck}
 use Rattle.elf_loading.specs.declared.error.LoadError.TheVariants.{Machine}
-use Rattle.elfload.specs.Images.{by_image, by_machine, by_plan}
+use Rattle.elfload.specs.Images.{by_machine, by_plan}
 use Rattle.elfload.specs.Plans.{header_limit}
+use Rattle.elfload.proofs.Checks.{image_good, image_refused}
 use Rattle.elfload.proofs.Stops.{check_stops}
 use Rattle.elfload.proofs.images.check_words.Goals as goal
 use Rattle.xmas_elf.specs.Types.{ElfFile}
@@ -29,10 +29,10 @@ returns-in-Err g c =
 
 pub returns-in-Ok-check_image : goal.returns-in-Ok-check_image
 returns-in-Ok-check_image g c =
-    (_, subst (λ lent. IsImageCheck g.E.Record.SIZE g.E.Entry.fields lent.now c.args.index _ (Ok tt)) c.new.ensures c.in-Ok-check_image.ensures.exact)
+    image_good g.E.Record.SIZE g.E.Entry.fields c.args.page _ c.args.objects c.args.index _ c.new.ensures c.in-Ok-check_image.ensures.exact
 
 pub returns : goal.returns
 returns g c =
     let error = c.in-Err-check_image.error in
     check_stops g.E.Record.SIZE g.E.Entry.fields c.args.page c.args.inputs.now c.args.objects.now c.args.index error c.refusal_at-in-Err-check_image.result
-    (by_image _ error (subst (λ lent. IsImageCheck g.E.Record.SIZE g.E.Entry.fields lent.now c.args.index _ (Err error)) c.new.ensures c.in-Err-check_image.ensures.exact)) c.refusal_at-in-Err-check_image.ensures
+    (image_refused g.E.Record.SIZE g.E.Entry.fields c.args.page _ c.args.objects c.args.index _ c.new.ensures error c.in-Err-check_image.ensures.exact) c.refusal_at-in-Err-check_image.ensures

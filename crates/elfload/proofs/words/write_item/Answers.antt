@@ -9,8 +9,10 @@ returns-then-is_unchanged g c =
     let kind = c.args.item.now.relocation.reference.kind in
     let none : is_unchanged c.in-Ok.word.value ≡ true = sym c.is_unchanged.ensures ∙ c.if-is_unchanged.true in (
       subst IsOk (sym c.in-Ok.is) refl,
-      [],
-      sym (ap (result_text c.args.machine kind c.args.of) c.in-Ok.is
-          ∙ ap (λ b. if b then [] else line_text c.args.machine kind c.args.of c.in-Ok.word) none),
-      Appends-nil _,
+      (
+        [],
+        sym (ap (result_text c.args.machine kind c.args.of) c.in-Ok.is
+            ∙ ap (λ b. if b then [] else line_text c.args.machine kind c.args.of c.in-Ok.word) none),
+        Appends-nil _,
+      ),
     )

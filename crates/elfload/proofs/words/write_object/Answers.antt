@@ -1,4 +1,4 @@
-use Rattle.std.proofs.Common.{◌≡◌, ◌<◌, length, refl, sym, subst, arith, Ok, Err, ap, ◌∙◌}
+use Rattle.std.proofs.Common.{◌≡◌, ◌<◌, get_or, length, refl, sym, subst, arith, Ok, Err, ap, ◌∙◌}
 use Rattle.std.specs.Prelude.{slice_get, ⊤}
 use Rattle.std.proofs.lemmas.Option.{slice_get_read}
 use Rattle.elf_base.specs.FileHeader.{machine_number}
@@ -18,14 +18,14 @@ returns-in-Ok g c =
     let inputs = c.args.inputs.now in
     let of = c.args.of in
     let object = c.index-objects-of.result in
-    let path = c.index-inputs-of.result.path in
+    let path = (get_or inputs of c.index-inputs-of.result).path in
     let there = slice_get_read objects (length objects) of object refl c.requires.below c.index-objects-of.is in
     let below : of < length inputs = omega (arith, c.requires.below, c.requires.same) in
     object_ends g.E.Entry.fields c.args.when inputs objects c.args.objects refl of c.raw-machine.result object c.in-Ok.words path _ _ there
     (c.raw-machine.ensures ∙ ap machine_number c.machine.ensures ∙ ap file_machine c.file.ensures)
     (subst (λ lent. AreWordsOf lent of c.args.when c.in-Ok.words) c.new.ensures c.in-Ok.ensures.begun)
     (subst (λ lent. words_of (slice_get lent.now of) ≡ Ok (words_left c.in-Ok.words)) c.new.ensures c.in-Ok.ensures.exact)
-    (at_index (λ (input : Input). path ≡ input.path) inputs of c.index-inputs-of.result below c.index-inputs-of.is refl)
+    (at_index (λ (input : Input). path ≡ input.path) inputs of c.index-inputs-of.result below c.index-inputs-of.is (ap (λ (input : Input). input.path) (sym c.index-inputs-of.is)))
     c.in_ok-write.ensures.bytes _ c.write_items.result c.write_items.ensures
 
 pub returns-in-Err : goal.returns-in-Err
