@@ -1,5 +1,5 @@
 -- Why the program stops, by where it does.
-use Rattle.std.proofs.Common.{◌≡◌, ◌<◌, ℕ, List, get_or, length, take, Result, Ok, Err, refl, sym, subst, ap, ◌∙◌}
+use Rattle.std.proofs.Common.{◌≡◌, ◌<◌, ℕ, List, get_or, length, take, Result, Ok, Err, refl, sym, subst}
 use Rattle.std.specs.Prelude.{IfErr, MatchResult, OnOk, ⊤}
 use Rattle.std.proofs.lemmas.Option.{slice_get_read}
 use Rattle.elf_linking.specs.declared.error.LinkError.{LinkError}

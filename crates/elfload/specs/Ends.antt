@@ -2,7 +2,6 @@
 use Rattle.std.specs.Prelude.{◌≡◌, ℕ, true, false, List, Result, Ok, Err, ⊤}
 use Rattle.std.specs.Borrow.{Bor}
 use Rattle.elf_linking.specs.declared.object.DynamicObject.{DynamicObject}
-use Rattle.elf_loading.specs.declared.words.Binding.{Binding}
 use Rattle.elfload.specs.Files.{AreObjectsOf, IsInputRefused, is_first_narrow}
 use Rattle.elfload.specs.Images.{AreAllChecked, AreInputsChecked, IsImageRefused}
 use Rattle.elfload.specs.Plans.{IsInputLoaded, IsInputPlan, IsInputRefused as IsPlanRefused}

@@ -1,5 +1,5 @@
 -- The files that the program is given, and their objects (this project's own).
-use Rattle.std.specs.Prelude.{◌≡◌, ℕ, ◌++◌, ◌==◌, Bool, false, List, [], ◌∷◌, IfSome, IsSomeAnd, Option, None, Result, Ok, Err, slice_get, Some, take}
+use Rattle.std.specs.Prelude.{◌≡◌, ℕ, ◌==◌, Bool, false, List, [], ◌∷◌, IfSome, IsSomeAnd, None, Result, Ok, Err, slice_get, Some, take}
 use Rattle.std.specs.Borrow.{Bor}
 use Rattle.std.specs.List.{AllZip}
 use Rattle.elf_base.specs.FileHeader.{file_class, header_of}

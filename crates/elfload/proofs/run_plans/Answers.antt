@@ -1,4 +1,4 @@
-use Rattle.std.proofs.Common.{◌≡◌, ◌<◌, ◌≤◌, length, arith}
+use Rattle.std.proofs.Common.{◌≡◌, ◌<◌, length, arith}
 use Rattle.elfload.specs.Files.{AreBytesLoaded}
 use Rattle.elfload.specs.declared.files.Input.{Input}
 use Rattle.elfload.proofs.Objects.{all_below, one_more_if}

@@ -1,4 +1,4 @@
-use Rattle.std.proofs.Common.{◌<◌, length, arith, below_more}
+use Rattle.std.proofs.Common.{below_more}
 use Rattle.elfload.specs.Images.{IsChecked}
 use Rattle.elfload.proofs.images.check_images.Goals as goal
 use Rattle.program_ends.proofs.Ends.{stop_so}

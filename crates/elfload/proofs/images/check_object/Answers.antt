@@ -1,4 +1,4 @@
-use Rattle.std.proofs.Common.{◌<◌, length, refl}
+use Rattle.std.proofs.Common.{length, refl}
 use Rattle.std.proofs.lemmas.Option.{slice_get_read}
 use Rattle.elf_loading.specs.declared.error.LoadError.TheVariants.{Link}
 use Rattle.elfload.specs.Images.{by_symbols}
