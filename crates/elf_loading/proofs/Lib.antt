@@ -1,6 +1,5 @@
 pub mod Rounded
 pub mod Fits
-pub mod HeadersAt
 pub mod Lists
 pub mod Others
 pub mod LoadChecks
@@ -30,4 +29,3 @@ pub mod Marks
 pub mod ImageWord
 pub mod ImageChecks
 pub mod ImagePasses
-pub mod FileLoads

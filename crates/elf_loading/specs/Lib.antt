@@ -1,8 +1,6 @@
 pub mod Message
 pub mod Pages
 pub mod Segments
-pub mod HeaderAt
-pub mod Programs
 pub mod LoadCheck
 pub mod FileCheck
 pub mod Loads
@@ -23,4 +21,3 @@ pub mod ImageTables
 pub mod ImageWords
 pub mod Relocate
 pub mod OneWord
-pub mod FileLoads

@@ -9,7 +9,6 @@
 mod bytes;
 mod error;
 mod file_check;
-mod file_loads;
 mod formulas;
 mod image_tables;
 mod image_words;
@@ -21,7 +20,6 @@ mod mapping;
 mod mappings;
 mod pages;
 mod plan;
-mod programs;
 mod relocate;
 mod segments;
 mod span;
