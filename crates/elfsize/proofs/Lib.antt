@@ -1,6 +1,6 @@
 mod NoSections
 mod Inputs
-mod Kinds
+mod KindRuns
 mod LineLists
 mod Runs
 mod Sizes

@@ -95,7 +95,7 @@ pub fn input_sums(alloc: Global, input: &[u8]) -> Result<Sums, AllocError>
 }
 
 // The sums of a file.
-#[tactic(auto, using(crate::proofs::Kinds::kinds_small, crate::proofs::Kinds::kinds_bytes))]
+#[tactic(auto, using(crate::proofs::KindRuns::kinds_small, crate::proofs::KindRuns::kinds_bytes))]
 fn file_sums(alloc: Global, file: &ElfFile<'_>) -> Result<Sums, AllocError>
     ensures { IfOk result (λ sums. AreSums file.now sums) }
 {
@@ -108,7 +108,7 @@ fn file_sums(alloc: Global, file: &ElfFile<'_>) -> Result<Sums, AllocError>
 }
 
 // The runs with the kinds of their parts.
-#[tactic(auto, using(crate::proofs::Kinds::one_more_kind))]
+#[tactic(auto, using(crate::proofs::KindRuns::one_more_kind))]
 fn kind_runs(alloc: Global, runs: &[Run]) -> Result<Vec<Run>, AllocError>
     ensures { IfOk result (λ kinds. kinds.items ≡ map kind_run runs.now) }
 {
