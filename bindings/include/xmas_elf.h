@@ -252,6 +252,36 @@ enum xmas_elf_status {
     XMAS_ELF_LOAD_TLS = 317,
     /* Image is not of the size of the span. */
     XMAS_ELF_LOAD_IMAGE_SIZE = 318,
+    /* Dynamic segment is in no readable load segment. */
+    XMAS_ELF_LOAD_DYNAMIC = 319,
+    /* No string table or no symbols. */
+    XMAS_ELF_LOAD_NO_ENTRY = 320,
+    /* Size of relocations is not that of the class. */
+    XMAS_ELF_LOAD_RELOCATION_SIZE = 321,
+    /* Table of relocations is not a whole number of them. */
+    XMAS_ELF_LOAD_NOT_MULTIPLE = 322,
+    /* Table of the dynamic segment is in no readable load segment. */
+    XMAS_ELF_LOAD_UNREADABLE = 323,
+    /* Kind of relocations of the procedure linkage table is neither Rel nor Rela. */
+    XMAS_ELF_LOAD_SLOT_KIND = 324,
+    /* Machine is not supported. */
+    XMAS_ELF_LOAD_MACHINE = 325,
+    /* Marks have fewer bits than the load segments have bytes. */
+    XMAS_ELF_LOAD_FEW_MARKS = 326,
+    /* Type of a relocation is not supported. */
+    XMAS_ELF_LOAD_WORD_TYPE = 327,
+    /* Word is in no load segment. */
+    XMAS_ELF_LOAD_WORD_ADDRESS = 328,
+    /* Word is in a load segment that is not writable. */
+    XMAS_ELF_LOAD_READ_ONLY = 329,
+    /* Words overlap. */
+    XMAS_ELF_LOAD_WORDS_OVERLAP = 330,
+    /* Word is in a table of the dynamic segment. */
+    XMAS_ELF_LOAD_WORD_IN_TABLE = 331,
+    /* Symbol is in no object. */
+    XMAS_ELF_LOAD_UNRESOLVED = 332,
+    /* Bytes to copy are not in the image of their object. */
+    XMAS_ELF_LOAD_COPY_SOURCE = 333,
     /* Table has 2^32 symbols or more. */
     XMAS_ELF_INDEX_MANY_SYMBOLS = 401,
     /* Too few words for the index. */
@@ -259,7 +289,7 @@ enum xmas_elf_status {
 };
 
 /* How many bytes the longest text of a status has. */
-#define XMAS_ELF_LONGEST_MESSAGE 64
+#define XMAS_ELF_LONGEST_MESSAGE 74
 /* End of the statuses. */
 
 /* The structs and functions, written by tools/exports/declarations.py. */

@@ -4,13 +4,12 @@
     tools/compare/addresses.py [--libraries N] [--addresses N] [--each N] [FILE..]
 
 With dladdr: the first N shared libraries of /usr/lib/x86_64-linux-gnu that can be loaded (--libraries, 60), at up to N
-addresses of each (--addresses): before, at, in, at the end of and after dynamic symbols, and anywhere in the segments. Each
-library is loaded by a process that calls dladdr for each address, by ctypes; for the first FEW addresses of each a C program
-calls it too. elfaddr runs with --dladdr. Addresses at which dladdr names
-another object, or none, are counted as outside.
+addresses of each (--addresses): before, at, in, at the end of and after dynamic symbols, and anywhere in the segments. dladdr
+is called by ctypes, and for the first FEW addresses of each by C too. Addresses at which it names another object, or none,
+are counted as outside. elfaddr runs with --dladdr.
 
-With eu-addr2line, gdb, llvm-symbolizer, nm and addr2line: the files FILE, else 15 of the system and of this repository, at N
-addresses of each (--each). elfaddr runs without an option. The answers are counted by cause:
+With eu-addr2line, gdb, llvm-symbolizer, nm and addr2line, as far as they are here: the files FILE, else 15 of the system and of
+this repository, at N addresses of each (--each). elfaddr runs without an option. The answers are counted by cause:
 
     same           the same name
     alias          a symbol with the same range that elfaddr does not name
@@ -19,8 +18,6 @@ addresses of each (--each). elfaddr runs without an option. The answers are coun
     missed         no name, where a symbol covers the address
     further in     a symbol that is further in than that of elfaddr: a difference
     found          a symbol that covers the address, where elfaddr names none: a difference
-
-A tool that isn't here is left out. The last line has the counts, and the exit status is 1 if there is a difference.
 """
 import bisect
 import collections
@@ -32,9 +29,9 @@ import shutil
 import subprocess
 import sys
 import tempfile
-from typing import Callable, Dict, List, Tuple
+from typing import Callable
 
-from comparing import INDIRECT, LOAD, LOCAL, ROOT, Symbol, Tally, dynamic_symbols, llvm, parser_of, parts, raw, read_elf, symbols_of
+from comparing import INDIRECT, LOAD, LOCAL, ROOT, Symbol, Tally, dynamic_symbols, llvm, parser_of, parts, raw, read_elf, symbol_of
 from loading import named
 
 # The number of addresses of a library for which the C program calls dladdr.
@@ -63,6 +60,8 @@ int main(int count, char **words) {
 }
 """
 
+# Control characters as elfaddr writes them.
+CONTROLS = {it: f"^{chr(it + 64)}" for it in (*range(32), 127)}
 # Types of symbols that name addresses: none, an object, a function, an indirect function. A section index from RESERVED on is none.
 TYPES, RESERVED = (0, 1, 2, INDIRECT), 0xFF00
 
@@ -78,13 +77,14 @@ class Image:
         loads = (it for it in parts(said, "ProgramHeaders", "ProgramHeader") if raw(it["Type"]) == LOAD)
         self.loads = [(it["VirtualAddress"], it["VirtualAddress"] + it["MemSize"]) for it in loads]
 
-    def symbols(self, is_dynamic: bool) -> List[Symbol]:
+    def symbols(self, is_dynamic: bool) -> list[Symbol]:
         """The symbols with a name, in a section, of the types that name addresses."""
-        found = dynamic_symbols(self.path) if is_dynamic else symbols_of(self.path)
+        own = () if is_dynamic else parts(llvm(self.path, "--symbols"), "Symbols", "Symbol")
+        found = dynamic_symbols(self.path) if is_dynamic else [symbol_of(it, it["Name"]["Value"]) for it in own]
         is_label = lambda it: it.kind == 0 and it.binding == LOCAL and it.name.startswith(".L")
         return [it for it in found if it.name and it.kind in TYPES and 0 < it.section < RESERVED and not is_label(it)]
 
-    def addresses(self, symbols: List[Symbol], count: int, seed: str) -> List[int]:
+    def addresses(self, symbols: list[Symbol], count: int, seed: str) -> list[int]:
         """Addresses at and beside symbols, and in segments."""
         some, found = random.Random(seed), set()
         for it in symbols:
@@ -99,28 +99,14 @@ class Image:
         return listed
 
 
-def answers(command: List[str], addresses: List[int], form: str = "{:x}\n", **more) -> List[str]:
+def answers(command: list[str], addresses: list[int], form: str = "{:x}\n", **more) -> list[str]:
     """The lines that a program writes for addresses on its standard input."""
     text = "".join(form.format(it) for it in addresses).encode()
     done = subprocess.run(command, input=text, capture_output=True, check=False, env={"PATH": os.environ["PATH"], "LC_ALL": "C"}, **more)
     return done.stdout.decode("utf-8", "surrogateescape").split("\n")[:-1]
 
 
-def escaped(name: str) -> str:
-    """A name with its control characters as elfaddr writes them."""
-    return "".join("^" + chr(ord(it) + 64) if ord(it) < 32 or ord(it) == 127 else it for it in name)
-
-
-def compare_calls(program: str, path: str, addresses: List[int], said: List[str], tally: Tally) -> None:
-    """What dladdr says by ctypes beside what it says by the C program."""
-    by_c = answers(["sh", "-c", 'exec 3>&1 >/dev/null 2>&1; exec "$@"', "sh", program, path], addresses)
-    tally["addresses by C"] += len(by_c)
-    if by_c != said:
-        tally.fault(f"{path}: by ctypes dladdr says something else than by C")
-
-
 def compare_dladdr(elfaddr: str, program: str, path: str, count: int, tally: Tally) -> None:
-    """One library beside dladdr."""
     try:
         image = Image(path)
     except ValueError:
@@ -131,7 +117,10 @@ def compare_dladdr(elfaddr: str, program: str, path: str, count: int, tally: Tal
         tally["libraries not loaded"] += 1
         return
     tally["libraries"] += 1
-    compare_calls(program, path, addresses[:FEW], said[:FEW], tally)
+    by_c = answers(["sh", "-c", 'exec 3>&1 >/dev/null 2>&1; exec "$@"', "sh", program, path], addresses[:FEW])
+    tally["addresses by C"] += len(by_c)
+    if by_c != said[:FEW]:
+        tally.fault(f"{path}: by ctypes dladdr says something else than by C")
     found = answers([elfaddr, "--dladdr", path, "-"], addresses)
     if len(found) != len(addresses):
         tally.fault(f"{path}: elfaddr writes {len(found)} lines for {len(addresses)} addresses")
@@ -142,11 +131,11 @@ def compare_dladdr(elfaddr: str, program: str, path: str, count: int, tally: Tal
             continue
         tally["addresses"] += 1
         tally["named"] += other != "none"
-        if not (one == "?" or one.rpartition("+")[0] in image.sections if other == "none" else one == escaped(other)):
+        if not (one == "?" or one.rpartition("+")[0] in image.sections if other == "none" else one == other.translate(CONTROLS)):
             tally.fault(f"{path}: {address:x}: elfaddr {one}, dladdr {other}")
 
 
-def by_gdb(path: str, addresses: List[int]) -> List[str]:
+def by_gdb(path: str, addresses: list[int]) -> list[str]:
     with tempfile.NamedTemporaryFile("w", suffix=".gdb") as script:
         script.writelines(f"info symbol 0x{it:x}\n" for it in addresses)
         script.flush()
@@ -157,17 +146,17 @@ def by_gdb(path: str, addresses: List[int]) -> List[str]:
     return ["" if it.startswith("No symbol") else re.split(r" \+ \d+ in section | in section ", it)[0] for it in kept]
 
 
-def by_lines(*command: str) -> Callable[[str, List[int]], List[str]]:
+def by_lines(*command: str) -> Callable[[str, list[int]], list[str]]:
     """A tool that writes two lines for each address: a name with an offset where there is one, and the source."""
 
-    def ask(path: str, addresses: List[int]) -> List[str]:
+    def ask(path: str, addresses: list[int]) -> list[str]:
         names = [it for it in answers([*command, path], addresses, "0x{:x}\n") if it][::2]
         return ["" if it == "??" or it[0] == "(" else re.sub(r"\+0x[0-9a-f]+$", "", it) for it in names]
 
     return ask
 
 
-def by_nm(path: str, addresses: List[int]) -> List[str]:
+def by_nm(path: str, addresses: list[int]) -> list[str]:
     """The last symbol of `nm -n` up to the address."""
     said = subprocess.run(["nm", "-n", path], capture_output=True, check=False, env={"PATH": os.environ["PATH"], "LC_ALL": "C"}).stdout
     if not said:
@@ -185,53 +174,46 @@ TOOLS = {
     "nm": by_nm, "addr2line": by_lines("addr2line", "-f", "-e")}
 
 
-class Names:
-    """The symbols of a file by name."""
-
-    def __init__(self, symbols: List[Symbol]) -> None:
-        self.by_name: Dict[str, List[Symbol]] = {}
-        for it in symbols:
-            self.by_name.setdefault(it.name, []).append(it)
-
-    def covering(self, name: str, address: int) -> List[Symbol]:
-        return [it for it in self.by_name.get(name, []) if it.value <= address < it.value + max(it.size, 1)]
-
-    def cause(self, own: str, other: str, address: int) -> str:
-        """What another tool's name is beside that of elfaddr, which is empty where no symbol covers the address."""
-        ours, theirs = self.covering(own, address) if own else [], self.covering(other, address) if other else []
-        if own and not ours:
-            return "elfaddr uncovered"
-        if own == other:
-            return "same"
-        if not other:
-            return "missed"
-        if not theirs:
-            return "uncovered"
-        if not ours:
-            return "found"
-        best, there = max(ours, key=innermost), max(theirs, key=innermost)
-        if (best.value, best.size) == (there.value, there.size):
-            return "alias"
-        return "outer" if innermost(there) < innermost(best) else "further in"
+def covering(symbols: list[Symbol], name: str, address: int) -> Symbol | None:
+    """The innermost symbol of a name that covers an address."""
+    found = [it for it in symbols if it.name == name and it.value <= address < it.value + max(it.size, 1)]
+    return max(found, key=innermost, default=None)
 
 
-def innermost(it: Symbol) -> Tuple[bool, int, int]:
+def cause_of(symbols: list[Symbol], own: str, other: str, address: int) -> str:
+    """What another tool's name is beside that of elfaddr, which is empty where no symbol covers the address."""
+    ours, theirs = covering(symbols, own, address), covering(symbols, other, address)
+    if own and not ours:
+        return "elfaddr uncovered"
+    if own == other:
+        return "same"
+    if not theirs:
+        return "uncovered" if other else "missed"
+    if not ours:
+        return "found"
+    if (ours.value, ours.size) == (theirs.value, theirs.size):
+        return "alias"
+    return "outer" if innermost(theirs) < innermost(ours) else "further in"
+
+
+def innermost(it: Symbol) -> tuple[bool, int, int]:
     return it.size > 0, it.value, -it.size
 
 
 WRONG = ("found", "further in", "elfaddr uncovered")
 
 
-def compare_others(elfaddr: str, path: str, count: int, tables: Dict[str, collections.Counter], tally: Tally) -> None:
-    """One file beside the other tools."""
+def compare_others(elfaddr: str, path: str, count: int, tables: dict[str, collections.Counter], tally: Tally) -> None:
     image = Image(path)
     symbols = image.symbols(False) or image.symbols(True)
     # Addresses in code and data that the file has: tools don't agree on what isn't there.
     addresses = sorted(set(image.addresses(symbols, count, path)))
-    names, known, found = Names(symbols), {it.name for it in symbols}, []
+    by_name, found = collections.defaultdict(list), []
+    for it in symbols:
+        by_name[it.name].append(it)
     for line in answers([elfaddr, path, "-"], addresses):
         name = line.rpartition("+")[0]
-        found.append(name if name in known else "")
+        found.append(name if name in by_name else "")
     tally["files beside tools"] += 1
     tally["addresses beside tools"] += len(addresses)
     for tool, ask in TOOLS.items():
@@ -244,7 +226,8 @@ def compare_others(elfaddr: str, path: str, count: int, tables: Dict[str, collec
             continue
         for address, own, other in zip(addresses, found, said):
             # gdb and eu-addr2line print the version of a dynamic symbol too.
-            cause = names.cause(own, other if other in known else other.partition("@")[0], address)
+            other = other if other in by_name else other.partition("@")[0]
+            cause = cause_of(by_name.get(own, []) + by_name.get(other, []), own, other, address)
             tables[tool][cause] += 1
             if cause in WRONG:
                 tally.fault(f"{path}: {address:x}: {cause}: elfaddr {own or 'none'}, {tool} {other or 'none'}")

@@ -5,14 +5,13 @@
     tools/compare/all.py --sample     each over a few files, some seconds each; writes nothing
     tools/compare/all.py .. NAME..    these alone, as `readelf dlsym`
 
-The programs and the archive are those that `rt run` and `rt lib` leave in crates/*/out. XMAS_ELF_CRATE: a folder with the
-files of the Rust crate, where Cargo has no registry (tools/compare/rust.py --crate). A comparison that needs what isn't
-here is skipped, and the line says what is missing. Each line of docs/TESTS.md between `<!-- oracles -->` and
-`<!-- /oracles -->` has the counts of one comparison, its commit and the machine; a comparison that was skipped or failed
-keeps its line. The exit status is 1 if one found a difference.
+The programs and the archive are those that `rt run` and `rt lib` leave in crates/*/out. XMAS_ELF_CRATE: a folder with the files of
+the Rust crate, where Cargo has no registry. A comparison that needs what isn't here is skipped, and the line says what is
+missing. Each line of docs/TESTS.md between `<!-- oracles -->` and `<!-- /oracles -->` has the counts of one comparison, its commit
+and the machine; one that was skipped or failed keeps its line. The exit status is 1 if one found a difference.
 """
 import argparse
-import dataclasses
+import collections
 import os
 import pathlib
 import platform
@@ -38,15 +37,9 @@ def built(name: str) -> str:
     return f"crates/{name}/out/{name}"
 
 
-@dataclasses.dataclass
-class Oracle:
-    """A comparison: what its script of that name runs on whole and as a sample, and the programs and files that it needs."""
-
-    whole: list
-    sample: list
-    needs: tuple
-    # What builds or fetches something that it needs, and fails where that can't be had.
-    first: tuple = ()
+class Oracle(collections.namedtuple("Oracle", "whole sample needs first", defaults=[()])):
+    """A comparison: what its script of that name runs on whole and as a sample, the programs and files that it needs, and what
+    builds or fetches something that it needs, and fails where that can't be had."""
 
     def missing(self) -> str:
         """What it needs and isn't here, or nothing."""
@@ -80,23 +73,6 @@ ORACLES = {
 }
 
 
-def machine() -> str:
-    """The system and the processor's family, as pages name them."""
-    names = platform.freedesktop_os_release()
-    return f"{names['NAME'].split()[0]} {names.get('VERSION_ID', '')} ({platform.machine().replace('_', '-')})"
-
-
-def write(counts: dict):
-    """Puts the lines of comparisons into the page in place of those that it has of them."""
-    text = PAGE.read_text(encoding="utf-8")
-    commit = subprocess.run(["git", "rev-parse", "--short", "HEAD"], cwd=ROOT, capture_output=True, text=True, check=True).stdout.strip()
-    lines = dict(re.findall(r"^- `(\w+)`: (.*)$", ROOM.search(text)[0], re.M))
-    for name, (said, words) in counts.items():
-        lines[name] = f"{said}. Measured at {commit} by `{' '.join(words)}` on {machine()}."
-    held = "".join(f"- `{name}`: {lines[name]}\n" for name in ORACLES if name in lines)
-    PAGE.write_text(ROOM.sub(lambda _: held, text, count=1), encoding="utf-8")
-
-
 def main() -> int:
     parser = argparse.ArgumentParser(description=__doc__, formatter_class=argparse.RawDescriptionHelpFormatter)
     parser.add_argument("--sample", action="store_true")
@@ -121,7 +97,14 @@ def main() -> int:
         elif not given.sample:
             counts[name] = (said, command)
     if counts:
-        write(counts)
+        # The lines of comparisons go into the page in place of those that it has of them, with the system and the processor's family.
+        text, system = PAGE.read_text(encoding="utf-8"), platform.freedesktop_os_release()
+        machine = f"{system['NAME'].split()[0]} {system.get('VERSION_ID', '')} ({platform.machine().replace('_', '-')})"
+        commit = subprocess.run(["git", "rev-parse", "--short", "HEAD"], cwd=ROOT, capture_output=True, text=True, check=True).stdout.strip()
+        lines = dict(re.findall(r"^- `(\w+)`: (.*)$", ROOM.search(text)[0], re.M))
+        lines |= {name: f"{said}. Measured at {commit} by `{' '.join(words)}` on {machine}." for name, (said, words) in counts.items()}
+        held = "".join(f"- `{name}`: {lines[name]}\n" for name in ORACLES if name in lines)
+        PAGE.write_text(ROOM.sub(lambda _: held, text, count=1), encoding="utf-8")
     print(f"{len(failed)} comparisons failed" + (f": {', '.join(failed)}" if failed else ""))
     return 1 if failed else 0
 

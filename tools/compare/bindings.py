@@ -3,19 +3,17 @@
 
     tools/compare/bindings.py [--elfbind PATH] [--damaged N] [--seed N] [--times N] FILE..
 
-The programs are the dynamically linked ones among the files, and in the folders among them. The files of each are the
-program and its libraries in the order in which the linker lists them (as ldd does), without linux-vdso. elfbind is run on
-them, and the linker binds all references at once and prints each (BINDINGS), so that it runs nothing. The two are compared
-as sets of a file, the file it is bound to, the name and the version. Left out on both sides are the linker's own look-ups
-(`is_own`). Status 1 of elfbind and an undefined symbol that the linker reports must come together.
+The programs are the dynamically linked ones among the files, and in the folders among them. elfbind is run on a program and its
+libraries in the order in which the linker lists them, without linux-vdso; the linker binds all references at once and prints
+each (BINDINGS), and runs nothing. The two are compared as sets of a file, the file it is bound to, the name and the version,
+without the linker's own look-ups. Status 1 of elfbind and an undefined symbol for the linker must come together.
 
 Another binding is a line with its cause: `unique`, since glibc merges symbols of type STB_GNU_UNIQUE by name over the
 process; `ifunc`, an indirect function; or `unexplained`, which is a difference.
 
 --damaged N runs elfbind on N copies of the files of the program with fewest bindings, with one damaged, at random
 from the seed: it must end within two seconds, with status 0 or 1. --times N prints for the N programs with most
-bindings the least time of five runs of elfbind, and of the linker, with and without binding (it prints only the
-libraries then).
+bindings the least time of five runs of elfbind, and of the linker, with and without binding.
 """
 import functools
 import os
@@ -25,9 +23,8 @@ import sys
 import tempfile
 import time
 import timeit
-from collections import Counter, defaultdict
+from collections import Counter, defaultdict, namedtuple
 from pathlib import Path
-from typing import Dict, List, NamedTuple, Optional, Set, Tuple
 
 import damage
 from comparing import INDIRECT, UNIQUE, Finished, Tally, dynamic_symbols, parser_of, read_elf, run
@@ -41,26 +38,24 @@ BINDINGS = {**TRACE, "LD_DEBUG": "bindings", "LD_BIND_NOW": "1", "LD_WARN": "1"}
 # The longest time of a run on a damaged file in seconds.
 LONGEST = 2.0
 
-Key = Tuple[str, str, str]
+Key = tuple[str, str, str]
 real = functools.lru_cache(maxsize=None)(os.path.realpath)
 
 
-class Program(NamedTuple):
-    """A program, the linker that it names, and its files in the order of the scope."""
-
-    path: str
-    linker: str
-    files: List[str]
+# A program, the linker that it names, and its files in the order of the scope.
+Program = namedtuple("Program", "path linker files")
+# The files to which each name of a file with its version is bound, how many references are unresolved, and whether a symbol is missing.
+Bindings = namedtuple("Bindings", "bound unresolved missing")
 
 
-def linker_of(path: str) -> Optional[str]:
+def linker_of(path: str) -> str | None:
     """The linker that a dynamically linked program names, if the file is one."""
     said = run(["readelf", "-lW", "--", path]).output if read_elf(path) else ""
     found = re.search(r"\[Requesting program interpreter: (.*)\]$", said, re.M)
     return found[1] if found and re.search(r"^  DYNAMIC ", said, re.M) else None
 
 
-def read_program(path: str) -> Optional[Program]:
+def read_program(path: str) -> Program | None:
     """A program with its files, if it is dynamically linked and the linker finds each library."""
     linker = linker_of(path)
     if not linker or not os.path.exists(linker):
@@ -71,53 +66,33 @@ def read_program(path: str) -> Optional[Program]:
     return Program(path, linker, [path, *LISTED.findall(listed.output)])
 
 
-def programs_in(paths: List[str]) -> List[str]:
+def programs_in(paths: list[str]) -> list[str]:
     """The dynamically linked programs among these and in the folders among these, each once."""
     files = [[path] if not os.path.isdir(path) else sorted({real(it.path) for it in os.scandir(path) if it.is_file()}) for path in paths]
     return [it for it in dict.fromkeys(real(it) for some in files for it in some) if linker_of(it)]
 
 
-def is_own(program: Program, file: str, name: str) -> bool:
-    """Whether a look-up is the linker's own."""
-    is_of_linker = "linux-vdso" in file or "linux-gate" in file or real(file) == real(program.linker)
-    return is_of_linker or name == "__libc_early_init" or (file == program.path and name in OWN_NAMES)
-
-
-class Bindings(NamedTuple):
-    """The files to which each name of a file with its version is bound, and whether a symbol is missing."""
-
-    bound: Dict[Key, Set[str]]
-    unresolved: int
-    missing: bool
+def bound_in(program: Program, rows) -> dict[Key, set[str]]:
+    """The files to which names are bound, by rows of a file, the one that it is bound to, a name and its version; without the
+    linker's own look-ups."""
+    bound: dict[Key, set[str]] = defaultdict(set)
+    for file, to, name, version in rows:
+        is_of_linker = "linux-vdso" in file or "linux-gate" in file or real(file) == real(program.linker)
+        is_own = is_of_linker or name == "__libc_early_init" or (file == program.path and name in OWN_NAMES)
+        if not is_own:
+            bound[real(file), name, version].add(real(to))
+    return bound
 
 
 def read_elfbind(program: Program, said: Finished) -> Bindings:
-    """Takes what elfbind prints apart."""
-    bound: Dict[Key, Set[str]] = defaultdict(set)
     lines = LINE.findall(said.output)
-    for file, reference, to in lines:
-        name, _, version = reference.partition("@")
-        if to and not is_own(program, file, name):
-            bound[real(file), name, version].add(real(to))
+    bound = bound_in(program, ((file, to, *reference.partition("@")[::2]) for file, reference, to in lines if to))
     return Bindings(bound, sum(not to for _, _, to in lines), said.status != 0)
 
 
 def read_linker(program: Program, said: Finished) -> Bindings:
-    """Takes what the linker prints apart."""
-    bound: Dict[Key, Set[str]] = defaultdict(set)
     text = said.errors + said.output
-    for file, to, name, version in BOUND.findall(text):
-        if not is_own(program, file, name):
-            bound[real(file), name, version].add(real(to))
-    return Bindings(bound, 0, "undefined symbol" in text or "symbol lookup error" in text)
-
-
-def cause_of(name: str, files: Set[str]) -> str:
-    """Why a name is bound to other files."""
-    found = [it for file in files if os.path.isfile(file) for it in dynamic_symbols(file) if it.name == name]
-    if any(it.binding == UNIQUE for it in found):
-        return "unique"
-    return "ifunc" if any(it.kind == INDIRECT for it in found) else "unexplained"
+    return Bindings(bound_in(program, BOUND.findall(text)), 0, "undefined symbol" in text or "symbol lookup error" in text)
 
 
 def compare(program: Program, elfbind: str, tally: Tally) -> int:
@@ -133,7 +108,8 @@ def compare(program: Program, elfbind: str, tally: Tally) -> int:
     for key in sorted(own.bound.keys() | reads.bound.keys()):
         says, does = own.bound.get(key, set()), reads.bound.get(key, set())
         if says != does:
-            cause = cause_of(key[1], says | does)
+            held = [it for file in says | does if os.path.isfile(file) for it in dynamic_symbols(file) if it.name == key[1]]
+            cause = "unique" if any(it.binding == UNIQUE for it in held) else "ifunc" if any(it.kind == INDIRECT for it in held) else "unexplained"
             line = f"{program.path}: {' '.join(key)}: elfbind says {sorted(says)}, the linker {sorted(does)}: {cause}"
             if cause == "unexplained":
                 tally.fault(line)
@@ -162,7 +138,7 @@ def try_damaged(program: Program, elfbind: str, copies: int, seed: int, tally: T
     print(f"{copies} damaged copies: {dict(statuses)}, {longest:.2f} s at most")
 
 
-def print_times(programs: List[Tuple[int, Program]], elfbind: str) -> None:
+def print_times(programs: list[tuple[int, Program]], elfbind: str) -> None:
     """Prints the least time of five runs of elfbind on some programs, beside that in which the linker binds them."""
     least = lambda command, **variables: f"{1000 * min(timeit.repeat(lambda: run(command, **variables), number=1)):.1f} ms"
     for count, program in programs:

@@ -9,7 +9,8 @@ import pathlib
 import re
 import subprocess
 import sys
-from typing import Callable, Iterator, List, NamedTuple, Optional, Tuple
+from collections import namedtuple
+from typing import Callable, Iterator
 
 ROOT = pathlib.Path(__file__).resolve().parents[2]
 MAGIC = b"\x7fELF"
@@ -30,12 +31,8 @@ LOCAL, UNIQUE = 0, 10
 LOAD = 1
 
 
-class Finished(NamedTuple):
-    """What a program that ran to its end has left."""
-
-    status: int
-    output: str
-    errors: str
+# What a program that ran to its end has left.
+Finished = namedtuple("Finished", "status output errors")
 
 
 class Tally(collections.Counter):
@@ -75,7 +72,7 @@ class Tally(collections.Counter):
 ended = Tally.ended
 
 
-def run(command: List[str], seconds=600, **variables: str) -> Finished:
+def run(command: list[str], seconds=600, **variables: str) -> Finished:
     """Runs a command in the C locale, without what it would hand to a dynamic linker; ends the script where it can't be run."""
     clean = {name: held for name, held in os.environ.items() if not name.startswith("LD_")}
     try:
@@ -128,31 +125,16 @@ def parts(said: dict, name: str, inner: str) -> list:
     return [it[inner] for it in said.get(name, [])]
 
 
-class Symbol(NamedTuple):
-    """A symbol: its name and version, whether the version is a default or needed (and so not hidden), and its fields."""
-
-    name: str
-    version: str
-    is_shown: bool
-    value: int
-    size: int
-    kind: int
-    binding: int
-    section: int
+# A symbol: its name and version, whether the version is a default or needed (and so not hidden), and its fields as numbers.
+Symbol = namedtuple("Symbol", "name version is_shown value size kind binding section")
 
 
 def symbol_of(said: dict, name: str, version: str = "", is_shown: bool = True) -> Symbol:
-    """A symbol that llvm-readelf lists, by its name and version."""
     return Symbol(name, version, is_shown, said["Value"], said["Size"], *(raw(said[field]) for field in ("Type", "Binding", "Section")))
 
 
-def symbols_of(path: str) -> List[Symbol]:
-    """The symbols of .symtab that llvm-readelf lists."""
-    return [symbol_of(it, it["Name"]["Value"]) for it in parts(llvm(path, "--symbols"), "Symbols", "Symbol")]
-
-
 @functools.lru_cache(maxsize=8)
-def dynamic_symbols(path: str) -> Tuple[Symbol, ...]:
+def dynamic_symbols(path: str) -> tuple[Symbol, ...]:
     """The dynamic symbols that llvm-readelf lists."""
     said = llvm(path, "--dyn-syms", "-V")
     needs = {it["Index"] % 0x8000 for need in parts(said, "VersionRequirements", "Dependency") for it in parts(need, "Entries", "Entry")}
@@ -165,62 +147,46 @@ def dynamic_symbols(path: str) -> Tuple[Symbol, ...]:
     return tuple(found)
 
 
-def texts_of(path: str, *tags: str) -> List[str]:
+def texts_of(path: str, *tags: str) -> list[str]:
     """The texts of the dynamic entries with these tags that GNU's readelf lists, as those of NEEDED."""
     return re.findall(rf"\((?:{'|'.join(tags)})\) +[^\[]*\[(.*)\]$", run(["readelf", "-dW", "--", path]).output, re.M)
 
 
-def build_ids(path: str) -> List[str]:
+def build_ids(path: str) -> list[str]:
     """The build id that llvm-readelf shows, in a list, if there is one."""
     return re.findall(r"'Build ID': '([0-9a-f]+)'", str(llvm(path, "-n").get("Notes")))[:1]
 
 
-class Relocation(NamedTuple):
-    """A relocation: how many digits its offset has, the offset, its type and symbol as one number, the name of its type, and its
-    addend, if the table has addends and readelf shows this one."""
-
-    digits: int
-    offset: int
-    info: int
-    kind: str
-    addend: Optional[int]
+# A relocation: how many digits its offset has, the offset, its type and symbol as one number, the name of its type, its addend,
+# if the table has addends and readelf shows this one, and the text of that.
+Relocation = namedtuple("Relocation", "digits offset info kind addend shown")
+# A table of relocations: the name of its section, or readelf's for one of the dynamic segment, whether it has addends, its
+# relocations, and the addresses of packed ones.
+RelocationTable = namedtuple("RelocationTable", "section has_addends rows packed")
 
 
-class RelocationTable(NamedTuple):
-    """A table of relocations: the name of its section, whether it has addends, its relocations, and the addresses of packed ones."""
-
-    section: str
-    has_addends: bool
-    rows: List[Relocation]
-    packed: List[int]
-
-
-def relocation_of(row: "re.Match", has_addends: bool) -> Relocation:
-    """The relocation of a line of readelf."""
-    digits, addend = len(row[1]), None
-    # An addend stands last, after a sign where there is a symbol, and else as a number of the width of an address.
-    if has_addends and (shown := re.search(r"(?:([+-]) |\s)(-?[0-9a-f]+)$", row[4])):
-        addend = int((shown[1] or "") + shown[2], 16)
-        addend -= 16**digits if not shown[1] and addend >= 16**digits // 2 else 0
-    return Relocation(digits, int(row[1], 16), int(row[2], 16), row[3], addend)
-
-
-def relocation_tables(path: str, *options: str) -> List[RelocationTable]:
+def relocation_tables(path: str, *options: str) -> list[RelocationTable]:
     """The tables that GNU's readelf lists, of sections or (-D) of the dynamic segment: llvm-readelf writes none in JSON."""
-    found: List[RelocationTable] = []
+    found: list[RelocationTable] = []
     for line in run(["readelf", "-rW", *options, "--", path]).output.splitlines():
-        if start := re.match(r"Relocation section '(.*)' at |'\w+' relocation section at ", line):
-            found.append(RelocationTable(start[1] or "", False, [], []))
+        if start := re.match(r"Relocation section '(.*)' at |'(\w+)' relocation section at ", line):
+            found.append(RelocationTable(start[1] or start[2], False, [], []))
         elif re.match(" +Offset ", line):
             found[-1] = found[-1]._replace(has_addends=line.endswith("Addend"))
         elif re.fullmatch("[0-9a-f]{16}|[0-9a-f]{8}", line):
             found[-1].packed.append(int(line, 16))
         elif row := re.match(r"([0-9a-f]{8,16}) +([0-9a-f]{8,16}) (\S+)(.*)$", line):
-            found[-1].rows.append(relocation_of(row, found[-1].has_addends))
+            digits, addend, text = len(row[1]), None, ""
+            # An addend stands last, after a sign where there is a symbol, and else as a number of the width of an address.
+            if found[-1].has_addends and (shown := re.search(r"(?:([+-]) |\s)(-?[0-9a-f]+)$", row[4])):
+                addend = int((shown[1] or "") + shown[2], 16)
+                text = ("-" if shown[1] == "-" and addend else "") + shown[2]
+                addend -= 16**digits if not shown[1] and addend >= 16**digits // 2 else 0
+            found[-1].rows.append(Relocation(digits, int(row[1], 16), int(row[2], 16), row[3], addend, text))
     return found
 
 
-def files_of(paths: List[str]) -> Iterator[str]:
+def files_of(paths: list[str]) -> Iterator[str]:
     """The files, and those in the folders, but for links."""
     for path in paths:
         if not os.path.isdir(path):
@@ -231,7 +197,22 @@ def files_of(paths: List[str]) -> Iterator[str]:
             yield from (it for it in inside if os.path.isfile(it) and not os.path.islink(it))
 
 
-def parser_of(doc: Optional[str], *programs: str, files: str = "", **numbers: int) -> argparse.ArgumentParser:
+def spread(count: int, largest: int) -> list[pathlib.Path]:
+    """So many files of class 64 that are spread over those of /usr/bin and of the folder of libraries, below a size."""
+    files = (it for folder in ("/usr/bin", "/usr/lib/x86_64-linux-gnu") for it in sorted(pathlib.Path(folder).iterdir()))
+    found = [it for it in files if it.is_file() and not it.is_symlink() and it.stat().st_size < largest and read_elf(it)[4:5] == b"\2"]
+    return found[:: max(1, len(found) // count)][:count]
+
+
+def stripped(content: bytes) -> bytes:
+    """The same file without section headers: e_shoff, e_shnum and e_shstrndx are 0."""
+    copy = bytearray(content)
+    for place, size in [(32, 4), (48, 4)] if copy[4] == 1 else [(40, 8), (60, 4)]:
+        copy[place : place + size] = bytes(size)
+    return bytes(copy)
+
+
+def parser_of(doc: str | None, *programs: str, files: str = "", **numbers: int) -> argparse.ArgumentParser:
     """A reader of arguments, with an option for the path of each of these programs and for each of these numbers, and with files
     where their number is given, as `*`."""
     # Names that aren't UTF-8 go out as they came in.
@@ -246,7 +227,7 @@ def parser_of(doc: Optional[str], *programs: str, files: str = "", **numbers: in
     return parser
 
 
-def compare_all(doc: Optional[str], tally: Tally, compare: Callable[..., None], *programs: str) -> int:
+def compare_all(doc: str | None, tally: Tally, compare: Callable[..., None], *programs: str) -> int:
     """Compares each file that is given by its path, by that of the program, if one is named, and the tally."""
     given = parser_of((doc or "") + ABOUT, *programs, files="+").parse_args()
     for path in filter(read_elf, files_of(given.files)):

@@ -3,16 +3,15 @@
 
     tools/compare/dlsym.py [--jobs N] [FILE..]
 
-Takes the shared libraries FILE, else those of the system: /usr/lib/x86_64-linux-gnu/*.so.*; N side by side (2). Each is loaded in a process of
-its own; one that can't be loaded, or whose process doesn't end by itself, is passed over and counted. Asked for are each name
-of `llvm-readelf --dyn-syms` without a version, and with each version listed with it; and each name that has a version with
-two versions of other names of the file, which should find nothing. Compared are whether a symbol is found in the library
-itself, and its address less that at which the library is loaded.
+Takes the shared libraries FILE, else those of the system: /usr/lib/x86_64-linux-gnu/*.so.*; N side by side (2). Each is loaded in
+a process of its own; one that can't be loaded, or whose process doesn't end by itself, is counted. Asked for are each name of
+`llvm-readelf --dyn-syms` without a version, and with each version listed with it; and each name that has a version with two
+versions of other names of the file, which should find nothing. Compared are whether a symbol is found in the library itself,
+and its address less that at which the library is loaded.
 
-Not compared, and counted apart, are GNU's indirect functions, for which dlsym calls the function that chooses one,
-and thread-local symbols, which have an address in each thread. So are names that dlsym finds in another library,
-which it searches after this one, and the static library not at all; and unique symbols (STB_GNU_UNIQUE) of another
-library, since the dynamic linker keeps one of each name for the whole process, the first that it met.
+Counted apart are indirect functions, for which dlsym calls the function that chooses one; thread-local symbols, which have an
+address in each thread; names that dlsym finds in another library, which it searches after this one; and unique symbols
+(STB_GNU_UNIQUE) of another library, since the dynamic linker keeps the first of each name for the whole process.
 
 The static library is called by way of bindings/python, whose shared object bindings/python/wheel_backend.py links.
 """
@@ -20,7 +19,6 @@ import concurrent.futures
 import glob
 import os
 import sys
-from typing import Dict, List, Optional, Tuple
 
 from comparing import ABSOLUTE, INDIRECT, ROOT, THREAD, UNDEFINED, UNIQUE, Tally, dynamic_symbols, parser_of, read_elf
 from loading import asked
@@ -28,16 +26,16 @@ from loading import asked
 sys.path.insert(1, str(ROOT / "bindings" / "python"))
 
 
-def queries_of(path: str) -> Tuple[List[Tuple[str, Optional[str], str]], int]:
+def queries_of(path: str) -> tuple[list[tuple[str, str | None, str]], int]:
     """What is asked about a file: each name, with a version or none, and what this counts as; and how many names have several
     versions."""
-    versions: Dict[str, Dict[str, None]] = {}
+    versions: dict[str, dict[str, None]] = {}
     for it in filter(lambda it: it.name, dynamic_symbols(path)):
         of_name = versions.setdefault(it.name, {})
         if it.version and it.section != UNDEFINED:
             of_name[it.version] = None
     listed = sorted({version for of_name in versions.values() for version in of_name})
-    queries: List[Tuple[str, Optional[str], str]] = [(name, None, "names") for name in versions]
+    queries: list[tuple[str, str | None, str]] = [(name, None, "names") for name in versions]
     for name, of_name in versions.items():
         queries += [(name, version, "pairs") for version in of_name]
         # The first two versions that the name doesn't have.
@@ -63,7 +61,6 @@ def verdict(symbol, loaded: str) -> str:
 
 
 def compare(path: str) -> Tally:
-    """Compares the answers about one library."""
     from xmas_elf import ElfError, ElfFile
 
     (queries, several), tally = queries_of(path), Tally()

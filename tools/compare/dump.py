@@ -4,13 +4,12 @@ with what nm and readelf print.
 
     tools/compare/dump.py [FILE..]
 
-Takes FILE, else 300 files spread over the small ones of /usr/bin and /usr/lib/x86_64-linux-gnu. Compared are, of each file and
-of a copy without section headers: the needed libraries, the name and the run path, the build id, the dynamic symbols with the
-names and numbers of their versions, the versions needed and defined, the dynamic entries and the relocations; of each file
-besides its sections; and for up to 200 names with a version the symbol that is found by both, and by the name alone where the
-version is the default one. The programs in C print the build id and these symbols, and the entries and relocations of the
-dynamic segment. A file without sections, or of debugging data alone, is passed over. The programs are built over the archive
-in crates/elf_c/out, or in the folder that XMAS_ELF_ARCHIVE names."""
+Takes FILE, else 300 files spread over the small ones of the system. Compared are, of each file and of a copy without section
+headers: the needed libraries, the name and the run path, the build id, the dynamic symbols with their versions, the versions
+needed and defined, the dynamic entries and the relocations; of each file besides its sections; and for up to 200 names with a
+version the symbol that is found by both, and by the name alone where the version is the default one. The programs in C print
+the build id, these symbols, and the entries and relocations of the dynamic segment. A file without sections, or of debugging
+data alone, is passed over. The archive is that of crates/elf_c/out, or of the folder that XMAS_ELF_ARCHIVE names."""
 import concurrent.futures
 import functools
 import itertools
@@ -22,8 +21,7 @@ import tempfile
 from collections import Counter
 from pathlib import Path
 
-from comparing import ABOUT, ROOT, Tally, build_ids, dynamic_symbols, files_of, llvm, parser_of, parts, raw, read_elf, relocation_tables, run, texts_of
-from elfsym import stripped
+from comparing import ABOUT, ROOT, Tally, build_ids, dynamic_symbols, files_of, llvm, parser_of, parts, raw, read_elf, relocation_tables, run, spread, stripped, texts_of
 
 FILES, LARGEST = 300, 400_000
 
@@ -38,16 +36,6 @@ def built(room):
         ["cargo", "build", "--quiet", "--offline", "--release", "--manifest-path", "bindings/rust/Cargo.toml", "--example", "dump"]):
         subprocess.run(command, cwd=ROOT, env={**os.environ, "XMAS_ELF_ARCHIVE": archive, "CARGO_TARGET_DIR": room}, check=True)
     return [f"{room}/dump", f"{room}/release/examples/dump"], f"{room}/find", f"{room}/dynamic"
-
-
-def spread():
-    files = (it for folder in ("/usr/bin", "/usr/lib/x86_64-linux-gnu") for it in sorted(Path(folder).iterdir()))
-    found = [it for it in files if it.is_file() and not it.is_symlink() and it.stat().st_size < LARGEST and read_elf(it)[4:5] == b"\2"]
-    return found[:: max(1, len(found) // FILES)][:FILES]
-
-
-def numbered(number):
-    return f"{number % 0x8000}{'h' if number >= 0x8000 else ''}"
 
 
 # The lines of the dynamic entries and of relocations.
@@ -89,7 +77,7 @@ class Wanted:
         lines = re.findall(r"^  [0-9a-f]+:( +[0-9a-f]+[h ]\(.*)$", printed, re.M)
         self.numbers = [f"{int(number, 16)}{mark.strip()}" for line in lines for number, mark in re.findall(r" ([0-9a-f]+)([h ])\(", line)]
         needs = [(need["FileName"], it) for need in parts(said, "VersionRequirements", "Dependency") for it in parts(need, "Entries", "Entry")]
-        number = lambda it: f"{numbered(it['Index'])} {it['Flags']['RawFlags']}"
+        number = lambda it: f"{it['Index'] % 0x8000}{'h' if it['Index'] >= 0x8000 else ''} {it['Flags']['RawFlags']}"
         # In no order.
         self.lines = [
             *(f"{word} {it}" for word, tag in (("needed", "NEEDED"), ("soname", "SONAME")) for it in texts_of(path, tag)),
@@ -125,7 +113,6 @@ def differing(tally, path, printed, wanted):
 
 
 def compare(programs, find, dynamic, path):
-    """Compares what the programs print of a file."""
     tally, wanted, data = Tally("dump"), Wanted(path), read_elf(path)
     if wanted.is_bare or not wanted.sections:
         return tally
@@ -159,7 +146,7 @@ def compare(programs, find, dynamic, path):
 
 def main():
     given, total = parser_of(__doc__ + ABOUT, files="*").parse_args(), Tally("dump", "files", "lines")
-    files = filter(read_elf, files_of(given.files)) if given.files else spread()
+    files = filter(read_elf, files_of(given.files)) if given.files else spread(FILES, LARGEST)
     with tempfile.TemporaryDirectory() as room, concurrent.futures.ThreadPoolExecutor(os.cpu_count()) as pool:
         for tally in pool.map(functools.partial(compare, *built(room)), files):
             total.update(tally)

@@ -3,26 +3,25 @@
 
     tools/compare/elfsym.py [--elfsym PATH] FILE..
 
-It is asked for each name that `llvm-readelf --dyn-syms` lists, and for NAME@VERSION of each version listed with it. What
-counts are the symbols that a dynamic linker takes: not local, of a type that it knows, and with a value, absolute or
-thread-local (an undefined one only with a value). It must answer
+It is asked for each name that `llvm-readelf --dyn-syms` lists, and for NAME@VERSION of each version listed with it. What counts
+are the symbols that a dynamic linker takes: not local, of a type that it knows, and with a value, absolute or thread-local (an
+undefined one only with a value). It must answer
 
-- a name by the value and the size of such a symbol without a version; if there is none, by those of the only one with
-  a version that isn't hidden: a default (`@@`), or one that the file needs;
+- a name by the value and the size of such a symbol without a version; if there is none, by those of the only one with a version
+  that isn't hidden: a default (`@@`), or one that the file needs;
 - NAME@VERSION by those of such a symbol with this version, or without one;
 - otherwise by `none`.
 
-`elfsym --needed` must print what `readelf -dW` lists as needed. All of this is asked again of a copy without section
-headers: e_shoff, e_shnum and e_shstrndx are 0. A FILE without dynamic symbols is passed over.
+`elfsym --needed` must print what `readelf -dW` lists as needed. All of this is asked again of a copy without section headers. A
+FILE without dynamic symbols is passed over.
 """
 import functools
 import sys
 import tempfile
 from collections import defaultdict
 from pathlib import Path
-from typing import List, Set, Tuple
 
-from comparing import ABSOLUTE, LOCAL, THREAD, UNDEFINED, Symbol, Tally, compare_all, dynamic_symbols, read_elf, run, texts_of
+from comparing import ABSOLUTE, LOCAL, THREAD, UNDEFINED, Symbol, Tally, compare_all, dynamic_symbols, read_elf, run, stripped, texts_of
 
 # The types that a dynamic linker takes: none, an object, a function, a common block, thread-local, an indirect function.
 TYPES = {0, 1, 2, 5, 6, 10}
@@ -43,24 +42,13 @@ class Listing:
                 self.symbols[it.name].append(it)
 
 
-def wanted_of(symbols: List[Symbol], version: str) -> Set[Tuple[int, int]]:
+def wanted_of(symbols: list[Symbol], version: str) -> set[tuple[int, int]]:
     """The values and sizes that are right for a name with these symbols, asked with a version or without one."""
     plain = {(it.value, it.size) for it in symbols if not it.version}
     if version:
         return plain | {(it.value, it.size) for it in symbols if it.version == version}
     defaults = [(it.value, it.size) for it in symbols if it.is_shown]
     return plain or set(defaults if len(defaults) == 1 else [])
-
-
-def compare_line(path: str, reference: str, line: str, reads: Listing, tally: Tally) -> None:
-    """Compares the line of one name, or of one with a version."""
-    name, _, version = reference.partition("@")
-    symbols = reads.symbols.get(name, [])
-    wanted = wanted_of(symbols, version)
-    tally["others" if not wanted else "names with a version that has a symbol" if version else "names with a symbol"] += 1
-    tally["of them with several values"] += bool(wanted) and not version and len({(it.value, it.size) for it in symbols}) > 1
-    if line not in ({f"{reference} {value:#x} {size:#x}" for value, size in wanted} or {f"{reference}: none"}):
-        tally.differ(path, reference, line, sorted(wanted) or "none")
 
 
 def compare_file(path: str, file: str, elfsym: str, reads: Listing, tally: Tally) -> None:
@@ -74,20 +62,18 @@ def compare_file(path: str, file: str, elfsym: str, reads: Listing, tally: Tally
             tally.differ(path, "names", f"status {status}: {said.strip()}", f"{len(asked)} names")
             break
         for reference, line in zip(asked, lines):
-            compare_line(path, reference, line, reads, tally)
+            name, _, version = reference.partition("@")
+            symbols = reads.symbols.get(name, [])
+            wanted = wanted_of(symbols, version)
+            tally["others" if not wanted else "names with a version that has a symbol" if version else "names with a symbol"] += 1
+            tally["of them with several values"] += bool(wanted) and not version and len({(it.value, it.size) for it in symbols}) > 1
+            if line not in ({f"{reference} {value:#x} {size:#x}" for value, size in wanted} or {f"{reference}: none"}):
+                tally.differ(path, reference, line, sorted(wanted) or "none")
     status, own, said = run([elfsym, "--needed", file])
     needed = own.split("\n")[:-1]
     tally["needed libraries"] += len(needed)
     if status != 0 or needed != reads.needed:
         tally.differ(path, "needed", f"{needed} {said.strip()}", reads.needed)
-
-
-def stripped(content: bytes) -> bytes:
-    """The same file without section headers: e_shoff, e_shnum and e_shstrndx are 0."""
-    copy = bytearray(content)
-    for place, size in [(32, 4), (48, 4)] if copy[4] == 1 else [(40, 8), (60, 4)]:
-        copy[place : place + size] = bytes(size)
-    return bytes(copy)
 
 
 def compare(copy: Path, path: str, elfsym: str, tally: Tally) -> None:

@@ -3,10 +3,9 @@
 
     tools/compare/fuzz.py --seed S --count N
 
-File K of a seed is `damage.damaged(S, K)`, the same each time; the long files of `long_files` come first.
-Wanted of `elfinfo` and `elfanswers`: each ends with status 0 or 1, writes nothing else where it is built by
-Rattle's own compiler than where it is built by LLVM, in 512 MB. As built by LLVM it takes no more than 2
-seconds of a processor for a file below 1 MB, but for three of the long files, which are told of with the
+File K of a seed is `damage.damaged(S, K)`, the same each time; the long files of `long_files` come first. Wanted of `elfinfo` and
+`elfanswers`: each ends with status 0 or 1, and writes the same where either compiler built it, in 512 MB. As built by LLVM it
+takes no more than 2 seconds of a processor for a file below 1 MB, but for three of the long files, which are told of with the
 cause. What isn't so is printed with the number of the file, and the status is then 1.
 """
 import collections
@@ -31,15 +30,6 @@ SLOW = ", where the check without memory takes buckets and symbols times chains"
 AT_ONCE = 50
 
 
-def builds(name):
-    """The program as LLVM builds it, and as Rattle's own compiler does."""
-    folder = ROOT / "crates" / name / "out"
-    found = [folder / name, folder / f"{name}.by-rattle"]
-    if missing := [it.name for it in found if not it.exists()]:
-        print(f"not built, so not run: {', '.join(missing)}")
-    return [it for it in found if it.exists()]
-
-
 def run(program, paths, room):
     """The status, what was written and the seconds that a processor took."""
     limit = lambda: resource.setrlimit(resource.RLIMIT_CPU, (GIVEN_UP, GIVEN_UP))
@@ -51,33 +41,24 @@ def run(program, paths, room):
         return started.returncode, output.read(), used.ru_utime + used.ru_stime
 
 
-def hash_file(names, words):
-    """Class 64: symbols of these names, and a hash table of these words."""
-    layout = damage.Layout(True, "little")
-    held, places = damage.texts(names)
+def hash_file(count, buckets, last=0, words=()) -> bytes:
+    """Class 64: so many symbols, and so many buckets that all lead to one chain of all symbols upwards, which ends in a number;
+    or a hash table of these words."""
+    layout, chain = damage.Layout(True, "little"), [0, *range(2, count + 1), last]
+    held, places = damage.texts(b"n%05d" % k for k in range(count))
     symbols = bytes(24) + b"".join(layout.symbol(place, 0x12, 1, 1) for place in places)
-    return damage.elf_file([(b".dynstr", 3, held, 0, 0), (b".dynsym", 11, symbols, 1, 24), (b".hash", 5, layout.words(*words), 2, 4)])
-
-
-def names(count) -> list:
-    return [b"n%05d" % k for k in range(count)]
-
-
-def shared_chain(count) -> bytes:
-    """A file whose buckets all lead to one chain of all names, upwards."""
-    return hash_file(names(count), [count, count + 1, *[1] * count, 0, *range(2, count + 1), 0])
+    table = layout.words(*(words or [buckets, count + 1, *[1] * buckets, *chain]))
+    return damage.elf_file([(b".dynstr", 3, held, 0, 0), (b".dynsym", 11, symbols, 1, 24), (b".hash", 5, table, 2, 4)])
 
 
 def long_files():
     """Files a little below 1 MB whose work is as much as their bytes allow, each with its name."""
     count = 20_000
-    good = damage.hash_words(names(count), count // 2)
-    yield "a good hash table of 20,000 names", hash_file(names(count), good)
-    one = [1, count + 1, 1, 0, *range(2, count + 1), 0]
-    yield f"20,000 names on the chain of one bucket{SLOW}", hash_file(names(count), one)
-    yield f"20,000 buckets that share one chain of 20,000 names{SLOW}", shared_chain(count)
-    looped = [count, count + 1, *[1] * count, 0, *range(2, count + 1), 1]
-    yield f"20,000 buckets that share one looped chain{SLOW}", hash_file(names(count), looped)
+    good = damage.hash_words([b"n%05d" % k for k in range(count)], count // 2)
+    yield "a good hash table of 20,000 names", hash_file(count, 0, words=good)
+    yield f"20,000 names on the chain of one bucket{SLOW}", hash_file(count, 1)
+    yield f"20,000 buckets that share one chain of 20,000 names{SLOW}", hash_file(count, count)
+    yield f"20,000 buckets that share one looped chain{SLOW}", hash_file(count, count, last=1)
     layout, data = damage.Layout(True, "little"), bytearray(damage.worked(True, "little"))
     start, old = len(data), layout.get(data, 0, layout.header["shoff"])
     data += data[old : old + 64 * 22] + bytes(64 * (15_000 - 22))
@@ -91,7 +72,11 @@ class Fuzzing:
     def __init__(self, room):
         self.room, self.faults, self.files = room, 0, 0
         self.statuses, self.slowest = collections.Counter(), {}
-        self.programs = {name: builds(name) for name in ("elfinfo", "elfanswers")}
+        # Each program as LLVM builds it, and as Rattle's own compiler does.
+        built = {name: [ROOT / "crates" / name / "out" / it for it in (name, f"{name}.by-rattle")] for name in ("elfinfo", "elfanswers")}
+        if missing := [it.name for some in built.values() for it in some if not it.exists()]:
+            print(f"not built, so not run: {', '.join(missing)}")
+        self.programs = {name: [it for it in some if it.exists()] for name, some in built.items()}
 
     def fault(self, name, said):
         self.faults += 1
@@ -132,13 +117,6 @@ class Fuzzing:
         self.check("elfanswers", [name for name, _ in held], paths)
         self.files += len(held)
 
-    def told(self, seconds):
-        print(f"{self.files} files in {seconds:.0f} s, {self.faults} not as they must be")
-        for (program, status), count in sorted(self.statuses.items()):
-            print(f"{program}: {count} files in runs that ended with {status}")
-        for program, (worst, name) in self.slowest.items():
-            print(f"{program}: at most {worst:.2f} s for one run: {name}")
-
 
 def main() -> int:
     options = parser_of(__doc__, seed=1, count=500).parse_args()
@@ -151,11 +129,15 @@ def main() -> int:
         for name, data in long_files():
             fuzzing.files_at_once([(name, data)])
         # A check that walks along the chain for each name would take minutes.
-        pathlib.Path(room, "shared").write_bytes(shared_chain(200_000))
+        pathlib.Path(room, "shared").write_bytes(hash_file(200_000, 200_000))
         fuzzing.check("elfinfo", ["200,000 buckets that share one chain of 200,000 names"], [f"{room}/shared"])
         for some in (range(options.count)[at : at + AT_ONCE] for at in range(0, options.count, AT_ONCE)):
             fuzzing.files_at_once([(f"damage.damaged({options.seed}, {k})", damage.damaged(options.seed, k)) for k in some])
-        fuzzing.told(time.monotonic() - began)
+    print(f"{fuzzing.files} files in {time.monotonic() - began:.0f} s, {fuzzing.faults} not as they must be")
+    for (program, status), count in sorted(fuzzing.statuses.items()):
+        print(f"{program}: {count} files in runs that ended with {status}")
+    for program, (worst, name) in fuzzing.slowest.items():
+        print(f"{program}: at most {worst:.2f} s for one run: {name}")
     return 1 if fuzzing.faults else 0
 
 

@@ -3,20 +3,18 @@
 
     tools/compare/readelf.py [--elfinfo PATH] FILE..
 
-`llvm-readelf -hSl` has the numbers of the ELF header, the name and type of each section, and the type of each segment. Here
-they are written as elfinfo must print them. What elfinfo refuses by design is counted as an expected error. The results of
-elfinfo's own checks aren't compared: the check line, what follows the type of a segment, and the hash line. Where a number
-stands in section 0 (extended numbering), the fields of the ELF header are compared as they stand there, and the lists go by
-section 0.
+`llvm-readelf -hSl` has the numbers of the ELF header, the name and type of each section, and the type of each segment. Here they
+are written as elfinfo must print them. What elfinfo refuses by design is counted as an expected error. The results of elfinfo's
+own checks aren't compared: the check line, what follows the type of a segment, and the hash line. With extended numbering the
+fields of the ELF header are compared as they stand there, and the lists go by section 0.
 """
 import re
 import sys
-from typing import Dict, List
 
 from comparing import Tally, compare_all, llvm, parts, raw, run
 
 # The name that elfinfo prints for a number of a field, by the numbers that the gABI gives, and the word for another number.
-NAMES: Dict[str, Dict[int, str]] = {
+NAMES: dict[str, dict[int, str]] = {
     "class": {0: "None", 1: "ThirtyTwo", 2: "SixtyFour"},
     "data": {0: "None", 1: "LittleEndian", 2: "BigEndian"},
     "version": {0: "None", 1: "Current"},
@@ -45,15 +43,7 @@ FIELDS = {
     "sh_str_index": "StringTableSectionIndex"}
 
 
-def fields_of(head: str) -> Dict[str, str]:
-    """The fields of the ELF header that elfinfo prints, by their labels."""
-    found: Dict[str, str] = {}
-    for label, value in re.findall(r"^    (.+?): +(.*)$", head, re.M):
-        found[label if label not in found else f"{label} (2)"] = value.rstrip()
-    return found
-
-
-def wanted_fields(reads: dict) -> Dict[str, str]:
+def wanted_fields(reads: dict) -> dict[str, str]:
     """The fields as elfinfo must print them."""
     found = {}
     for label, value in ((label, (reads["Ident"] if label in IDENT else reads)[name]) for label, name in {**IDENT, **FIELDS}.items()):
@@ -63,7 +53,7 @@ def wanted_fields(reads: dict) -> Dict[str, str]:
     return found
 
 
-def kind_of(number: int, names: Dict[int, str], last: int, refusal: str) -> str:
+def kind_of(number: int, names: dict[int, str], last: int, refusal: str) -> str:
     """How elfinfo must print a type, of those below `last`."""
     word = next((word for first, word in reversed(WORDS.items()) if number >= first), None)
     name = names.get(number) or (f"{word}({number})" if word and number < last else None)
@@ -79,26 +69,7 @@ def wanted_section(it: dict) -> str:
     return f"{it['Index']} {kind} ! {reason}" if reason else f"{it['Index']} {kind} = {name}"
 
 
-def wanted_segment(index: int, it: dict) -> str:
-    """The front of the line of a segment, up to its type."""
-    return f"{index} {kind_of(raw(it['Type']), SEGMENTS, 0x80000000, 'Invalid type')} "
-
-
-def compare_list(path: str, what: str, says: List[str], wanted: List[str], tally: Tally) -> None:
-    """Compares the lines of sections or of segments."""
-    if len(says) != len(wanted):
-        tally.differ(path, what, len(says), len(wanted))
-    for one, other in zip(says, wanted):
-        tally[what] += 1
-        tally["expected errors"] += " ! " in other or " Err(" in other
-        # elfinfo takes a name by the offset of the string table alone, and llvm-readelf prints `<?>` for one beyond its size.
-        is_front = what == "segments" or other.endswith("= <?>")
-        if not one.startswith(other.removesuffix("<?>")) if is_front else one.rstrip(" ") != other.rstrip(" "):
-            tally.differ(path, what, one, other)
-
-
 def compare(path: str, elfinfo: str, tally: Tally) -> None:
-    """Runs both programs on a file and compares what they print."""
     tally["files"] += 1
     status, own, errors = run([elfinfo, path])
     reads = llvm(path, "-h", "-S", "-l")
@@ -110,17 +81,31 @@ def compare(path: str, elfinfo: str, tally: Tally) -> None:
             tally.differ(path, "file", f"status {status} ({errors.strip()})", f"{sorted(reads)}")
         return
     head, sections, segments, *_ = re.split(r"^(?:sections|program headers|hash: .*)\n", own + "\n\n", flags=re.M)
-    says, wanted = fields_of(head), wanted_fields(reads["ElfHeader"])
+    # The fields of the ELF header that elfinfo prints, by their labels.
+    says, wanted = {}, wanted_fields(reads["ElfHeader"])
+    for label, value in re.findall(r"^    (.+?): +(.*)$", head, re.M):
+        says[label if label not in says else f"{label} (2)"] = value.rstrip()
     for label in (it for it in wanted if says.get(it) != wanted[it]):
         tally.differ(path, label, says.get(label, "nothing"), wanted[label])
     lines = {
         "sections": (sections, [wanted_section(it) for it in parts(reads, "Sections", "Section") if it["Index"]]),
-        "segments": (segments, [wanted_segment(*it) for it in enumerate(parts(reads, "ProgramHeaders", "ProgramHeader"))])}
+        # The front of the line of a segment, up to its type.
+        "segments": (segments, [f"{index} {kind_of(raw(it['Type']), SEGMENTS, 0x80000000, 'Invalid type')} "
+                                for index, it in enumerate(parts(reads, "ProgramHeaders", "ProgramHeader"))])}
     for (what, (text, wanted)), name in zip(lines.items(), ("Sections", "ProgramHeaders")):
-        if name in reads:
-            compare_list(path, what, [it for it in text.split("\n") if it], wanted, tally)
-        else:
+        if name not in reads:
             print(f"{path}: {what} not compared: llvm-readelf can't read their headers")
+            continue
+        says = [it for it in text.split("\n") if it]
+        if len(says) != len(wanted):
+            tally.differ(path, what, len(says), len(wanted))
+        for one, other in zip(says, wanted):
+            tally[what] += 1
+            tally["expected errors"] += " ! " in other or " Err(" in other
+            # elfinfo takes a name by the offset of the string table alone, and llvm-readelf prints `<?>` for one beyond its size.
+            is_front = what == "segments" or other.endswith("= <?>")
+            if not one.startswith(other.removesuffix("<?>")) if is_front else one.rstrip(" ") != other.rstrip(" "):
+                tally.differ(path, what, one, other)
 
 
 if __name__ == "__main__":

@@ -3,9 +3,10 @@
 
     tools/compare/recipes.py [--elftools PATH] [FILE..]
 
-`elftools recipes` runs each recipe over a file. The recipe in Python is run where tools/exports/python.sh has built the package. Without files it takes the programs and libraries of SYSTEM, and what gcc
-makes of a small source here: an object file, a program and a shared object of class 64, and by -m32 of class 32 an
-object file and, by -nostdlib, a shared object. Files that it doesn't read count as differences.
+`elftools recipes` runs each recipe over a file. The recipe in Python is run where tools/exports/python.sh has built the package.
+Without files it takes the programs and libraries of SYSTEM, and what gcc makes of a small source here: an object file, a program
+and a shared object of class 64, and by -m32 of class 32 an object file and, by -nostdlib, a shared object. Files that it doesn't
+read count as differences.
 """
 import re
 import subprocess
@@ -43,19 +44,6 @@ NO_BITS, FUNCTION, EXECUTED, NAMED = 8, 2, 4, (0, 1, 2, 10)
 # The recipe of docs/RECIPES.md in Python.
 LARGEST = re.search(r"^```python$(.*?)^```$", (ROOT / "docs/RECIPES.md").read_text(), re.M | re.S)[1]
 PACKAGE = ROOT / "bindings/python"
-
-
-def make(folder: Path) -> list:
-    """The files that gcc makes here; one that it can't make is told of and left out."""
-    (folder / "near.c").write_text(SOURCE)
-    (folder / "main.c").write_text(MAIN)
-    made = []
-    for name, arguments in MADE.items():
-        done = subprocess.run(["gcc", "-O1", *arguments, "-o", name], cwd=folder, capture_output=True, text=True)
-        made += [str(folder / name)] if done.returncode == 0 else []
-        if done.returncode != 0:
-            print(f"gcc makes no {name}: {done.stderr.strip().splitlines()[-1:]}")
-    return made
 
 
 def symbols(said: list, is_dynamic: bool) -> list:
@@ -134,25 +122,28 @@ def largest(path: str) -> list:
     return sorted(found.values(), reverse=True)[:10]
 
 
-def compare_largest(tally: Tally, path: str) -> None:
-    """Compares the sizes that the recipe in Python prints."""
-    done = subprocess.run([sys.executable, "-c", LARGEST, path], cwd=PACKAGE, capture_output=True, text=True)
-    ours = [int(line.split()[0]) for line in done.stdout.splitlines()]
-    if done.returncode or ours != largest(path):
-        tally.differ(path, "the largest functions", ours or done.stderr[-200:], largest(path))
-
-
 def main() -> int:
     given, tally = parser_of(__doc__, "elftools", files="*").parse_args(), Tally("elftools", "files")
     is_built = (PACKAGE / "xmas_elf/libxmas_elf.so").exists()
     if not is_built:
         print("recipes: the package for Python is not built: its recipe is not run")
     with tempfile.TemporaryDirectory() as room:
-        files = given.files or [*(str(ROOT / it) for it in OURS), *make(Path(room)), *(it for it in SYSTEM if Path(it).exists())]
+        Path(room, "near.c").write_text(SOURCE)
+        Path(room, "main.c").write_text(MAIN)
+        made = []
+        for name, arguments in MADE.items():
+            done = subprocess.run(["gcc", "-O1", *arguments, "-o", name], cwd=room, capture_output=True, text=True)
+            made += [f"{room}/{name}"] if done.returncode == 0 else []
+            if done.returncode != 0:
+                print(f"gcc makes no {name}: {done.stderr.strip().splitlines()[-1:]}")
+        files = given.files or [*(str(ROOT / it) for it in OURS), *made, *(it for it in SYSTEM if Path(it).exists())]
         for path in files:
             compare(tally, given.elftools, path)
             if is_built:
-                compare_largest(tally, path)
+                done = subprocess.run([sys.executable, "-c", LARGEST, path], cwd=PACKAGE, capture_output=True, text=True)
+                ours = [int(line.split()[0]) for line in done.stdout.splitlines()]
+                if done.returncode or ours != largest(path):
+                    tally.differ(path, "the largest functions", ours or done.stderr[-200:], largest(path))
     return tally.ended() or int(not tally["files"])
 
 

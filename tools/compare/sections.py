@@ -5,11 +5,9 @@
 
 Of each section of notes `llvm-readelf -n` says how many there are, and of each the type, the name and the size of the
 description, but for the names of GNU's build attributes, which hold other bytes. `readelf -rW` has the addresses of each
-section of packed relocations.
-
-The check of GNU's hash table must be OK. Each name that `llvm-readelf --dyn-syms` lists as defined and not local must be found
-at an index at which it is listed so, whatever its version. Each other name must not be found, or at an index at which it is
-listed: linkers put some undefined symbols of programs into the table.
+section of packed relocations. The check of GNU's hash table must be OK. Each name that `llvm-readelf --dyn-syms` lists as
+defined and not local must be found at an index at which it is listed so, whatever its version. Each other name must not be
+found, or at an index at which it is listed: linkers put some undefined symbols of programs into the table.
 
 The static library is called by way of bindings/python, whose shared object bindings/python/wheel_backend.py links.
 """
@@ -18,7 +16,6 @@ import ctypes
 import itertools
 import re
 import sys
-from typing import List, NamedTuple, Optional, Tuple
 
 from comparing import LOCAL, ROOT, UNDEFINED, Tally, compare_all, dynamic_symbols, llvm, parts, relocation_tables
 
@@ -33,37 +30,24 @@ UNKNOWN_TYPE = re.compile(r"Unknown \(0x([0-9A-Fa-f]+)\)")
 NOTES, RELR, GNU_HASH = 7, 19, 0x6FFFFFF6
 
 
-class Note(NamedTuple):
-    """A note: its type, its name up to the first zero where it is text, and the size of its description."""
-
-    kind: Optional[int]
-    name: Optional[str]
-    size: int
+# A note: its type, its name up to the first zero where it is text, and the size of its description.
+Note = collections.namedtuple("Note", "kind name size")
 
 
-def read_note(said: dict) -> Note:
-    """A note of llvm-readelf's; without its name where GNU's build attributes have bytes in it."""
-    unknown, owner = UNKNOWN_TYPE.match(said["Type"]), said["Owner"]
-    number = int(unknown[1], 16) if unknown else TYPES.get(said["Type"].split(" ")[0])
-    return Note(number, None if owner.startswith("GA") else owner.partition("\0")[0], said["Data size"])
-
-
-def read_notes(path: str) -> List[Tuple[str, List[Note]]]:
-    """The notes that llvm-readelf lists, by section."""
+def read_notes(path: str) -> list[tuple[str, list[Note]]]:
+    """The notes that llvm-readelf lists, by section; without names where GNU's build attributes have bytes in them."""
     found = []
     for section in parts(llvm(path, "-n"), "Notes", "NoteSection"):
-        notes = section.get("Note", [])
-        found.append((section["Name"], [read_note(it) for it in (notes if isinstance(notes, list) else [notes])]))
+        notes, read = section.get("Note", []), []
+        for it in notes if isinstance(notes, list) else [notes]:
+            unknown, owner = UNKNOWN_TYPE.match(it["Type"]), it["Owner"]
+            number = int(unknown[1], 16) if unknown else TYPES.get(it["Type"].split(" ")[0])
+            read.append(Note(number, None if owner.startswith("GA") else owner.partition("\0")[0], it["Data size"]))
+        found.append((section["Name"], read))
     return found
 
 
-def same_note(says: Note, reads: Note) -> bool:
-    """Whether both show the same note, as far as it can be compared."""
-    return says._replace(name=None) == reads._replace(name=None) and (reads.name is None or says.name == reads.name)
-
-
 def compare_notes(file, path: str, tally: Tally) -> None:
-    """Compares the notes of each section."""
     text = lambda name: bytes(name).partition(b"\0")[0].decode("utf-8", "replace")
     says = [(section.name, [Note(it.type, text(it.name), len(it.desc)) for it in section.notes()]) for section in file.sections() if section.type == NOTES]
     reads = read_notes(path)
@@ -72,21 +56,12 @@ def compare_notes(file, path: str, tally: Tally) -> None:
     for (name, one), (_, other) in zip(says, reads):
         tally["sections of notes"] += 1
         tally["notes"] += len(one)
-        if len(one) != len(other) or not all(map(same_note, one, other)):
+        known = [ours if theirs.name is not None else ours._replace(name=None) for ours, theirs in zip(one, other)]
+        if len(one) != len(other) or known != other:
             tally.differ(path, name, one, other)
 
 
-def compare_packed(file, path: str, tally: Tally) -> None:
-    """Compares the addresses of packed relocations of each section."""
-    says = [(it.name, list(it.packed_relocations())) for it in file.sections() if it.type == RELR]
-    reads = [(it.section, it.packed) for it in relocation_tables(path) if it.packed]
-    tally["RELR sections"] += len(says)
-    tally["packed relocations"] += sum(len(some) for _, some in says)
-    if says != reads:
-        tally.differ(path, "packed relocations", says, reads)
-
-
-def looked_up(file, table, names: List[bytes]) -> list:
+def looked_up(file, table, names: list[bytes]) -> list:
     """The status of the look-up of each name, whether a symbol was found, and its index."""
     from xmas_elf._archive import library
     from xmas_elf._declarations import ANSWER, RANGE
@@ -122,14 +97,18 @@ def compare_table(file, section, path: str, tally: Tally) -> None:
 
 
 def compare(path: str, tally: Tally) -> None:
-    """Compares what the library says of a file."""
     from xmas_elf import ElfError, ElfFile
 
     tally["files"] += 1
     try:
         with ElfFile.load_from_path(path) as file:
             compare_notes(file, path, tally)
-            compare_packed(file, path, tally)
+            says = [(it.name, list(it.packed_relocations())) for it in file.sections() if it.type == RELR]
+            reads = [(it.section, it.packed) for it in relocation_tables(path) if it.packed]
+            tally["RELR sections"] += len(says)
+            tally["packed relocations"] += sum(len(some) for _, some in says)
+            if says != reads:
+                tally.differ(path, "packed relocations", says, reads)
             for section in (it for it in file.sections() if it.type == GNU_HASH):
                 tally["hash tables"] += 1
                 compare_table(file, section, path, tally)

@@ -67,20 +67,8 @@ def compare_trace(ours: str, path: str, tally: Tally) -> None:
             tally.differ(path, "addresses", len(said), len(part))
 
 
-def compare_relocations(said: list, path: str, tally: Tally) -> None:
-    # readelf cuts names of types to 22 letters.
-    own = collections.Counter((it[0][:22], int(it[1], 16)) for it in said if it[0].startswith("R_") or it[0] == "relr")
-    theirs = collections.Counter()
-    for table in relocation_tables(path):
-        theirs.update((it.kind[:22], it.offset) for it in table.rows)
-        theirs.update(("relr", it) for it in table.packed)
-    tally["relocations"] += sum(own.values())
-    for key in list((own - theirs) + (theirs - own))[:3]:
-        tally.differ(path, f"relocation {key}", own[key], theirs[key])
-
-
-def mapped(path: str) -> dict:
-    """The pages of a file in a process that runs it: the offset of each and whether it is executable."""
+def compare_maps(said: list, path: str, tally: Tally) -> None:
+    """Compares the pages of a file in a process that runs it: the offset of each and whether it is executable."""
     with subprocess.Popen([path, "9"], stdout=subprocess.DEVNULL, stderr=subprocess.DEVNULL, stdin=subprocess.DEVNULL) as process:
         time.sleep(0.3)
         lines = Path(f"/proc/{process.pid}/maps").read_text(encoding="utf-8").splitlines()
@@ -91,11 +79,6 @@ def mapped(path: str) -> dict:
             start, end, kind, offset = re.match(r"(\w+)-(\w+) (\S+) (\w+)", line).groups()
             for page in range(int(start, 16), int(end, 16), PAGE):
                 found[page] = (int(offset, 16) + page - int(start, 16), kind[2] == "x")
-    return found
-
-
-def compare_maps(said: list, path: str, tally: Tally) -> None:
-    found = mapped(path)
     maps = [(int(it[1], 16), int(it[2], 16), it[3][2] == "x", int(it[4], 16)) for it in said if it[0] == "map"]
     base = min(found, default=0) - min((it[0] for it in maps), default=0)
     own = {base + start + more: (offset + more, is_code) for start, size, is_code, offset in maps for more in range(0, size, PAGE)}
@@ -103,14 +86,6 @@ def compare_maps(said: list, path: str, tally: Tally) -> None:
     for page in sorted(own.keys() | found.keys()):
         if own.get(page) != found.get(page):
             tally.differ(path, f"page {page:x}", own.get(page), found.get(page))
-
-
-def compare_plan(ours: str, path: str, tally: Tally) -> None:
-    said = [line.split() for line in tally.output(path, ours, "plan", path).splitlines()]
-    compare_relocations(said, path, tally)
-    # A program that waits for the seconds of its argument can be looked at while it runs.
-    if os.path.basename(path) == "sleep":
-        compare_maps(said, path, tally)
 
 
 def compare_bind(ours: str, path: str, tally: Tally) -> None:
@@ -135,7 +110,18 @@ def main() -> int:
         tally["files"] += 1
         compare_sizes(given.elftools, path, tally)
         compare_trace(given.elftools, path, tally)
-        compare_plan(given.elftools, path, tally)
+        said = [line.split() for line in tally.output(path, given.elftools, "plan", path).splitlines()]
+        # readelf cuts names of types to 22 letters.
+        own = collections.Counter((it[0][:22], int(it[1], 16)) for it in said if it[0].startswith("R_") or it[0] == "relr")
+        theirs = collections.Counter()
+        for table in relocation_tables(path):
+            theirs.update([*((it.kind[:22], it.offset) for it in table.rows), *(("relr", it) for it in table.packed)])
+        tally["relocations"] += sum(own.values())
+        for key in list((own - theirs) + (theirs - own))[:3]:
+            tally.differ(path, f"relocation {key}", own[key], theirs[key])
+        # A program that waits for the seconds of its argument can be looked at while it runs.
+        if os.path.basename(path) == "sleep":
+            compare_maps(said, path, tally)
         if not path.startswith(str(ROOT)):
             compare_bind(given.elftools, path, tally)
     return tally.ended()

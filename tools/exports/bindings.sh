@@ -27,6 +27,9 @@ export XMAS_ELF_ARCHIVE CARGO_TARGET_DIR="$room/target"
 archive="$XMAS_ELF_ARCHIVE/libelf_c.a"
 strict=(-O2 -Wall -Wextra -Werror -Wpedantic -Ibindings/include)
 
+# Runs lines of Python with what the tools have.
+python() { PYTHONPATH=tools python3 -c "$@"; }
+
 # The names that a program prints, and those of readelf but for the sections, whose names it shows for theirs. It adds
 # versions behind an `@`, which a few names have too.
 printed() { awk 'NF == 3 { sub(/@.*/, "", $3); print $3 }' "$1" | sort; }
@@ -35,8 +38,7 @@ names() { readelf --wide --symbols "$1" | awk '$1 ~ /^[0-9]+:$/ && $4 != "SECTIO
 # What the header says of the archive: it has the exports of the list, needs `memcpy`, `memmove` and `memset` alone, keeps nothing (no section is
 # writable), has no unwind tables, and no absolute addresses in code.
 diff <(nm --defined-only --extern-only "$archive" | awk 'NF == 3 { print $3 }' | sort) \
-    <(python3 -c 'import sys; sys.path.insert(0, "tools"); from exports import listing
-for one in listing.read().functions: print(one.export)' | sort)
+    <(python 'from exports import listing; print(*(it.export for it in listing.read().functions), sep="\n")' | sort)
 diff <(nm --undefined-only "$archive" | awk '$1 == "U" { print $2 }' | grep -vxE 'mem(cpy|move|set)') /dev/null
 readelf --wide --sections --relocs "$archive" > "$room/archive"
 if grep -E 'eh_frame|R_X86_64_(32|32S|64) | WAT? ' "$room/archive"; then exit 1; fi
@@ -68,14 +70,9 @@ if command -v clang > /dev/null; then
     "$room/every_clang" "$room/every_gcc"
 fi
 # The numbers of the standard, beside those of the C library.
-python3 - << 'END' | gcc -std=c11 -x c -fsyntax-only -
-import sys
-sys.path.insert(0, "tools")
-from exports import listing
-print("#include <elf.h>")
-for one in listing.constants():
-    print(f'_Static_assert({one.name} == {one.value}, "{one.name}");')
-END
+python 'from exports import listing
+print("#include <elf.h>", *(f"_Static_assert({it.name} == {it.value}, \"{it.name}\");" for it in listing.constants()), sep="\n")' |
+    gcc -std=c11 -x c -fsyntax-only -
 # The programs of the page.
 awk '/^```c$/ { on = 1; next } /^```$/ { on = 0 } on' bindings/c/README.md > "$room/shown.c"
 gcc -std=c11 "${strict[@]}" "$room/shown.c" "$archive" -o "$room/names_c"
@@ -92,28 +89,19 @@ for program in "$room/nm_c" "$room/find_c" "$room/dynamic_c" "$room/addresses_c"
 done
 # The mappings of a program beside those of its process, in which those of zeros have no path; and the symbols of its functions
 # in their middle, by the values and sizes of nm.
-cat > "$room/mapped.c" << 'END'
-#include <stdio.h>
+echo '#include <stdio.h>
 int numbers[40000];
-int main(void)
-{
-    FILE *maps = fopen("/proc/self/maps", "r");
-    char line[512];
-    while (fgets(line, sizeof line, maps)) fputs(line, stdout);
-    return numbers[0];
-}
-END
-gcc "$room/mapped.c" -o "$room/mapped" -Wl,-z,norelro
+int main(void) { FILE *maps = fopen("/proc/self/maps", "r"); int it; while ((it = getc(maps)) != EOF) putchar(it); return numbers[0]; }' |
+    gcc -x c - -o "$room/mapped" -Wl,-z,norelro
 mapped() {
-    "$room/mapped" | python3 -c '
-import sys
-lines = [line.split() for line in sys.stdin if line.rstrip().endswith(sys.argv[1])]
-numbers = [[int(it, 16) for it in (*line[0].split("-"), line[2])] for line in lines]
-for (start, end, offset), line in zip(numbers, lines): print(f"{start - numbers[0][0]:x}-{end - numbers[0][0]:x} {line[1][:3]} {offset:x}")' "$1"
+    local base="" range rights offset
+    "$room/mapped" | grep "$1\$" | while read -r range rights offset _; do
+        base="${base:-$((16#${range%-*}))}"
+        printf '%x-%x %s %x\n' $((16#${range%-*} - base)) $((16#${range#*-} - base)) "${rights:0:3}" $((16#$offset))
+    done
 }
 functions() { nm --defined-only --print-size "$room/mapped" | awk 'NF == 4 && $3 ~ /[tT]/ && $2 !~ /^0+$/'; }
-middles() { functions | python3 -c 'import sys
-for value, size, _, name in map(str.split, sys.stdin): print(f"{int(value, 16) + int(size, 16) // 2:x}", f"{name}+{int(size, 16) // 2:#x}")'; }
+middles() { functions | while read -r value size _ name; do printf '%x %s+%#x\n' $((16#$value + 16#$size / 2)) "$name" $((16#$size / 2)); done; }
 [ "$(middles | wc -l)" -ge 2 ] || { echo "nm finds no functions"; exit 1; }
 "$room/memory" "$room/mapped" $(middles | cut -d' ' -f1) > "$room/memory_of"
 grep -v '^.*+0x' "$room/memory_of" | awk '$3 != 0 || NR == 1' | diff - <(mapped "$room/mapped")
@@ -124,8 +112,7 @@ done
 # The pieces of a file sum to its size, and its functions are as large as nm says.
 "$room/sizes" "$room/mapped" > "$room/sizes_of"
 [ "$(grep -E ' [0-9]+$' "$room/sizes_of" | awk '{ sum += $1 } END { print sum }')" = "$(stat --format %s "$room/mapped")" ] || { echo "the pieces don't sum to the size"; exit 1; }
-sizes_by_nm() { functions | python3 -c 'import sys
-for _, size, _, name in map(str.split, sys.stdin): print(int(size, 16), name)' | grep -v ' _\(init\|fini\)$'; }
+sizes_by_nm() { functions | while read -r _ size _ name; do echo "$((16#$size)) $name"; done | grep -v ' _\(init\|fini\)$'; }
 diff <(grep -vE ' [0-9]+$' "$room/sizes_of" | sort) <(sizes_by_nm | sort)
 # Both kinds of hash tables, a file's own name and its folders, and libraries with many versions.
 echo 'int one(void) { return 1; }' | gcc -shared -fPIC -x c - -o "$room/libnamed.so" -Wl,-soname,libnamed.so.1 -Wl,-rpath,/a:/b -Wl,--enable-new-dtags
@@ -151,14 +138,9 @@ for file in "$room/nm_c" /lib/x86_64-linux-gnu/libc.so.6; do
     "$CARGO_TARGET_DIR/release/examples/find" "$file" malloc qsort no_such_name | cmp - "$room/of_c"
 done
 mkdir "$room/damaged"
-python3 - "$room/damaged" << 'END'
-import pathlib
-import sys
-sys.path.insert(0, "tools")
+python 'import pathlib, sys
 from compare import damage
-for index in range(1000):
-    (pathlib.Path(sys.argv[1]) / str(index)).write_bytes(damage.damaged(1, index))
-END
+for it in range(1000): pathlib.Path(sys.argv[1], str(it)).write_bytes(damage.damaged(1, it))' "$room/damaged"
 # The tests want of each call over these a status that the list has for it.
 XMAS_ELF_DAMAGED="$room/damaged" cargo test --quiet --offline --release --manifest-path bindings/rust/Cargo.toml -- --show-output > "$room/tests" ||
     { tail -n 50 "$room/tests"; exit 1; }
@@ -204,14 +186,10 @@ if [ "${1:-}" = --compare ]; then
     (cd bindings/compare && cargo build --quiet --offline --release)
     # Both classes and both orders, too.
     mkdir "$room/worked"
-    python3 - "$room/worked" << 'END'
-import pathlib
-import sys
-sys.path.insert(0, "tools")
+    python 'import itertools, pathlib, sys
 from compare import damage
-for name, wide, order in (("a", True, "little"), ("b", True, "big"), ("c", False, "little"), ("d", False, "big")):
-    (pathlib.Path(sys.argv[1]) / name).write_bytes(damage.worked(wide, order, ""))
-END
+for wide, order in itertools.product((True, False), ("little", "big")):
+    pathlib.Path(sys.argv[1], f"{wide}-{order}").write_bytes(damage.worked(wide, order))' "$room/worked"
     "$CARGO_TARGET_DIR/release/compare" "$room"/worked/* /lib/x86_64-linux-gnu/*.so* /usr/bin/*
 fi
 

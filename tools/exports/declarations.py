@@ -3,30 +3,28 @@
 
 It writes the statuses (tools/exports/statuses.py), structs and functions in bindings/include/xmas_elf.h; error.rs, records.rs,
 ffi.rs and, from bindings/constants.toml, constants.rs in bindings/rust/src; the modules for Python
-(python_declarations.py); and calls for tests (calls.py). --check: writes nothing, and fails where a file differs, where the
-`#[repr(C)]` structs or the exported functions of crates/elf_c/src are others than those of the list, or where a list of
-statuses is another than its definition has (refusals.py)."""
+(python_declarations.py); and calls for tests. --check: writes nothing, and fails where a file differs, where the
+`#[repr(C)]` structs or the exported functions of crates/elf_c/src are others than those of the list, where a list of
+statuses is another than its definition has, or where a named number of the crates or of elf.h is another."""
+import itertools
 import pathlib
 import re
 import sys
 import textwrap
 
 sys.path.insert(1, str(pathlib.Path(__file__).resolve().parents[1]))
-import calls
 import listing
 import python_declarations
-import refusals
 import statuses
-from listing import FILLED, IN, OUT, ROOT, SIZES, SLICE, VALUE
-from pages.writing import differing, parser_of
+from listing import FILLED, IN, OUT, ROOT, SLICE, VALUE
+from pages.sources import differing, ended, parser_of
 
 HEADER = ROOT / "bindings/include/xmas_elf.h"
-RUST = ROOT / "bindings/rust/src"
+RUST, PACKAGE = ROOT / "bindings/rust/src", ROOT / "bindings/python/xmas_elf"
 SOURCES = ROOT / "crates/elf_c/src"
 FIRST, LAST = "/* The structs and functions, written by tools/exports/declarations.py. */", "/* End of the structs and functions. */"
 WIDTH = 118
 ALL_STATUSES = tuple(name for name, _, _ in statuses.statuses())
-C_NUMBERS = {"u8": "uint8_t", "u16": "uint16_t", "u32": "uint32_t", "u64": "uint64_t", "usize": "size_t"}
 
 
 # How a parameter of each kind stands in C, in a declaration and in a safe call of Rust, in what that hands on, and in the
@@ -48,7 +46,7 @@ def parameters(function, form, listed):
     """The parameters of a function in one of these forms."""
     found = []
     for one in function.parameters:
-        names = {"c": c_type(one.type, listed), "rust": rust_type(one.type, listed), "count": "size" if one.type == "u8" else "count"}
+        names = {"c": listed.c_type(one.type), "rust": listed.rust_type(one.type), "count": "size" if one.type == "u8" else "count"}
         found.append(SHAPES[one.kind][form].format(name=one.name, type=one.type, **names))
     return [part for text in found if text for part in text.split(", ")]
 
@@ -74,63 +72,41 @@ def c_comment(text, indent=""):
     return lines[:-1] + [lines[-1] + " */"]
 
 
-def c_type(name, listed):
-    return C_NUMBERS.get(name) or listed.struct(name).c_type
-
-
-def c_field(field, listed):
-    if array := re.fullmatch(r"\[u8; (\d+)\]", field.type):
-        return f"    uint8_t {field.c_name}[{array[1]}];"
-    return f"    {c_type(field.type, listed)} {field.c_name};"
-
-
 def c_struct(struct, listed):
     lines = c_comment(struct.comment) + [f"typedef struct {struct.c_type} {{"]
     for field in struct.fields:
-        lines += c_comment(field.comment, "    ") + [c_field(field, listed)]
+        array = re.fullmatch(r"\[u8; (\d+)\]", field.type)
+        member = f"uint8_t {field.c_name}[{array[1]}]" if array else f"{listed.c_type(field.type)} {field.c_name}"
+        lines += [*c_comment(field.comment, "    "), f"    {member};"]
     return lines + [f"}} {struct.c_type};", ""]
-
-
-def sentence(start, names):
-    order = ", in the order of the tests" if len(names) > 1 else ""
-    return f"{start}{order}: " + ", ".join(f"`{name}`" for name in names) + "."
 
 
 def described(function):
     """The comment of a function, with its statuses."""
     parts = [function.comment]
-    if function.statuses:
-        parts.append(sentence("Errors", function.statuses))
-    if function.item_statuses:
-        parts.append(sentence("Errors of a record", function.item_statuses))
+    for start, names in (("Errors", function.statuses), ("Errors of a record", function.item_statuses)):
+        order = ", in the order of the tests" if len(names) > 1 else ""
+        parts += [f"{start}{order}: " + ", ".join(f"`{name}`" for name in names) + "."] if names else []
     return " ".join(parts)
 
 
-def c_function(function, listed):
-    lines = c_comment(described(function))
-    start = f"{'XMAS_ELF_NODISCARD ' if function.statuses else ''}{RESULTS[function.result][0]} {function.export}("
-    return lines + laid_out(start, parameters(function, C, listed), ") XMAS_ELF_NOEXCEPT;", "") + [""]
-
-
-def c_part(listed):
-    lines = [FIRST]
+def header_text(listed, rows):
+    text, lines = HEADER.read_text(encoding="utf-8"), [FIRST]
     for struct in listed.structs:
         lines += c_struct(struct, listed)
     for function in listed.functions:
-        lines += c_function(function, listed)
-    return "\n".join(lines[:-1] + [LAST])
-
-
-def header_text(listed, rows):
-    text = HEADER.read_text(encoding="utf-8")
-    for part, first, last in (("\n".join(statuses.c_part(rows)), statuses.FIRST, statuses.LAST), (c_part(listed), FIRST, LAST)):
-        text = text[: text.index(first)] + part + text[text.index(last) + len(last) :]
+        start = f"{'XMAS_ELF_NODISCARD ' if function.statuses else ''}{RESULTS[function.result][0]} {function.export}("
+        declared = laid_out(start, parameters(function, C, listed), ") XMAS_ELF_NOEXCEPT;", "")
+        lines += [*c_comment(described(function)), *declared, ""]
+    lines[-1] = LAST
+    for part, first, last in ((statuses.c_part(rows), statuses.FIRST, statuses.LAST), (lines, FIRST, LAST)):
+        text = text[: text.index(first)] + "\n".join(part) + text[text.index(last) + len(last) :]
     return text
 
 
 # Rust: the structs, and for each export its declaration and a safe call.
 
-RECORDS_HEAD = "//! The structs of the archive. Written by tools/exports/declarations.py.\n"
+RECORDS_HEAD = "//! The structs of the archive. Written by tools/exports/declarations.py."
 FFI_HEAD = '''//! The declarations of the archive, and a safe call for each. Written by tools/exports/declarations.py.
 //!
 //! The reason is the same for each `unsafe`. During the call the export reads the slices and records that it is passed,
@@ -149,12 +125,8 @@ fn answered<T>(status: u32, value: T) -> Result<T, Error> {
 '''
 
 
-def rust_comment(text, mark="///", indent=""):
-    return wrapped(text.replace("xmas_elf_", ""), f"{indent}{mark} ", f"{indent}{mark} ")
-
-
-def rust_type(name, listed):
-    return name if name in SIZES or name.startswith("[") else listed.struct(name).rust
+def rust_comment(text, indent=""):
+    return wrapped(text.replace("xmas_elf_", ""), f"{indent}/// ", f"{indent}/// ")
 
 
 def rust_struct(struct, listed):
@@ -162,26 +134,17 @@ def rust_struct(struct, listed):
     lines = ["", *rust_comment(struct.comment), "#[repr(C)]", "#[derive(Clone, Copy, Debug, Default, PartialEq, Eq)]"]
     lines.append(f"{seen} struct {struct.rust} {{")
     for field in struct.fields:
-        lines += rust_comment(field.comment, indent="    ") + [f"    {fields_seen} {field.name}: {rust_type(field.type, listed)},"]
+        lines += rust_comment(field.comment, indent="    ") + [f"    {fields_seen} {field.name}: {listed.rust_type(field.type)},"]
     return lines + ["}"]
-
-
-def records_text(listed):
-    return RECORDS_HEAD + "\n".join(line for struct in listed.structs for line in rust_struct(struct, listed)) + "\n"
-
-
-def declaration(function, listed):
-    result = RESULTS[function.result][1].replace(" ", "\0")
-    return laid_out(f"fn {function.export}(", parameters(function, DECLARED, listed), f"){result};", "    ")
 
 
 def safe_call(function, listed):
     written = [parameter for parameter in function.parameters if parameter.kind == OUT]
-    value = rust_type(written[0].type, listed) if written else "()"
+    value = listed.rust_type(written[0].type) if written else "()"
     result = f" -> Result<{value}, Error>" if function.result == "status" else RESULTS[function.result][1]
     head = laid_out(f"pub(crate) fn {function.name}(", parameters(function, SAFE, listed), f"){result} {{".replace(" ", chr(0)), "")
     lines = ["", *rust_comment(described(function)), *head]
-    lines += [f"    let mut {one.name} = {rust_type(one.type, listed)}::default();" for one in written]
+    lines += [f"    let mut {one.name} = {listed.rust_type(one.type)}::default();" for one in written]
     call = f"{function.export}({', '.join(parameters(function, HANDED, listed))})"
     lines.append("    // SAFETY: see the head of this file.")
     if function.result == "status":
@@ -193,7 +156,8 @@ def safe_call(function, listed):
 def ffi_text(listed):
     lines = ["", 'extern "C" {']
     for function in listed.functions:
-        lines += declaration(function, listed)
+        result = RESULTS[function.result][1].replace(" ", "\0")
+        lines += laid_out(f"fn {function.export}(", parameters(function, DECLARED, listed), f"){result};", "    ")
     lines.append("}")
     for function in listed.functions:
         lines += safe_call(function, listed)
@@ -203,56 +167,135 @@ def ffi_text(listed):
 
 
 def constants_text():
-    lines, group = ["//! Numbers of the ELF standard by their names there. Written by tools/exports/declarations.py."], None
     # A few names of GNU's end in small letters.
-    lines.append("#![allow(non_upper_case_globals)]")
-    for one in listing.constants():
-        if one.group != group:
-            group = one.group
-            lines += ["", f"// {group}."]
-        value = f"{one.value:#x}" if one.value > 0xfff else str(one.value)
-        lines += [f"/// {one.comment}", f"pub const {one.name}: {one.type} = {value};"]
+    lines = ["//! Numbers of the ELF standard by their names there. Written by tools/exports/declarations.py.", "#![allow(non_upper_case_globals)]"]
+    for group, some in itertools.groupby(listing.constants(), lambda it: it.group):
+        lines += ["", f"// {group}."]
+        for one in some:
+            value = f"{one.value:#x}" if one.value > 0xfff else str(one.value)
+            lines += [f"/// {one.comment}", f"pub const {one.name}: {one.type} = {value};"]
     return "\n".join(lines) + "\n"
+
+
+# A call of each export for the tests in C and Rust, so that a new export is called without a line by hand. What the tests ask of
+# every call stands in bindings/c/every.c and bindings/rust/src/tests.rs.
+
+ROOM = 3
+RUST_CALLS_HEAD = """//! A call of each export, for the tests. Written by tools/exports/declarations.py.
+
+use crate::records::*;
+use crate::{ffi, Error};
+
+// What the calls are asked with.
+pub(crate) struct Asked<'a> {
+    pub(crate) input: &'a [u8],
+    pub(crate) header: Header,
+    pub(crate) part: Range,
+    pub(crate) table: SymbolTable,
+    pub(crate) hash: FoundTable,
+    pub(crate) addresses: AddressIndex,
+    pub(crate) name: &'a [u8],
+    pub(crate) section: u64,
+    pub(crate) index: u64,
+}
+
+// Hands on the name of each call, its answer, and the refusals that it may answer.
+pub(crate) fn every(asked: &Asked<'_>, mut heard: impl FnMut(&str, Result<(), Error>, &[Error])) {
+    let (input, header, part, table) = (asked.input, &asked.header, &asked.part, &asked.table);
+    let (hash, name, ranges) = (&asked.hash, asked.name, &[asked.part]);
+    let (address_index, numbers) = (&asked.addresses, &[asked.index, asked.section]);
+"""
+
+
+# What is handed to a parameter: of numbers but the one named `section` the index, of records but these a part of the input, and
+# of slices but these a name.
+PLACES = {"header": "header", "symbol_table": "table", "hash_table": "hash", "address_index": "address_index"}
+C_SLICES = {"input": "a->bytes, a->size", "ranges": "&a->part, 1", "words": "a->words, a->words_count", "addresses": "a->numbers, 2"}
+RUST_SLICES = {"input": "input", "ranges": "ranges", "words": "&[0, 1]", "addresses": "numbers"}
+
+
+def number_for(parameter):
+    return "section" if parameter.name == "section" else "index"
+
+
+def c_call(function, listed):
+    """A function that makes a call; what it writes goes into the next output."""
+    place, arguments = 0, []
+    for one in function.parameters:
+        written = f"out[{place}].of_{one.type}"
+        arguments.append({
+            VALUE: f"({listed.c_type(one.type)})a->{number_for(one)}",
+            IN: f"&a->{PLACES.get(one.type, 'part')}",
+            SLICE: C_SLICES.get(one.name, "a->name, a->name_size"),
+            OUT: f"&{written}[0]",
+            FILLED: f"{written}, {ROOM}",
+        }[one.kind])
+        place += one.kind in (OUT, FILLED)
+    call = f"{function.export}({', '.join(arguments)})"
+    lines = [f"static uint32_t any_{function.name}(const struct asked *a, union output *out)", "{"]
+    if function.result == "status":
+        return [*lines, *["    (void)out;"] * (place == 0), f"    return {call};", "}"]
+    return [*lines, f"    (void){call};", "    return XMAS_ELF_OK;", "}"]
+
+
+def c_calls_text(listed):
+    written = dict.fromkeys(one.type for function in listed.functions for one in function.parameters if one.kind in (OUT, FILLED))
+    lines = ["/* A call of each export, by the parts of a `struct asked`. Written by tools/exports/declarations.py. */", ""]
+    lines += ["/* What a call writes: its first and its second output. */", "union output {"]
+    lines += [*(f"    {listed.c_type(kind)} of_{kind}[{ROOM}];" for kind in written), "};", ""]
+    rows = []
+    for function in listed.functions:
+        lines += c_call(function, listed)
+        statuses = ["XMAS_ELF_OK", *map(listing.constant, function.statuses)]
+        rows.append(f'    {{"{function.name}", any_{function.name}, {{{", ".join(statuses)}}}, {len(statuses)}}},')
+    longest = 1 + max(len(function.statuses) for function in listed.functions)
+    lines += ["", "static const struct any {", "    const char *name;", "    uint32_t (*call)(const struct asked *, union output *);"]
+    lines += [f"    uint32_t answers[{longest}];", "    size_t answers_count;", "} every[] = {", *rows, "};"]
+    return "\n".join(lines) + "\n"
+
+
+def rust_calls_text(listed):
+    lines = []
+    for function in listed.functions:
+        arguments = ", ".join({
+            VALUE: f"asked.{number_for(one)}" + ("" if one.type == "u64" else f" as {listed.rust_type(one.type)}"),
+            IN: PLACES.get(one.type, "part"),
+            SLICE: RUST_SLICES.get(one.name, "name"),
+            FILLED: f"&mut [{listed.rust_type(one.type)}::default(); {ROOM}]",
+        }[one.kind] for one in function.parameters if one.kind != OUT)
+        call = f"ffi::{function.name}({arguments})"
+        other = [f"    {'let _size = ' if function.result == 'size' else ''}{call};", "    let answer = Ok(());"]
+        lines += [f"    let answer = {call}.map(|_| ());"] if function.result == "status" else other
+        lines.append(f'    heard("{function.name}", answer, &[{", ".join(f"Error::{name}" for name in function.statuses)}]);')
+    return RUST_CALLS_HEAD + "\n".join(lines) + "\n}\n"
 
 
 # The sources.
 
+ELF_H = pathlib.Path("/usr/include/elf.h")
+CONSTANT = re.compile(r"/// `(\w+)`[^\n]*\n(?:///[^\n]*\n)*pub const \w+: \w+ = (\w+);")
 EXPORT = re.compile(r'#\[unsafe\(no_mangle\)\]\s+pub extern "C" fn (\w+)\s*\(([^)]*)\)\s*(?:-> (\w+))?', re.S)
 STRUCT = re.compile(r"#\[repr\(C\)\]\s+(?:#\[[^\]]*\]\s+)*pub struct (\w+)(?:<[^>]*>)? \{(.*?)^\}", re.S | re.M)
 
 
-def parts_of(text):
-    """The `name: type` items of a list of parameters or fields."""
-    lines = [line.split("//")[0] for line in text.splitlines()]
-    return re.findall(r"(?:pub )?(\w+): (&(?:mut )?(?:\[\w+\]|\w+)|\[[^\]]*\]|\w+)", " ".join(lines))
-
-
-def source_types(text, listed):
-    """A type of the sources with the structs by their names in the list."""
+def parts_of(text, listed):
+    """The `name: type` items of a list of parameters or fields, with the structs by their names in the list."""
     names = {struct.source: struct.name for struct in listed.structs}
-    return re.sub(r"\b[A-Z]\w*", lambda word: names.get(word[0], word[0]), text)
-
-
-def sources():
-    return "\n".join(file.read_text(encoding="utf-8") for file in sorted(SOURCES.rglob("*.rt")))
-
-
-def exported(text, listed):
-    results = {"u32": "status", "usize": "size", "": "none"}
-    return {
-        name: ([f"{part}: {source_types(kind, listed)}" for part, kind in parts_of(parameters)], results.get(result, result))
-        for name, parameters, result in EXPORT.findall(text)
-    }
+    lines = " ".join(line.split("//")[0] for line in text.splitlines())
+    found = re.findall(r"(?:pub )?(\w+): (&(?:mut )?(?:\[\w+\]|\w+)|\[[^\]]*\]|\w+)", lines)
+    return [f"{name}: " + re.sub(r"\b[A-Z]\w*", lambda word: names.get(word[0], word[0]), kind) for name, kind in found]
 
 
 def differing_sources(listed):
     """What the sources and the list do not share."""
-    text = sources()
-    there = {name: [f"{part}: {source_types(kind, listed)}" for part, kind in parts_of(body)] for name, body in STRUCT.findall(text)}
+    text = "\n".join(file.read_text(encoding="utf-8") for file in sorted(SOURCES.rglob("*.rt")))
+    results = {"u32": "status", "usize": "size", "": "none"}
+    there = {name: parts_of(body, listed) for name, body in STRUCT.findall(text)}
+    exported = {name: (parts_of(given, listed), results.get(result, result)) for name, given, result in EXPORT.findall(text)}
     here = {struct.source: [f"{field.name}: {field.type}" for field in struct.fields] for struct in listed.structs}
     functions = {one.export: (parameters(one, SOURCE, listed), one.result) for one in listed.functions}
     found = []
-    for name, (ours, theirs) in {"structs": (here, there), "functions": (functions, exported(text, listed))}.items():
+    for name, (ours, theirs) in {"structs": (here, there), "functions": (functions, exported)}.items():
         for key in sorted(ours.keys() | theirs.keys()):
             if ours.get(key) != theirs.get(key):
                 found.append(f"{name}: {key}: the list has {ours.get(key)}, the source {theirs.get(key)}")
@@ -261,21 +304,40 @@ def differing_sources(listed):
     return found
 
 
+def differing_numbers():
+    """How many named numbers of the crates, and of elf.h, if it is here, bindings/constants.toml has too, and those that differ. A
+    constant of crates/NAME/src has the name in backticks with which its doc begins; a relocation type has its name in the
+    definition of elf_linking too."""
+    numbers, text = {it.name: it.value for it in listing.constants()}, lambda path: path.read_text(encoding="utf-8", errors="replace")
+    places = [(path, *it) for path in sorted(ROOT.glob("crates/*/src/**/*.rt")) for it in CONSTANT.findall(text(path))]
+    path = ROOT / "crates/elf_linking/specs/RelocationNames.antt"
+    places += [(path, name, number) for number, name in re.findall(r'\((\d+), codes "(\w+)"\)', text(path))]
+    said = re.findall(r"^#define\s+(\w+)\s+(0x[0-9a-fA-F]+|\d+)\b", text(ELF_H), re.M) if ELF_H.exists() else []
+    known = [it for it in [*places, *((ELF_H, *it) for it in said)] if it[1] in numbers]
+    return len(known), [f"{path}: {name} is {number}, in the list {numbers[name]}"
+                        for path, name, number in known if numbers[name] != int(number.replace("_", ""), 0)]
+
+
 def main():
     is_check, listed, rows = parser_of(__doc__).parse_args().check, listing.read(), statuses.statuses()
-    statuses.check_numbers_kept(rows)
-    wanted = {HEADER: header_text(listed, rows), RUST / "records.rs": records_text(listed), RUST / "ffi.rs": ffi_text(listed)}
+    for line in statuses.PINNED.read_text().splitlines():
+        if line not in statuses.numbered(rows):
+            sys.exit(f"{statuses.PINNED}: {line}: a number never changes, and here it has another name")
+    wanted = {HEADER: header_text(listed, rows), RUST / "ffi.rs": ffi_text(listed)}
+    wanted[RUST / "records.rs"] = "\n".join([RECORDS_HEAD, *(line for it in listed.structs for line in rust_struct(it, listed)), ""])
     wanted |= {statuses.PINNED: "\n".join(statuses.numbered(rows)) + "\n", RUST / "error.rs": "\n".join(statuses.rust_part(rows)) + "\n"}
-    wanted |= {RUST / "constants.rs": constants_text(), **python_declarations.texts(wanted[HEADER])}
-    wanted[RUST / "calls.rs"] = calls.rust_text(listed, lambda name: rust_type(name, listed))
-    wanted[ROOT / "bindings/c/calls.h"] = calls.c_text(listed, lambda name: c_type(name, listed))
+    wanted |= {RUST / "constants.rs": constants_text(), PACKAGE / "constants.py": python_declarations.constants()}
+    wanted[PACKAGE / "_declarations.py"] = python_declarations.declarations(wanted[HEADER])
+    wanted |= {RUST / "calls.rs": rust_calls_text(listed), ROOT / "bindings/c/calls.h": c_calls_text(listed)}
     failed = differing(wanted, is_check)
     if is_check:
         named = {name for one in listed.functions for name in one.statuses + one.item_statuses + one.never}
         failed += [f"the list names the status {name}, which is none" for name in sorted(named - set(ALL_STATUSES))]
-        failed += differing_sources(listed) + refusals.differing(listed)
-    print("\n".join(failed + [f"{len(listed.functions)} exports, {len(listed.structs)} structs, {len(failed)} differences"]))
-    return 1 if failed else 0
+        failed += differing_sources(listed) + statuses.differing(listed)
+    count, others = differing_numbers()
+    failed += others if is_check else []
+    said = f"{len(listed.functions)} exports, {len(listed.structs)} structs, {count} named numbers"
+    return ended(failed, f"{said}, {len(failed)} differences")
 
 
 if __name__ == "__main__":

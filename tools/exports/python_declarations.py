@@ -3,13 +3,13 @@ statuses of the archive for ctypes and struct, and constants.py.
 
 Records and exports are those of bindings/exports.toml, statuses those of the header for C, constants those of
 bindings/constants.toml."""
+import itertools
 import re
 import textwrap
 
 import listing
-from listing import FILLED, ROOT, SLICE, VALUE
+from listing import FILLED, SLICE, VALUE
 
-PACKAGE = ROOT / "bindings/python/xmas_elf"
 LETTERS = {"u8": "B", "u16": "H", "u32": "I", "u64": "Q"}
 KINDS = {"u8": "c_uint8", "u16": "c_uint16", "u32": "c_uint32", "u64": "c_uint64", "usize": "c_size_t"}
 RESULTS = {"status": "c_uint32", "size": "c_size_t", "none": "None"}
@@ -103,21 +103,10 @@ def record(struct, listed):
 
 
 def export(function):
-    kinds = []
-    for parameter in function.parameters:
-        kinds.append(KINDS[parameter.type] if parameter.kind == VALUE else "c_void_p")
-        if parameter.kind in (SLICE, FILLED):
-            kinds.append("c_size_t")
-    return RESULTS[function.result], kinds
-
-
-def exports(listed):
-    lines = ["", "# What each export answers, and its parameters: a slice is a pointer and a count."]
-    lines.append("EXPORTS: Dict[str, Tuple[Any, Tuple[Any, ...]]] = {")
-    for function in listed.functions:
-        result, kinds = export(function)
-        lines.append(f'    "{function.export}": ({result}, ({", ".join(kinds)},)),')
-    return lines + ["}", ""]
+    """The type of what an export answers, and those of its parameters: a slice is a pointer and a count."""
+    counted = lambda it: ["c_void_p", "c_size_t"] if it.kind in (SLICE, FILLED) else ["c_void_p"]
+    kinds = [[KINDS[it.type]] if it.kind == VALUE else counted(it) for it in function.parameters]
+    return RESULTS[function.result], [kind for some in kinds for kind in some]
 
 
 def statuses(text):
@@ -137,25 +126,23 @@ def declarations(header):
     lines = [head.replace("{groups}", ", ".join(sorted(set(NAMED.values()))))]
     for struct in listed.structs:
         lines += record(struct, listed)
-    return "\n".join(lines + exports(listed) + statuses(header)) + "\n"
+    lines += ["", "# What each export answers, and its parameters: a slice is a pointer and a count."]
+    lines.append("EXPORTS: Dict[str, Tuple[Any, Tuple[Any, ...]]] = {")
+    for function in listed.functions:
+        result, kinds = export(function)
+        lines.append(f'    "{function.export}": ({result}, ({", ".join(kinds)},)),')
+    return "\n".join([*lines, "}", "", *statuses(header)]) + "\n"
 
 
 def constants():
-    listed = listing.constants()
-    lines, group = [NUMBERS_HEAD], ""
-    for constant in listed:
-        if constant.group != group:
-            group = constant.group
-            lines += ["", f"class {constant.prefix}({'Flags' if constant.is_flag else 'Number'}):", *doc(f"{group}."), ""]
-        value = f"{constant.value:#x}" if constant.value > 0xFFFF else str(constant.value)
-        lines += [f"    {constant.name} = {value}", *doc(constant.comment)]
-        if constant is listed[-1] or listed[listed.index(constant) + 1].group != group:
-            lines.append("")
+    lines = [NUMBERS_HEAD]
+    for group, some in itertools.groupby(listing.constants(), lambda it: it.group):
+        some = list(some)
+        lines += ["", f"class {some[0].prefix}({'Flags' if some[0].is_flag else 'Number'}):", *doc(f"{group}."), ""]
+        for it in some:
+            value = f"{it.value:#x}" if it.value > 0xFFFF else str(it.value)
+            lines += [f"    {it.name} = {value}", *doc(it.comment)]
+        lines.append("")
     lines.append("")
-    lines += [f"{it.name} = {it.prefix}.{it.name}" for it in listed]
+    lines += [f"{it.name} = {it.prefix}.{it.name}" for it in listing.constants()]
     return "\n".join(lines) + "\n"
-
-
-def texts(header):
-    """The two modules, by the header for C."""
-    return {PACKAGE / "_declarations.py": declarations(header), PACKAGE / "constants.py": constants()}

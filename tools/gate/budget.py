@@ -6,13 +6,10 @@
                                          stored output of `.ci/run`, or of its parts
     tools/gate/budget.py check           fails where that table's total passes the budget, or its numbers don't add up
 
-`rt ci` proves, tests and tries edits of many crates side by side and doesn't say what each took. So while it runs,
-the processes below it are looked at twice a second: a prover's command line names the crate, and whether it proves
-the tests; its folder tells a must-fail edit. What stands between two looks counts as `rest`. `tools/gate/wrong_bodies.py`
-says itself what the checks of each crate took.
-
-Two processors of a machine may be one core, and others may use it: then each takes up to twice the seconds. So a short
-loop is timed now and then, and the page says what it took.
+`rt ci` doesn't say what each of its parts took. So while it runs, the processes below it are looked at twice a second: a prover's
+command line names the crate, and whether it proves the tests; its folder tells a must-fail edit. What lies between two looks
+counts as `rest`. `tools/gate/wrong_bodies.py` says itself what the checks of each crate took. Other load may double the seconds,
+so a short loop is timed now and then, and the page says what it took.
 """
 import collections
 import contextlib
@@ -86,12 +83,6 @@ class Looks:
             process = stats[process][0]
         return found if process == self.top else None
 
-    def sums(self) -> collections.Counter:
-        sums = collections.Counter()
-        for part, seconds in self.taken.values():
-            sums[part] += seconds
-        return sums
-
 
 def loop() -> float:
     """How long a loop takes, in milliseconds of its processor, while something else runs."""
@@ -111,8 +102,8 @@ def run(words: list) -> int:
 
     with subprocess.Popen(words) as started:
         looks = Looks(started.pid)
-        watching = [threading.Thread(target=repeat, args=(SAMPLES, lambda: took.append(loop())))]
-        watching += [threading.Thread(target=repeat, args=(LOOKS, looks.look))] if words[0] == "rt" else []
+        repeated = [(SAMPLES, lambda: took.append(loop())), *([(LOOKS, looks.look)] if words[0] == "rt" else [])]
+        watching = [threading.Thread(target=repeat, args=it) for it in repeated]
         for it in watching:
             it.start()
         _, status, used = os.wait4(started.pid, 0)
@@ -120,7 +111,9 @@ def run(words: list) -> int:
         is_done.set()
         for it in watching:
             it.join()
-    whole, sums = used.ru_utime + used.ru_stime, looks.sums()
+    whole, sums = used.ru_utime + used.ru_stime, collections.Counter()
+    for part, seconds in looks.taken.values():
+        sums[part] += seconds
     for part, seconds in sorted(sums.items()):
         print(f"--   {part}: {seconds:.0f} processor s")
     if sums:
@@ -194,27 +187,22 @@ def write(paths) -> int:
 
 def check() -> int:
     page = PAGE.read_text(encoding="utf-8")
-    total = TOTAL.search(page)
+    total, rows = TOTAL.search(page), re.findall(r"^\| (?!\*\*total|Part).*\| ([\d.]+) \|$", page, re.M)
     if not total:
         print("docs/GATE.md: the table has no total")
         return 1
-    rows = re.findall(r"^\| (?!\*\*total|Part).*\| ([\d.]+) \|$", page, re.M)
     whole, parts = float(total[1]), sum(map(float, rows))
     # Each row is rounded.
     if abs(whole - parts) > 0.1 * (len(rows) + 1):
         print(f"docs/GATE.md: the parts are {parts:.1f} processor minutes, and the total is {whole:.1f}")
         return 1
-    print(f"the gate took {whole:.1f} of {BUDGET} processor minutes when it was last measured")
-    if whole > BUDGET:
-        print("FAILED: that is more than the budget")
+    print(f"the gate took {whole:.1f} of {BUDGET} processor minutes when it was last measured" + (": FAILED" if whole > BUDGET else ""))
     return 1 if whole > BUDGET else 0
 
 
 def main(words: list) -> int:
-    if words[:1] == ["run"] and len(words) > 1:
-        return run(words[1:])
-    if words[:1] == ["write"] and len(words) > 1:
-        return write(words[1:])
+    if words[:1] in (["run"], ["write"]) and len(words) > 1:
+        return {"run": run, "write": write}[words[0]](words[1:])
     if words == ["check"]:
         return check()
     print(__doc__, file=sys.stderr)

@@ -3,12 +3,10 @@
 
     tools/gate/built.py
 
-`rt ci` of some kits leaves a library in out/rlib without the sum of its sources, its stamp, and `rt check` of a crate
-above proves and builds it once more then. This writes the stamps, of libraries that are newer than their sources. Of a
-kit that knows no stamps nothing is written.
+`rt ci` of some kits leaves a library in out/rlib without its stamp, the sum of its sources, and `rt check` of a crate above
+builds it once more then. This writes the stamps of libraries that are newer than their sources; none of a kit that has none.
 """
-import importlib.machinery
-import importlib.util
+import importlib
 import os
 import pathlib
 import shutil
@@ -19,18 +17,9 @@ ROOT = pathlib.Path(__file__).resolve().parents[2]
 
 def kit():
     """The part of the kit that knows crates and their stamps."""
-    place = pathlib.Path(shutil.which("rt")).resolve().parent / "rtlib.py"
-    loader = importlib.machinery.SourceFileLoader("rtlib", str(place))
-    module = importlib.util.module_from_spec(importlib.util.spec_from_loader("rtlib", loader))
-    sys.dont_write_bytecode, sys.modules["rtlib"] = True, module
-    loader.exec_module(module)
-    return module
-
-
-def newest(folder: str) -> float:
-    """When the last of a crate's sources changed."""
-    files = (it for part in ("src", "specs", "proofs") for it in pathlib.Path(folder, part).rglob("*") if it.is_file())
-    return max((it.stat().st_mtime for it in files), default=0)
+    sys.dont_write_bytecode = True
+    sys.path.append(str(pathlib.Path(shutil.which("rt")).resolve().parent))
+    return importlib.import_module("rtlib")
 
 
 def main() -> int:
@@ -39,7 +28,8 @@ def main() -> int:
     try:
         for crate in kit().crates_below(str(ROOT)):
             folder, built = pathlib.Path(crate.folder), pathlib.Path(crate.rlib)
-            sources = max(newest(it.folder) for it in [crate, *crate.below()])
+            parts = [pathlib.Path(it.folder, part) for it in [crate, *crate.below()] for part in ("src", "specs", "proofs")]
+            sources = max((file.stat().st_mtime for part in parts for file in part.rglob("*") if file.is_file()), default=0)
             # Files that an earlier run on this machine built and kept are older than the folder that they were put into.
             if (built / "format").is_file() and built.stat().st_mtime > sources and not crate.is_built():
                 (folder / "out" / "rlib" / "stamp").write_text(crate.stamp(), encoding="utf-8")

@@ -4,16 +4,15 @@ stand in, and the crates above them.
 
     tools/gate/changed.py [COMMIT]        COMMIT: by default where this branch left origin/main, else the last commit
 
-Each line is `bodies CRATE`, `contracts CRATE` or `data CRATE` for a crate that changed, `function CRATE FILE PATH`
-for a function of it, and `above CRATE`, lowest first. A change of bodies alone changes nothing that a proof of
-another function rests on. Any other change of a source, a definition or a lemma counts as one of contracts, and
-what the gate alone reads of a crate (its wrong bodies, the stored run) as one of data.
+Each line is `bodies CRATE`, `contracts CRATE` or `data CRATE` for a crate that changed, `function CRATE FILE PATH` for a function
+of it, and `above CRATE`, lowest first. A change of bodies alone changes nothing that a proof of another function rests on. Any
+other change of a source, a definition or a lemma counts as one of contracts, and of what the gate alone reads as one of data.
 """
-import dataclasses
 import pathlib
 import re
 import subprocess
 import sys
+import types
 
 sys.path.insert(0, str(pathlib.Path(__file__).resolve().parents[1]))
 from pages import sources
@@ -21,14 +20,6 @@ from pages.definitions import Reader
 from pages.sources import ROOT
 
 HUNK = re.compile(r"^@@ -\d+(?:,\d+)? \+(\d+)(?:,(\d+))? @@", re.M)
-
-
-@dataclasses.dataclass
-class Change:
-    """What changed in a crate: its kind, and the functions that differ."""
-
-    kind: str = "data"
-    functions: list = dataclasses.field(default_factory=list)
 
 
 def git(*words: str, check=True) -> str:
@@ -39,10 +30,7 @@ def base(given=None) -> str:
     """The commit that the files are compared with."""
     if given:
         return git("rev-parse", "--verify", given + "^{commit}").strip()
-    try:
-        return git("merge-base", "HEAD", "origin/main").strip()
-    except subprocess.CalledProcessError:
-        return git("rev-parse", "HEAD").strip()
+    return (git("merge-base", "HEAD", "origin/main", check=False) or git("rev-parse", "HEAD")).strip()
 
 
 def changed_files(commit: str) -> list:
@@ -61,7 +49,7 @@ def changed_lines(commit: str, path: str):
     return [line for first, count in spans for line in (range(first, first + count) if count else (first, first + 1))]
 
 
-def read_source(change: Change, crate, commit: str, path: str):
+def read_source(change, crate, commit: str, path: str):
     """Adds what changed in a source file of a crate."""
     file, lines = path.split("/", 2)[2], changed_lines(commit, path)
     if lines is None:
@@ -86,7 +74,8 @@ def changes(commit: str) -> dict:
         _, name, part, *_ = path.split("/", 2) + [""]
         if not (ROOT / "crates" / name / "src").is_dir():
             continue
-        change = found.setdefault(name, Change())
+        # Its kind, and the functions that differ.
+        change = found.setdefault(name, types.SimpleNamespace(kind="data", functions=[]))
         if part.startswith("src/") and part.endswith(".rt"):
             read_source(change, sources.Crate(ROOT / "crates" / name), commit, path)
         elif part.startswith(("specs/", "proofs/", "src/")):
@@ -98,7 +87,7 @@ class Reach:
     """Which functions have clauses that lead to a definition that changed since a commit. An import alone counts for none."""
 
     def __init__(self, commit: str):
-        self.reader, self.edges, self.hot = Reader(), {}, set()
+        self.reader, self.known = Reader(), {}
         # The members of a trait count for every type.
         self.reader.types = None
         self.lines = {ROOT / path: changed_lines(commit, path) for path in changed_files(commit) if path.endswith((".antt", ".rt"))}
@@ -111,33 +100,30 @@ class Reach:
         own = (line - one.line for line in lines)
         return any(0 <= at < len(text) and not text[at].lstrip().startswith(("--", "//")) for at in own)
 
-    def read(self, found: list) -> set:
-        """Notes definitions and all that they lead to; gives their places."""
-        left = list(found)
+    def leads_to_change(self, found) -> bool:
+        """Whether one of these definitions changed, or one that they lead to."""
+        left, seen = list(found), set()
         while left:
             one = left.pop()
             place = (one.path, one.line)
-            if place in self.edges:
-                continue
-            local = self.reader.spec(one.path) if one.path.suffix == ".antt" else {}
-            used = list(self.reader.used(one.text, one.uses, local)) if one.kind != "type" else []
-            self.edges[place] = {(it.path, it.line) for it in used}
-            self.hot |= {place} if self.is_changed(one) else set()
-            left += used
-        return {(it.path, it.line) for it in found}
+            if place not in self.known:
+                self.known[place] = self.is_changed(one), [] if one.kind == "type" else [*self.reader.used_by(one)]
+            is_changed, used = self.known[place]
+            if is_changed:
+                return True
+            left += [] if place in seen else used
+            seen.add(place)
+        return False
 
     def functions(self, crates) -> set:
         """The crate, file and path of each function of some crates whose clauses lead to a changed definition."""
-        led = {}
+        found = set()
         for source in (it for (crate, _), it in self.reader.sources.items() if crate in crates):
             for one in source.functions:
                 text, uses, _, _ = self.reader.contract(source, one)
-                led[source.crate, one.file, one.path] = self.read(list(self.reader.used(text, uses, {})))
-        more = True
-        while more:
-            more = {place for place, used in self.edges.items() if used & self.hot} - self.hot
-            self.hot |= more
-        return {it for it, places in led.items() if places & self.hot}
+                if self.leads_to_change(self.reader.used(text, uses, {})):
+                    found.add((source.crate, one.file, one.path))
+        return found
 
 
 def main() -> int:

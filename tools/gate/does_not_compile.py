@@ -1,9 +1,8 @@
 #!/usr/bin/env python3
 """Wants each edit of crates/*/does-not-compile/ to be refused by the compiler.
 
-An edit is applied to a copy of the repository, and `rt try --test` of its crate, or of the crate that its
-line `tests:` names where its own has no test, must end with the error that its line `want:` names: it compiles the
-crate, and proves nothing. Run it at the top of the repository: tools/gate/does_not_compile.py
+`rt try --test` compiles a crate, and proves nothing. In a copy of the repository with the edit it must end with the error that
+the line `want:` names: in the edit's crate, or in the one that its line `tests:` names where its own has no test.
 """
 import pathlib
 import re

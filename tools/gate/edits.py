@@ -1,11 +1,18 @@
-"""Wrong bodies: edits of a crate's functions, and the crate with some of them made."""
+"""Wrong bodies: edits of a crate's functions, the crate with some of them made, and copies of a repository in which it is checked."""
 import collections
+import contextlib
 import dataclasses
+import functools
+import os
 import pathlib
 import re
+import resource
+import shutil
+import subprocess
 import sys
 
 sys.path.insert(0, str(pathlib.Path(__file__).resolve().parents[1]))
+from gate import built
 from pages.sources import Crate, Function
 
 # The edits of one batch share what a check costs before the first goal. With more the check takes too long (LIMIT).
@@ -17,20 +24,43 @@ ANSWER = re.compile(r"(?:\./)?proofs/(\S+)/\w+\.antt:\d+:\d+: error: (.*)")
 # A proof that only cites a name which the edit took away says nothing of the contract.
 LOST = re.compile(r"has no field|is not in scope|has no `|was not admitted")
 CLAUSE = re.compile(r"( +)(ensures|requires)(?: (\w+))? \{")
+# How many processor seconds the check of a batch may take, or that of one edit, and that of a whole crate with an edit.
+LIMIT, LIMIT_OF_WHOLE = 480, 1800
+
+# What is said of a goal of a contract or of an invariant.
+CONTRACT = re.compile(r"what the function ensures|the invariant of the loop|the loop's invariant")
+# A refused line in a function's proof: where there is one, the check doesn't print the goals of the function that stay
+# open, which takes as long as it took to find them. That they are open is told all the same.
+UNPRINTED = "\nunprinted : ⊥\nunprinted = tt\n"
+# Lines of a check: an error of the front end, the last one, and a name that it doesn't know.
+FAULT = re.compile(r"(?:\./)?(src/\S+?):(\d+):\d+: error")
+REACHED = re.compile(r"^(?:logic=(proved|not-proved)|only=\d+ (?:proved|holes)=\d+$)", re.M)
+NO_FUNCTION = re.compile(r"^rattle: error: `\w+` has no function `(\S+)`", re.M)
+# The hole that the proofs of all stand-ins rest on, one of these proofs.
+UNPROVED = """-- Stands for the proofs of functions that aren't tried.
+pub any : {A : Type 2} → A
+any = ?
+"""
+STAND_IN = """use Rattle.{crate}.proofs.Unproved.{{any}}
+use Rattle.{crate}.proofs.{path}.Statement.{{statement}}
+
+pub {name}_spec : {{M : Type 1}} → statement M
+{name}_spec = any
+"""
 
 
 @dataclasses.dataclass
 class Edit:
-    """A wrong body: which texts of which files it changes, and the functions that these stand in."""
+    """A wrong body: which texts of which files it changes, the functions that these stand in, why it can't be tried, whether each
+    changed line stands in a function's body, so that no other function can see the change, and the clause that it breaks, if it
+    names one."""
 
     crate: str
     name: str
     changes: list
     functions: set
     fault: str = ""
-    # whether each changed line stands in a function's body, so that no other function can see the change
     inside: bool = True
-    # the clause that it breaks, if it names one
     clause: str = ""
 
     def label(self) -> str:
@@ -147,17 +177,9 @@ class EditedCrate(Crate):
         return Tried(self, texts, [*now.values(), *copies], of, copies, set() if whole else in_place)
 
 
-@dataclasses.dataclass
-class Tried:
+class Tried(collections.namedtuple("Tried", "crate texts functions of copies in_place")):
     """A crate with edits made: the files that changed, the functions where they stand there, those by which each edit is
     judged, of the wrong ones that stand beside a right one, that one, and those that are edited in place of a stand-in."""
-
-    crate: EditedCrate
-    texts: dict
-    functions: list
-    of: dict
-    copies: dict
-    in_place: set
 
     def function_at(self, file: str, line: int):
         held = [it for it in self.functions if it.file == file and it.first <= line <= it.last]
@@ -207,3 +229,216 @@ def batches_of(crate: EditedCrate, edits) -> list:
         batch = next((it for it in batches if joins(it, edit)), None)
         batch.append(edit) if batch else batches.append([edit])
     return batches
+
+
+class Checked(collections.namedtuple("Checked", "said status seconds is_cut")):
+    """What a check said, its status, its processor seconds, and whether it was ended at its limit."""
+
+    def reached(self):
+        """The line with which the check of the crate itself ended: libraries below that are stale are built before it, and
+        have such lines of their own. None where the front end rejects the crate, or where the check was ended."""
+        found = [*REACHED.finditer(self.said)]
+        return found[-1] if found and not self.is_cut and not FAULT.search(self.said, found[-1].end()) else None
+
+    def fault(self) -> str:
+        """Why it came to no end."""
+        return next((it for it in self.said.split("\n") if "error" in it), self.said.strip().split("\n")[-1])
+
+
+kit = functools.cache(built.kit)
+
+
+def check(folder: pathlib.Path, *words: str, verb="check", keeps=True, limit=None) -> Checked:
+    """Checks the crate in a folder, or does what else `rt` does with a crate; what it says, and what it takes. A process that
+    takes more processor seconds than the limit is ended. `rt check` keeps what it proves, and for long checks starts several
+    processes one after another, each of which loads the libraries: not where nothing is to be kept for a later check."""
+    ran = ["rt", verb, *words]
+    # Another kit may have other names for these.
+    with contextlib.suppress(AttributeError, OSError, StopIteration, SystemExit, TypeError):
+        if not keeps:
+            crate = next(it for it in kit().crates_below(str(folder.parent.parent)) if os.path.samefile(it.folder, folder))
+            ran = [kit().RATTLE, verb, *crate.words(list(words), keeps=False)]
+    kept = {"stdout": subprocess.PIPE, "stderr": subprocess.STDOUT, "text": True, "errors": "replace"}
+    limited = limit and (lambda: resource.setrlimit(resource.RLIMIT_CPU, (limit, limit + 5)))
+    with subprocess.Popen(ran, cwd=folder, preexec_fn=limited, **kept) as started:
+        said = started.stdout.read()
+        _, status, used = os.wait4(started.pid, 0)
+        started.returncode = os.waitstatus_to_exitcode(status)
+    seconds = used.ru_utime + used.ru_stime
+    # A check that comes to its end has the status 0 or 1.
+    return Checked(said, started.returncode, seconds, bool(limit) and seconds > 0.95 * limit and started.returncode not in (0, 1))
+
+
+def copied(source: str, place: str):
+    """Copies a file of kept work, by a link where a check replaces such a file and never changes it."""
+    return os.link(source, place) if source.endswith(".oantt") else shutil.copy2(source, place)
+
+
+def written(file: pathlib.Path, text: str):
+    """Writes a file into a folder that may not be there yet."""
+    file.parent.mkdir(parents=True, exist_ok=True)
+    file.write_text(text, encoding="utf-8")
+
+
+class Room:
+    """A copy of the repository in which one crate is changed and checked again and again: with stand-ins for all
+    functions that aren't tried, or as it stands."""
+
+    def __init__(self, root: pathlib.Path, crate: EditedCrate, below, place: pathlib.Path, kept=None, whole=False):
+        self.root, self.crate, self.below, self.is_whole = root, crate, below, whole
+        self.folder, self.clean = place / "crates" / crate.name, place / "clean"
+        # what a check of the crate kept with which the checks here can begin, if it kept anything
+        self.kept = kept if kept and kept.is_dir() else None
+        self.words = [] if whole else ["--allow-holes"]
+        # what the checks took
+        self.seconds = 0
+        place.mkdir()
+        needed = [*below, crate.name]
+        lines = (root / "crates.txt").read_text(encoding="utf-8").splitlines(keepends=True)
+        (place / "crates.txt").write_text("".join(it for it in lines if re.split(r"[ :]", it)[0] in needed), encoding="utf-8")
+        for name in needed:
+            source, copy = root / "crates" / name, place / "crates" / name
+            for part in ("src", "specs", "proofs", *(["out/rlib"] if name != crate.name else [])):
+                if (source / part).is_dir():
+                    shutil.copytree(source / part, copy / part)
+        if not whole:
+            self.make_stand_ins()
+        shutil.copytree(self.folder, self.clean)
+
+    def make_stand_ins(self):
+        """Writes the stand-ins, and for each a proof that rests on the one hole."""
+        proofs = self.folder / "proofs"
+        written(proofs / "Unproved.antt", UNPROVED)
+        with open(proofs / "Lib.antt", "a", encoding="utf-8") as modules:
+            modules.write("pub mod Unproved\n")
+        for file, text in self.crate.with_stand_ins(set()).items():
+            written(self.folder / file, text)
+        for one in filter(self.crate.stands_in, self.crate.functions):
+            path = self.path_of(one)
+            for parts in [*self.crate.proofs_of(one), path]:
+                shutil.rmtree(proofs.joinpath(*parts), ignore_errors=True)
+            written(proofs.joinpath(*path, "Proof.antt"), STAND_IN.format(crate=self.crate.name, path=".".join(path), name=path[-1]))
+
+    def path_of(self, one: Function) -> list:
+        """The path of a function below its crate, which is that of the folder of its proof."""
+        return self.crate.told_path(one).split("::")[1:]
+
+    def make(self, tried: Tried):
+        """Makes edits in the crate as it was before any, over what a check of it kept, with the proofs of the functions that are
+        edited in place of their stand-ins, and of those beside others."""
+        shutil.rmtree(self.folder)
+        shutil.copytree(self.clean, self.folder)
+        if self.kept:
+            shutil.copytree(self.kept, self.folder / "out" / "incremental", copy_function=copied)
+        for file, text in tried.texts.items():
+            written(self.folder / file, text)
+        proofs = self.folder / "proofs"
+        for one in filter(self.crate.stands_in, tried.in_place):
+            shutil.rmtree(proofs.joinpath(*self.path_of(one)))
+            for parts in self.crate.proofs_of(one):
+                shutil.copytree(self.crate.folder.joinpath("proofs", *parts), proofs.joinpath(*parts))
+        for copy, one in tried.copies.items():
+            self.copy_proofs(one, copy.name())
+
+    def copy_proofs(self, one: Function, name: str):
+        """Copies the proof of a function and those of its closures for one of another name."""
+        *above, old = self.path_of(one)
+
+        def moved(found) -> str:
+            parts = found[0].split(".")
+            at = next((at for at, it in enumerate(parts) if it == old and [it for it in parts[3:at] if it != "fn"] == above), None)
+            return found[0] if at is None else ".".join([*parts[:at], name, *parts[at + 1 :]])
+
+        for parts in self.crate.proofs_of(one):
+            copy = self.folder.joinpath("proofs", *parts[:-1], name)
+            shutil.copytree(self.crate.folder.joinpath("proofs", *parts), copy)
+            for file in copy.rglob("*.antt"):
+                written(file, re.sub(rf"Rattle\.{self.crate.name}\.proofs(\.[\w+]+)+", moved, file.read_text(encoding="utf-8")))
+
+    def check(self, tried: Tried, functions) -> Checked:
+        """What a check of these functions says of the crate with edits made (none: of all)."""
+        self.make(tried)
+        paths = sorted({self.crate.told_path(one) for one in functions})
+        for path in paths:
+            file = self.folder.joinpath("proofs", *path.split("::")[1:], "Answers.antt")
+            written(file, (file.read_text(encoding="utf-8") if file.exists() else "") + UNPRINTED)
+        ran = self.check_only(paths)
+        self.seconds += ran.seconds
+        return ran
+
+    def uncompiled(self, edits) -> list:
+        """Those of the edits that don't compile, each with the error."""
+        tried = self.crate.tried(edits, self.is_whole)
+        self.make(tried)
+        # A check of a function that isn't there ends once the crate is compiled.
+        ran = check(self.folder, "--jobs", "1", "--only", "no_such::function")
+        if NO_FUNCTION.search(ran.said):
+            return []
+        if len(edits) > 1:
+            return [it for part in self.apart(edits, tried, ran) for it in self.uncompiled(part)]
+        return [(edits[0], ran.fault())]
+
+    def check_only(self, functions) -> Checked:
+        """A check of some functions, by their paths, and of what they call; of none: of the whole crate."""
+        words = ["--jobs", "1", *self.words, *(word for name in functions for word in ("--only", name))]
+        ran = check(self.folder, *words, keeps=bool(self.kept), limit=LIMIT_OF_WHOLE if self.is_whole else LIMIT)
+        unknown = NO_FUNCTION.search(ran.said)
+        # A method of a built-in type has no such name: its edit is then tried alone.
+        return self.check_only([it for it in functions if it != unknown[1]]) if unknown else ran
+
+    def left_open(self, edits) -> list:
+        """What is left open of each of these functions beside themselves, in a check of them all."""
+        tried = self.crate.tried(edits, self.is_whole)
+        ran = self.check(tried, [tried.of[it.label()][0] for it in edits])
+        if not ran.reached():
+            return [(edits[0], "the check did not come to an end")]
+        goals = tried.goals(ran.said)
+        return [(it, goal) for it in edits for goal in self.own(it, tried, goals)[:1]]
+
+    @staticmethod
+    def own(edit: Edit, tried: Tried, goals: dict) -> list:
+        """The goals of the functions of an edit, those of the clause that it names if the others say nothing."""
+        own = [it for one in tried.of[edit.label()] for it in goals.get(one, [])]
+        is_of_one = edit.clause and edit.inside and edit.beside()
+        return [it for it in own if f"-clause-{edit.clause}`" in it] if is_of_one else own
+
+    @staticmethod
+    def apart(edits, tried: Tried, ran: Checked) -> list:
+        """Edits that don't compile together, in parts: those of which that is said, and the others; two halves where
+        nothing is said, or where the check was ended at its limit."""
+        blamed = set() if ran.is_cut else {tried.function_at(it[1], int(it[2])) for it in FAULT.finditer(ran.said)}
+        parts = [[it for it in edits if bool(blamed & {*tried.of[it.label()]}) is is_blamed] for is_blamed in (True, False)]
+        return parts if all(parts) else [edits[::2], edits[1::2]]
+
+    def judge(self, edits) -> list:
+        """Each edit with the goal for which it is refused, or with none and a fault."""
+        tried = self.crate.tried(edits, self.is_whole)
+        functions = {one for some in tried.of.values() for one in some}
+        ran = self.check(tried, [] if self.is_whole else functions - {None})
+        reached, goals = ran.reached(), tried.goals(ran.said)
+        if not self.is_whole and len(edits) == 1 and (None in functions or reached and not goals):
+            # A line that stands in no function, as a constant's, and what a function does for others, may be refused there.
+            place = self.folder.parent.parent / "whole"
+            shutil.rmtree(place, ignore_errors=True)
+            whole = Room(self.root, self.crate, self.below, place, self.crate.folder / "out" / "incremental", whole=True)
+            judged = whole.judge(edits)
+            self.seconds += whole.seconds
+            return judged
+        if not reached and len(edits) > 1:
+            if ran.is_cut:
+                print(f"{self.crate.name}: a check of {len(edits)} edits was ended after {LIMIT} processor seconds: two halves", flush=True)
+            return [it for part in self.apart(edits, tried, ran) for it in self.judge(part)]
+        if not reached:
+            limit = LIMIT_OF_WHOLE if self.is_whole else LIMIT
+            fault = f"its check was ended after {limit} processor seconds" if ran.is_cut else f"it does not compile: {ran.fault()}"
+            return [(edits[0], "", fault)]
+        if len(edits) == 1:
+            own = [it for one in tried.of[edits[0].label()] for it in goals.get(one, [])]
+            goal = next(iter([*own, *(it for them in goals.values() for it in them)]), "")
+            fault = "the crate is still proved" if reached[1] == "proved" else "no goal is left open, only a name that it took away"
+            return [(edits[0], goal, "" if goal else fault)]
+        judged, is_hidden = [], all(it.inside or it.beside() for it in edits)
+        for edit in edits:
+            own = [it for it in self.own(edit, tried, goals) if is_hidden or CONTRACT.search(it)]
+            judged += [(edit, own[0], "")] if own else self.judge([edit])
+        return judged

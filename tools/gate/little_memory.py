@@ -1,16 +1,14 @@
 #!/usr/bin/env python3
 """Has each request of the built elfinfo, elfsym, elfaddr, elfsize, elfbind and elfload for memory refused in turn, and each read and write failed.
 
-Over some files and each build of a program, until a run makes no more such calls. With memory refused it
-says that it cannot read its arguments, then that it cannot read the file, then that memory is short; with a
-read failed that it cannot read the file; each with status 1 and without output. With a write failed it
-ends with 1, and what was written before is the front of the output, whether the next write works again or
-all fail. The last run is as if nothing failed. Reads and writes are failed of a run that makes as few as it
-likes, and of one whose reads and writes take a few bytes each.
-A library made by gcc stands before the C library's calls. Run it at the top of the repository, once
-the programs are built: tools/gate/little_memory.py [PROGRAM..]
+Over some files and each build of a program, until a run makes no more such calls. With memory refused it says that it cannot read
+its arguments, then that it cannot read the file, then that memory is short; with a read failed that it cannot read the file;
+each with status 1 and without output. With a write failed it ends with 1, and what was written before is the front of the
+output, whether the next write works again or all fail. The last run is as if nothing failed. The runs make as few reads and
+writes as they like, or a few bytes each. A library made by gcc stands before the C library's calls. Run it at the top of the
+repository, once the programs are built: tools/gate/little_memory.py [PROGRAM..]
 """
-import dataclasses
+import collections
 import itertools
 import os
 import pathlib
@@ -18,27 +16,19 @@ import subprocess
 import sys
 import tempfile
 
-from program_ends import BOUND, COUNTER, COUNTER_PLAN, CRATES, LINKED, PLACES_SIZES, PLACES_SYMBOLS, REPORT, STRTAB, SYMBOLS, builds_of
+import program_ends
+from program_ends import ASKED, COUNTER, COUNTER_PLAN, LINKED, PLACES, PLACES_SIZES, PLACES_SYMBOLS, REPORT, STRTAB, SYMBOLS, builds_of, data
 
-SAMPLE = CRATES / "elfanswers" / "data"
-FIRST = (BOUND / "libfirst.so").read_bytes()
+FIRST = data("elfbind/data/libfirst.so")
 # What this library alone is bound to, as `readelf -rsW` says of it before its section headers are cut off.
 FIRST_LINES = "".join(f"a.elf {line}\n" for line in (
     "per_thread@V1 -> a.elf 0x4", "per_thread@V1 -> a.elf 0x4", "shared@V1 -> a.elf 0x16d4", "kept@V1 -> a.elf 0x4d7",
     "own@V1 -> a.elf 0x4e3", "own@V1 -> a.elf 0x4e3", "choose@V1 -> a.elf 0x4f5"))
 
 
-@dataclasses.dataclass(frozen=True)
-class Program:
-    """A program: its words after the path of the file, the files, the output that is wanted of the first, and its options."""
-
-    name: str
-    words: list
-    files: dict
-    first: bytes
-    # So many bytes a read and a write takes where it takes few.
-    few: tuple
-    options: tuple = ()
+class Program(collections.namedtuple("Program", "name words files first few options", defaults=[()])):
+    """A program: its words behind the path of the file, the files, the output that is wanted of the first, how many bytes a
+    read and a write takes where it takes few, and its options."""
 
     def texts(self) -> list:
         """What it says where it can't read its arguments, can't read the file, lacks memory, and can't write."""
@@ -46,17 +36,16 @@ class Program:
         return [f"{self.name}: {it}\n".encode() for it in ends]
 
 
-FILES = {"a string table": STRTAB, "links": (SAMPLE / "notes-64.elf").read_bytes(),
-    "a hash table": (SAMPLE / "dynamic-64.elf").read_bytes(), "three bytes": STRTAB[:3]}
-PLACES = (CRATES / "elfaddr" / "data" / "places.so").read_bytes()
-ASKED = (CRATES / "elfsym" / "args").read_text().split()[1:]
+SYMBOLS_SIZES = PLACES_SYMBOLS.replace("places.so", "a.elf").encode()
+FILES = {"a string table": STRTAB, "links": data("elfanswers/data/notes-64.elf"),
+    "a hash table": data("elfanswers/data/dynamic-64.elf"), "three bytes": STRTAB[:3]}
 PROGRAMS = [
     Program("elfinfo", [], FILES, REPORT, (20, 300)),
     Program("elfsym", ASKED, {"a hash table": LINKED, "three bytes": LINKED[:3]}, SYMBOLS, (20, 16)),
     Program("elfaddr", ["206", "20a", "20f"], {"symbols": PLACES, "three bytes": PLACES[:3]}, b"outer+0x0\nouter+0x4\n?\n", (20, 4)),
     Program("elfbind", [], {"a library": FIRST, "three bytes": FIRST[:3]}, FIRST_LINES.encode(), (40, 4)),
     Program("elfsize", [], {"symbols": PLACES, "three bytes": PLACES[:3]}, PLACES_SIZES.replace(b"places.so", b"a.elf"), (60, 16)),
-    Program("elfsize", [], {"symbols by section": PLACES, "three bytes": PLACES[:3]}, PLACES_SYMBOLS.replace(b"places.so", b"a.elf"), (60, 16), ("--symbols",)),
+    Program("elfsize", [], {"symbols of sections": PLACES, "three bytes": PLACES[:3]}, SYMBOLS_SIZES, (60, 16), ("--symbols",)),
     Program("elfload", [], {"a program": COUNTER, "three bytes": COUNTER[:3]}, COUNTER_PLAN.replace(b"counter", b"a.elf"), (60, 16)),
 ]
 
@@ -107,12 +96,12 @@ ssize_t write(int file, const void *from, size_t size) {
 }
 """
 
+
 def run(built, program, room, **failing):
     """How the run ends whose call of this kind and number fails: status, output and error text."""
     words = [*program.options, "a.elf", *program.words]
     failed = {name: str(number) for name, number in failing.items()}
-    ran = subprocess.run([built, *words], cwd=room, capture_output=True, timeout=60, env={"LD_PRELOAD": f"{room}/failing.so", **failed})
-    return ran.returncode, ran.stdout, ran.stderr
+    return tuple(program_ends.run(built, words, room, env={"LD_PRELOAD": f"{room}/failing.so", **failed}))
 
 
 def is_well(kind, end, whole, texts, before):
@@ -143,12 +132,11 @@ def unlike(built, program, room, name) -> int:
         ends = list(itertools.takewhile(lambda end: end != whole, runs))
         before = lambda at: at * program.few[1] if is_few else None
         wrong = [end for at, end in enumerate(ends) if not is_well(kind, end, whole, texts, before(at))]
-        is_whole = len(ends) < MOST - 1
         said = [texts.index(it[2]) for it in ends if it not in wrong and kind == "FAIL_MEMORY"]
         # A refused file has no output that could fail.
         is_tried = ends or (kind == "FAIL_OUTPUT" and whole[0])
         how = kind[5:].lower() + (", of a few bytes" if is_few else "")
-        if not is_whole or wrong or said != sorted(said) or not is_tried:
+        if len(ends) == MOST - 1 or wrong or said != sorted(said) or not is_tried:
             count += 1
             print(f"{built.name} NOT AS IT MUST: {name}, {kind}: {wrong[:2]}, and last {ends[-1:]}, not {whole}"[:900])
         else:
@@ -157,8 +145,7 @@ def unlike(built, program, room, name) -> int:
 
 
 def main() -> int:
-    builds = builds_of(sorted({it.name for it in PROGRAMS}))
-    count = 0
+    builds, count = builds_of(sorted({it.name for it in PROGRAMS})), 0
     with tempfile.TemporaryDirectory() as room:
         os.environ.pop("LD_PRELOAD", None)
         # The library whose calls fail.

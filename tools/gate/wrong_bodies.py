@@ -2,31 +2,26 @@
 """Wants the prover to refuse each wrong body of crates/NAME/wrong-bodies/TOPIC/*.edit.
 
 How they are tried, many in one check of a copy of their crate, stands in docs/WRONG_BODIES.md. Each crate must be proved as it
-stands, and is checked first, unless `rt ci` has just proved it. At the end stand what the checks of each crate took, and the
-slowest ones. The last line is `N refused, M failed`.
+stands, and is checked first, unless `rt ci` has just proved it. At the end stands what the checks of each crate took. The last
+line is `N refused, M failed`.
 """
 import argparse
 import collections
 import concurrent.futures
-import dataclasses
 import pathlib
-import shutil
 import sys
 import tempfile
 import threading
+from typing import NamedTuple
 
 import changed
-from edit_rooms import Room, check
-from edits import BATCH, Edit, EditedCrate, batches_of
+from edits import BATCH, Edit, EditedCrate, Room, batches_of, check
 from pages import sources
 from pages.sources import ROOT
 
 # The names of the edits that must stay, and the commit at which each edit was last refused.
 MUST_STAY = ROOT / "docs" / "wrong_bodies.txt"
 REFUSED_AT = ROOT / "docs" / "wrong_bodies_commit.txt"
-
-# How many checks are listed at the end.
-SLOWEST = 12
 
 FLAGS = {
     "gate": "those of docs/wrong_bodies.txt, and those since the commit of docs/wrong_bodies_commit.txt; all where it isn't known here",
@@ -39,16 +34,12 @@ FLAGS = {
 }
 
 
-@dataclasses.dataclass
-class Task:
-    """A crate whose edits are to be tried: the crates below it, its batches, copies of it that are free, and how many of the
-    batches haven't begun."""
+class Task(NamedTuple):
+    """A crate whose edits are to be tried: the crates below it, and its batches."""
 
     crate: EditedCrate
     below: list
     batches: list
-    rooms: list = dataclasses.field(default_factory=list)
-    left: int = 0
 
 
 class Trial:
@@ -57,13 +48,14 @@ class Trial:
     def __init__(self, root: pathlib.Path, names, jobs: int, since=None, proved=False):
         self.root, self.jobs, self.proved, self.lock = root, jobs, proved, threading.Lock()
         self.of_crate = collections.Counter()
-        self.refused, self.failed, self.times, self.tasks = [], [], [], []
+        self.refused, self.failed, self.tasks = [], [], []
         self.may_be_empty = since is not None
         used = sources.crates(root)
         for name in used:
             crate = EditedCrate(root / "crates" / name)
             edits = [crate.read_edit(it) for it in sorted((crate.folder / "wrong-bodies").glob("*/*.edit"))]
-            edits = [it for it in edits if not names or any(self.is_named(it, word) for word in names)]
+            parts_of = lambda edit: {*edit.label().split("/"), edit.label().rpartition("/")[0], edit.label()}
+            edits = [it for it in edits if not names or parts_of(it) & {*names}]
             if since is not None:
                 edits = [it for it in edits if since.touches(it)]
             for edit in edits:
@@ -72,11 +64,6 @@ class Trial:
             batches = batches_of(crate, [it for it in edits if not it.fault])
             if batches:
                 self.tasks.append(Task(crate, sources.below(used, name), batches))
-
-    @staticmethod
-    def is_named(edit: Edit, word: str) -> bool:
-        parts = edit.label().split("/")
-        return word in parts or word in ("/".join(parts[:2]), edit.label())
 
     def tell(self, edit: Edit, goal: str, fault: str):
         with self.lock:
@@ -98,41 +85,23 @@ class Trial:
             print(f"{task.crate.name}: FAILED: it is not proved as it stands", flush=True)
         return not any(it.status for it in ran)
 
-    def work(self, task: Task, batch: list, place: pathlib.Path):
-        """Tries a batch in a copy of its crate, which is left for the next one."""
+    def work(self, task: Task, batch: list):
+        """Tries a batch in a copy of its crate."""
+        with tempfile.TemporaryDirectory(prefix="wrong-bodies-") as place:
+            room = Room(self.root, task.crate, task.below, pathlib.Path(place, "room"))
+            for edit, goal, fault in room.judge(batch):
+                self.tell(edit, goal, fault)
         with self.lock:
-            task.left -= 1
-            room = task.rooms.pop() if task.rooms else None
-        room = room or Room(self.root, task.crate, task.below, place)
-        for edit, goal, fault in room.judge(batch):
-            self.tell(edit, goal, fault)
-        with self.lock:
-            self.of_crate[task.crate.name] += sum(it[0] for it in room.times)
-            self.times, room.times = self.times + room.times, []
-            is_wanted = len(task.rooms) < task.left
-            if is_wanted:
-                task.rooms.append(room)
-        # A copy of a large crate takes a gigabyte.
-        if not is_wanted:
-            shutil.rmtree(room.folder.parent.parent, ignore_errors=True)
+            self.of_crate[task.crate.name] += room.seconds
 
     def run(self) -> int:
-        # Lower crates first, since a check locks the crates below.
-        proved = [it for it in self.tasks if self.is_proved(it)]
-        for task in proved:
-            task.left = len(task.batches)
-        # The longest batch first, so that none is the last to end.
-        batches = sorted(((task, batch) for task in proved for batch in task.batches), key=lambda it: -len(it[1]))
-        with tempfile.TemporaryDirectory(prefix="wrong-bodies-") as rooms, concurrent.futures.ThreadPoolExecutor(self.jobs) as pool:
-            places = (pathlib.Path(rooms, str(number)) for number in range(len(batches)))
-            for it in [pool.submit(self.work, task, batch, place) for (task, batch), place in zip(batches, places)]:
+        # Lower crates first, since a check locks the crates below. Then the longest batch first, so that none is the last to end.
+        batches = [(task, batch) for task in self.tasks if self.is_proved(task) for batch in task.batches]
+        with concurrent.futures.ThreadPoolExecutor(self.jobs) as pool:
+            for it in [pool.submit(self.work, *it) for it in sorted(batches, key=lambda it: -len(it[1]))]:
                 it.result()
         for name, seconds in self.of_crate.items():
             print(f"{name}: {seconds:.0f} processor seconds")
-        if self.times:
-            print(f"{sum(it[0] for it in self.times):.0f} processor seconds in {len(self.times)} checks of wrong bodies, of these")
-        for seconds, what in sorted(self.times, reverse=True)[:SLOWEST]:
-            print(f"{seconds:6.0f} {what}")
         if self.failed:
             print(f"FAILED: {' '.join(sorted(self.failed))}")
         print(f"{len(self.refused)} refused, {len(self.failed)} failed")
@@ -149,7 +118,6 @@ class Trial:
         return 1 if self.failed else 0
 
     def list(self) -> int:
-        """Prints the batches."""
         for task in self.tasks:
             for number, batch in enumerate(task.batches):
                 print(f"{task.crate.name}, batch {number}: {len(batch)} edits")
@@ -158,11 +126,6 @@ class Trial:
         edits = sum(len(it) for task in self.tasks for it in task.batches)
         print(f"{edits} edits in {sum(len(it.batches) for it in self.tasks)} batches, {len(self.failed)} failed")
         return 1 if self.failed else 0
-
-
-def uncompiled(task: Task, room: Room):
-    """The edits that don't compile, and why."""
-    return [(edit, f"it does not compile: {why}") for batch in task.batches for edit, why in room.uncompiled(batch)]
 
 
 def unproved(task: Task, room: Room):
@@ -270,10 +233,10 @@ def must_stay() -> list:
 def of_gate():
     """What the gate tries; None for all, where the commit of the last whole run isn't known here."""
     commit = REFUSED_AT.read_text(encoding="utf-8").strip() if REFUSED_AT.exists() else ""
-    if not commit or not changed.git("cat-file", "-t", commit, check=False).startswith("commit"):
-        print(f"{REFUSED_AT.name}: commit {commit or 'none'} is not here, so that all edits are tried")
-        return None
-    return Since(commit, set(must_stay()))
+    if commit and changed.git("cat-file", "-t", commit, check=False).startswith("commit"):
+        return Since(commit, set(must_stay()))
+    print(f"{REFUSED_AT.name}: commit {commit or 'none'} is not here, so that all edits are tried")
+    return None
 
 
 def store() -> int:
@@ -303,7 +266,8 @@ def main() -> int:
     since = of_gate() if given.gate else Since(given.since) if given.since else None
     trial = Trial(ROOT, given.names, max(given.jobs, 1), since, given.proved)
     if given.compile:
-        return trial.alone(uncompiled, "its edits were compiled")
+        faults = lambda task, room: ((edit, f"it does not compile: {why}") for some in task.batches for edit, why in room.uncompiled(some))
+        return trial.alone(faults, "its edits were compiled")
     if given.right:
         return trial.alone(unproved, "its right bodies were tried")
     if given.list:

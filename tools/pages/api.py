@@ -5,14 +5,12 @@
     tools/pages/api.py --check    fails where a page isn't what the sources give, where a public item stands on none, and
                                   where crates/xmas_elf/specs/Types.antt lacks a name; writes nothing
 
-tools/pages/sources.py reads the sources. An item stands on the page of the crate that declares it, under its public
-path there. At the end of elf_base's page stands which calls return which error, as tools/pages/errors.py reads it off
-their docs.
+An item stands on the page of the crate that declares it, under its public path there. At the end of elf_base's page stands which
+calls return which error, as tools/pages/errors.py reads it off their docs.
 
-The clauses of other crates import the types, constants and errors of xmas_elf from Types.antt. A `pub use` passes on
-what a lower crate declares. What xmas_elf itself declares reaches no other crate through one, neither in Types.antt nor
-by way of Prelude.antt: an import there is refused with "has no `Thing` that can be named from here". So such a name
-counts only where Types.antt has an `abbrev pub` of it.
+The clauses of other crates import the types, constants and errors of xmas_elf from Types.antt. A `pub use` passes on what a lower
+crate declares, but nothing that xmas_elf itself declares: an import there is refused with "has no `Thing` that can be named from
+here". So such a name counts only where Types.antt has an `abbrev pub` of it.
 """
 import pathlib
 import re
@@ -21,15 +19,15 @@ import sys
 sys.path.insert(0, str(pathlib.Path(__file__).resolve().parents[1]))
 from exports import listing
 from pages import errors
-from pages.sources import ITEM, ROOT, impls_of, modules, public_items, read
-from pages.writing import differing, parser_of
+from pages.sources import ITEM, ROOT, anchor, differing, ended, impls_of, modules, parser_of, public_items, read
+from pages.definitions import uses_in
 
 PAGES = ROOT / "docs" / "api"
 
 # The libraries that have a page: first those that a user names.
 LIBRARIES = ("xmas_elf", "elf_linking", "elf_addresses", "elf_loading", "elf_base", "elf_records", "elf_c")
 
-TITLE = {"struct": "a struct", "enum": "an enum", "trait": "a trait", "type": "a type", "fn": "a function", "const": "a constant"}
+TITLE = {"struct": "a struct", "enum": "an enum", "trait": "a trait", "type": "a type"}
 
 HEAD = """# The public items of `{crate}`
 
@@ -64,11 +62,6 @@ NOT_IN_TYPES = {
 ONLY_IN_TYPES = {"HashVerdict": "clauses on a report speak of it, and no public path leads to it"}
 
 
-def anchor(heading: str) -> str:
-    """What a link names a heading by."""
-    return re.sub(r"[^\w\- ]", "", heading.lower()).replace(" ", "-")
-
-
 def declaration(item) -> str:
     """An item as the page shows it: of a trait, and of a struct without a public field, only its head."""
     if item.kind == "trait":
@@ -91,18 +84,14 @@ class CratePage:
             if item.source.crate == crate and not any(item is one for one in self.homes.values()):
                 self.homes[path] = item
 
-    def head(self, level: str, label: str, doc: str, title: str = ""):
-        """A heading with its doc."""
-        self.lines += [f"{level} `{label}`" + (f", {title}" if title else ""), "", doc, ""]
+    def head(self, heading: str, doc: str, text: str, source, at: int):
+        """A heading with its doc and its text."""
+        self.lines += [heading, "", doc, "", "```rust", text, "```", ""]
         self.count += 1
-
-    def code(self, text: str):
-        self.lines += ["```rust", text, "```", ""]
+        self.reached.add((source.module, at))
 
     def function(self, level: str, label: str, source, at: int, margin: str):
-        self.head(level, label, source.doc_above(at))
-        self.reached.add((source.module, at))
-        self.code(source.text_from(at, margin))
+        self.head(f"{level} `{label}`", source.doc_above(at), source.text_from(at, margin), source, at)
         if export := self.exports.get(label.split("::")[-1]):
             said = ", ".join(f"`{it}`" for it in export.statuses)
             each = ", ".join(f"`{it}`" for it in export.item_statuses)
@@ -115,14 +104,15 @@ class CratePage:
             if not block.trait:
                 self.block(block, label)
                 continue
-            given = block.source.given_by(block.trait)
+            # The traits that the file implements for all types of a trait of its own.
+            given = re.findall(rf"^impl<\w: {block.trait}> (\w+) for \w ", block.source.text, re.M)
             traits += given or [block.trait.split("::")[-1]]
             shown += [] if given else [self.members(block)]
         said = sorted({*traits} - {"Drop", ""})
         if said:
             self.lines += [f"`{item.name}` implements {', '.join(f'`{it}`' for it in said)}.", ""]
         for text in filter(None, shown):
-            self.code(text)
+            self.lines += ["```rust", text, "```", ""]
 
     @staticmethod
     def members(block) -> str:
@@ -155,12 +145,10 @@ class CratePage:
 
     def item(self, item, path: str):
         label = path.removeprefix(f"{self.crate}::")
-        self.reached.add((item.source.module, item.at))
         if item.kind == "fn":
             self.function("###", label, item.source, item.at, "")
             return
-        self.head("###", label, item.doc, TITLE[item.kind])
-        self.code(declaration(item))
+        self.head(f"### `{label}`, {TITLE[item.kind]}", item.doc, declaration(item), item.source, item.at)
         (self.trait if item.kind == "trait" else self.methods)(item, label)
 
     def constants(self, module: str, found: list):
@@ -171,12 +159,6 @@ class CratePage:
             self.lines.append(f"| `{said[1]}` | `{said[2]}` | `{said[3]}` | {' '.join(item.doc.split())} |")
         self.count += len(found)
         self.lines.append("")
-
-    def errors(self):
-        """The table of the errors of the port, on the page of the crate that declares them."""
-        texts, calls = errors.texts(), errors.calls_by_error()
-        rows = [f"| `{name}` | {texts[name]} | {', '.join(f'`{it}`' for it in of) or 'none'} |" for name, of in calls.items()]
-        self.lines += [ERRORS, *rows, ""]
 
     def text(self) -> str:
         for module in modules(self.sources, self.crate):
@@ -190,7 +172,9 @@ class CratePage:
             if constants := [it for it in here.values() if it.kind == "const"]:
                 self.constants(path, constants)
         if self.crate == "elf_base":
-            self.errors()
+            texts, calls = errors.texts(), errors.calls_by_error()
+            rows = [f"| `{name}` | {texts[name]} | {', '.join(f'`{it}`' for it in of) or 'none'} |" for name, of in calls.items()]
+            self.lines += [ERRORS, *rows, ""]
         others = ", ".join(f"[`{it}`]({it}.md)" for it in LIBRARIES if it != self.crate)
         head = HEAD.format(crate=self.crate, about=self.sources[self.crate, ""].about(), others=others)
         found = re.findall(r"^## (`[\w:]+`|Errors)$", "\n".join(self.lines), re.M)
@@ -210,30 +194,15 @@ class CratePage:
         return found
 
 
-def public_types(sources: dict) -> set:
-    """The structs, enums, types and constants that xmas_elf makes public, as TYPES is to name them."""
-    found = set()
-    for path, item in public_items(sources, "xmas_elf"):
-        *_, module, name = path.split("::")
-        if item.kind in ("struct", "enum", "type", "const"):
-            found.add(TYPE_OF[module] + name if name in ("Type", "Type_") else name)
-    return found
-
-
-def passed_on(path) -> dict:
-    """The names that the `pub use` lines of a spec file pass on, each with the path behind it."""
-    text, found = path.read_text(encoding="utf-8"), {}
-    for start, names in re.findall(r"^pub use ([\w.]+)\.\{([^}]*)\}", text, re.M):
-        for name in names.split(","):
-            there, _, here = name.strip().partition(" as ")
-            found[here or there] = start
-    return found
-
-
 def faults_of_types(sources: dict) -> list:
     """The names that TYPES lacks, those that it shouldn't have, and those that reach no other crate."""
-    wanted = public_types(sources) - set(NOT_IN_TYPES) | set(ONLY_IN_TYPES) | set(errors.texts())
-    origins, behind = passed_on(TYPES), passed_on(PRELUDE)
+    # The structs, enums, types and constants that xmas_elf makes public, as TYPES is to name them.
+    found = [path.split("::")[-2:] for path, item in public_items(sources, "xmas_elf") if item.kind in ("struct", "enum", "type", "const")]
+    public = {TYPE_OF[module] + name if name in ("Type", "Type_") else name for module, name in found}
+    wanted = public - set(NOT_IN_TYPES) | set(ONLY_IN_TYPES) | set(errors.texts())
+    # The names that their `pub use` lines pass on, each with the path behind it.
+    lines = ("\n".join(re.findall(r"^pub use .*", it.read_text(encoding="utf-8"), re.M)) for it in (TYPES, PRELUDE))
+    origins, behind = ({name: path for name, (path, _) in uses_in(it).items()} for it in lines)
     origins = {name: behind.get(name, start) if start.endswith(".Prelude") else start for name, start in origins.items()}
     own = {name for name, start in origins.items() if start.startswith("Rattle.xmas_elf.")}
     named = set(origins) - own | set(re.findall(r"^abbrev pub (\w+) :", TYPES.read_text(encoding="utf-8"), re.M))
@@ -248,8 +217,7 @@ def main() -> int:
     texts = {PAGES / f"{crate}.md": page.text() for crate, page in pages.items()}
     faults = [fault for page in pages.values() for fault in page.missing()] + faults_of_types(sources) + differing(texts, is_check)
     said = [f"{page.count} of {crate}" for crate, page in pages.items()]
-    print("\n".join([*faults, f"{', '.join(said)}: public items on {len(texts)} pages, {len(faults)} faults"]))
-    return 1 if faults else 0
+    return ended(faults, f"{', '.join(said)}: public items on {len(texts)} pages, {len(faults)} faults")
 
 
 if __name__ == "__main__":

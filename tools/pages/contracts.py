@@ -1,18 +1,13 @@
 #!/usr/bin/env python3
 """Lists the public functions whose contracts leave something open.
 
-    tools/pages/contracts.py            prints the list
-    tools/pages/contracts.py --check    fails at a line of the list without a reason in docs/contracts.toml, and at a
-                                  reason for a line that isn't there
-
-A line is a kind and a function, as `one-sided elf_linking::view::loaded::bytes_from`. The kinds are:
+    tools/pages/contracts.py            prints the list: a kind and a function, as `no-place elf_linking::view::loaded::bytes_from`
+    tools/pages/contracts.py --check    fails at a line of the list without a reason in docs/contracts.toml, at a reason for a line
+                                        that isn't there, and at a function or clause that the end of that file names in vain
 
     one-sided    the clauses speak of a result that is Ok or Some, and of no other
     no-place     a slice of the input is returned, and no clause says where it lies
     no-wrong     a caller has no wrong body
-
-At the end docs/contracts.toml has the clauses that rule out no wrong body by themselves; --check fails where no such
-function or clause is there.
 """
 import fnmatch
 import pathlib
@@ -22,8 +17,7 @@ import tomllib
 
 sys.path.insert(0, str(pathlib.Path(__file__).resolve().parents[1]))
 from gate.edits import EditedCrate
-from pages.sources import ROOT, Crate
-from pages.writing import parser_of
+from pages.sources import ROOT, Crate, ended, parser_of
 
 REASONS = ROOT / "docs" / "contracts.toml"
 
@@ -43,17 +37,6 @@ LENT = re.compile(r"&'a \[|-> &\[|Table<'a|Notes<'a")
 PLACE = re.compile(r"Lies|Lie[A-Z]|PartLies|ref_ptr|result ≡|table_bytes|≡ notes\.entry")
 
 
-def kinds_of(head: str) -> list:
-    """The kinds of lines that a public function has."""
-    if not re.search(r"^ *pub fn ", head, re.M):
-        return []
-    clauses = "\n".join(re.findall(r"^ *ensures .*(?:\n(?! *(?:ensures|requires) ).*)*", head, re.M))
-    returned = re.search(r"^ *(?:\)|.*fn .*\)) (-> .*)$", head, re.M)
-    is_one_sided = ONE_SIDE.search(clauses) and not OTHER_SIDE.search(clauses)
-    is_nowhere = returned and LENT.search(returned[1]) and not PLACE.search(clauses)
-    return ["one-sided"] * bool(is_one_sided) + ["no-place"] * bool(is_nowhere)
-
-
 def lines() -> list:
     """The whole list, in the order of the crates and of their files."""
     found = []
@@ -63,24 +46,17 @@ def lines() -> list:
         tried = {one.path for edit in edits for one in edit.functions if one}
         for one in crate.functions:
             head = crate.head(one)
-            found += [f"{kind} {one.path}" for kind in kinds_of(head)]
-            if name in CALLERS and re.search(r"^pub fn ", head, re.M) and "ensures" in head and one.path not in tried:
-                found.append(f"no-wrong {one.path}")
+            if not re.search(r"^ *pub fn ", head, re.M):
+                continue
+            clauses = "\n".join(re.findall(r"^ *ensures .*(?:\n(?! *(?:ensures|requires) ).*)*", head, re.M))
+            returned = re.search(r"^ *(?:\)|.*fn .*\)) (-> .*)$", head, re.M)
+            is_open = {
+                "one-sided": ONE_SIDE.search(clauses) and not OTHER_SIDE.search(clauses),
+                "no-place": returned and LENT.search(returned[1]) and not PLACE.search(clauses),
+                "no-wrong": name in CALLERS and re.search(r"^pub fn ", head, re.M) and clauses and one.path not in tried,
+            }
+            found += [f"{kind} {one.path}" for kind, is_one in is_open.items() if is_one]
     return found
-
-
-def heads() -> dict:
-    """The functions of the libraries by their paths, each up to the line that opens its body."""
-    crates = [Crate(ROOT / "crates" / name) for name in LIBRARIES]
-    return {one.path: crate.head(one) for crate in crates for one in crate.functions}
-
-
-def lost(group: dict, functions: dict) -> list:
-    """The functions of a group that aren't there, and the clauses that none of them has."""
-    own = [name for pattern in group["of"] for name in fnmatch.filter(functions, f"*::{pattern}")]
-    missing = [it for it in group["of"] if not fnmatch.filter(functions, f"*::{it}")]
-    named = {it for name in own for it in re.findall(r"ensures (\w+) {", functions[name])}
-    return missing + [it for it in (*group.get("clauses", ()), *group.get("but", ())) if it not in named]
 
 
 def main() -> int:
@@ -89,13 +65,19 @@ def main() -> int:
         print("\n".join(found))
         return 0
     reasons = tomllib.loads(REASONS.read_text(encoding="utf-8"))
-    groups, functions = reasons["reason"], heads()
-    patterns = [pattern for group in groups for pattern in group["of"]]
+    patterns = [pattern for group in reasons["reason"] for pattern in group["of"]]
     faults = [f"no reason: {line}" for line in found if not any(fnmatch.fnmatchcase(line, it) for it in patterns)]
     faults += [f"not in the list: {it}" for it in patterns if not fnmatch.filter(found, it)]
-    faults += [f"not in the sources: {it}" for group in reasons["follows"] for it in lost(group, functions)]
-    print("\n".join(faults + [f"{REASONS.relative_to(ROOT)}: {len(found)} lines, {len(faults)} faults"]))
-    return 1 if faults else 0
+    crates = [Crate(ROOT / "crates" / name) for name in LIBRARIES]
+    heads = {one.path: crate.head(one) for crate in crates for one in crate.functions}
+    # The functions of these groups that aren't there, and the clauses that none of the functions of a group has.
+    for group in reasons["follows"]:
+        own = {it: fnmatch.filter(heads, f"*::{it}") for it in group["of"]}
+        named = {it for names in own.values() for name in names for it in re.findall(r"ensures (\w+) {", heads[name])}
+        missing = [it for it, names in own.items() if not names]
+        missing += [it for it in (*group.get("clauses", ()), *group.get("but", ())) if it not in named]
+        faults += [f"not in the sources: {it}" for it in missing]
+    return ended(faults, f"{REASONS.relative_to(ROOT)}: {len(found)} lines, {len(faults)} faults")
 
 
 if __name__ == "__main__":

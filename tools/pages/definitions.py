@@ -137,7 +137,7 @@ class Reader:
         """The types that implement all of the bounds that this repository declares, as `Entry + Record`."""
         sets = []
         for trait in re.findall(r"\w+", bounds):
-            blocks = [it for source in self.sources.values() for it in source.impls() if it.trait == trait]
+            blocks = [it for source in self.sources.values() for it in source.blocks if it.trait == trait]
             through = [re.match(rf"impl<{it.type}: (\w+)>", it.source.lines[it.at]) for it in blocks]
             found = {it.type for it in blocks if len(it.type) > 1}
             sets += [set.union(found, *(self.implementors(it[1]) for it in through if it))] if blocks else []
@@ -172,6 +172,10 @@ class Reader:
             elif found := local.get(word) or local.get(first) or self.meaning(uses, word):
                 yield found
 
+    def used_by(self, one):
+        """The definitions that the words of a definition stand for."""
+        return self.used(one.text, one.uses, self.spec(one.path) if one.path.suffix == ".antt" else {})
+
     def contract(self, source, one) -> tuple:
         """The text of a function's contract, what its words mean, its file and its line."""
         block = source.block_at(one.named_at - 1)
@@ -194,8 +198,7 @@ class Reader:
             if (one.path, one.line) in seen:
                 return
             seen.add((one.path, one.line))
-            local = self.spec(one.path) if one.path.suffix == ".antt" else {}
-            for other in self.used(one.text, one.uses, local):
+            for other in self.used_by(one):
                 visit(other)
             order.append(one)
 

@@ -1,17 +1,17 @@
 #!/usr/bin/env python3
 """Which calls return which error of `ElfError`, by the docs of the calls.
 
-The doc of a call names the errors that it returns, such as `DataRange`, and the calls whose errors it
-passes on: "those of `bytes::text_at`", "as in `parse_header`" or "The result of `lookup`". tools/pages/api.py
-writes the table into docs/api/elf_base.md. Run by itself, tools/pages/errors.py fails if a doc names a call that it
-doesn't find, and if no call returns an error, except for those in UNUSED.
+The doc of a call names the errors that it returns, such as `DataRange`, and the calls whose errors it passes on: "those of
+`bytes::text_at`", "as in `parse_header`" or "The result of `lookup`". tools/pages/api.py writes the table into
+docs/api/elf_base.md. This script fails if a doc names a call that it doesn't find, and if no call returns an error, except for
+those in UNUSED.
 """
 import pathlib
 import re
 import sys
 
 sys.path.insert(0, str(pathlib.Path(__file__).resolve().parents[1]))
-from pages.sources import ROOT, read
+from pages.sources import ROOT, ended, read
 
 CRATES = ("elf_base", "elf_records", "xmas_elf")
 ENUM = ROOT / "crates/elf_base/src/error.rt"
@@ -30,14 +30,6 @@ def texts() -> dict[str, str]:
     names = re.findall(r"^    (\w+) = \d+,$", body, re.MULTILINE)
     said = dict(re.findall(r'Self::(\w+) =>\s*(?:\{\s*)?"([^"]*)"', text))
     return {name: said[name] for name in names}
-
-
-def calls_in(source) -> dict[str, str]:
-    """The docs of the calls of a file, by `Type::call`, `Trait::call` or `module::call`."""
-    module = source.module.split("::")[0]
-    # Several enums are called `Type`. An impl for all types of a trait, as `impl<K: Kept> Entry for K`, goes by the trait.
-    owner = lambda of: f"{module}::{of}" if of in ("Type", "Type_") else of or module
-    return {f"{owner(one.of)}::{one.name()}": " ".join(source.doc_above(one.named_at - 1).split("\n")) for one in source.functions}
 
 
 def meant(name: str, caller: str, docs: dict[str, str]) -> str:
@@ -59,22 +51,23 @@ def returned(call: str, docs: dict[str, str], seen: frozenset[str] = frozenset()
 
 def calls_by_error() -> dict[str, list[str]]:
     """The calls that return each error, in the order of the enum and of the sources."""
+    # The docs of the calls, by `Type::call`, `Trait::call` or `module::call`.
     docs: dict[str, str] = {}
-    for source in read().values():
-        if source.crate in CRATES and source.module.split("::")[0] != "tests":
-            for call, doc in calls_in(source).items():
-                docs[call] = docs.get(call) or doc
+    for source in (it for it in read().values() if it.crate in CRATES and it.module.split("::")[0] != "tests"):
+        module = source.module.split("::")[0]
+        for one in source.functions:
+            # Several enums are called `Type`. An impl for all types of a trait, as `impl<K: Kept> Entry for K`, goes by the trait.
+            call = f"{f'{module}::{one.of}' if one.of in ('Type', 'Type_') else one.of or module}::{one.name()}"
+            docs[call] = docs.get(call) or " ".join(source.doc_above(one.named_at - 1).split("\n"))
     named = {call: returned(call, docs) for call in docs}
     return {name: [call for call in docs if name in named[call]] for name in texts()}
 
 
 def main() -> int:
     said = calls_by_error()
-    failed = [name for name, calls in said.items() if bool(calls) == (name in UNUSED)]
-    for name in failed:
-        print(f"{name}: {'returned by ' + ', '.join(said[name]) if said[name] else 'no call returns it'}")
-    print(f"{len(said)} errors, {len(failed)} of which the docs of the calls don't say what they should")
-    return 1 if failed else 0
+    failed = [f"{name}: {'returned by ' + ', '.join(calls) if calls else 'no call returns it'}"
+              for name, calls in said.items() if bool(calls) == (name in UNUSED)]
+    return ended(failed, f"{len(said)} errors, {len(failed)} of which the docs of the calls don't say what they should")
 
 
 if __name__ == "__main__":

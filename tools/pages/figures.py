@@ -3,13 +3,12 @@
 
     tools/pages/figures.py
 
-A figure names its commit, its command and its machine in one form, in one line:
+A figure names its commit, its command and its machine in one line, behind which more may stand:
 
     Measured at COMMIT by `COMMAND` on MACHINE.
 
-behind which more may stand, after a full stop, a colon, a semicolon or an opening bracket. What a command measures
-is in PATHS, by its first word. A figure whose sources have changed, whose commit isn't in this history, or whose
-line has another form is a warning: the script fails at none of them.
+What a command measures is in PATHS, by its first word. A figure whose sources have changed, whose commit isn't in this history,
+or whose line has another form is a warning: the script fails at none of them.
 """
 import pathlib
 import re
@@ -17,14 +16,13 @@ import subprocess
 import sys
 
 sys.path.insert(0, str(pathlib.Path(__file__).resolve().parents[1]))
+from compare.all import ORACLES
 from pages.sources import ROOT, below, crates
 
-PAGES = ("README.md", "CONTRIBUTING.md", "CALLING.md", "docs", "bindings", "bench")
+PAGES = ("README.md", "CONTRIBUTING.md", "CALLING.md", "docs/*.md", "bindings/*.md", "bench/*.md")
 
-# The crate of the program that a comparison runs, by the name of its script.
-PROGRAMS = {"readelf": "elfinfo", "recipes": "elftools", "tools": "elftools", "elfsym": "elfsym", "bindings": "elfbind", "rust": "elfanswers",
-    "fuzz": "elfanswers", "sections": "elf_c", "dump": "elf_c", "dlsym": "elf_c", "fuzz_bindings": "elfbind", "addresses": "elfaddr",
-    "sizes": "elfsize", "loads": "elfload"}
+# The crate whose program or archive a comparison runs, by the name of its script.
+PROGRAMS = {name: it.needs[0].split("/")[1] for name, it in ORACLES.items()}
 
 
 def of(crate: str, *others: str) -> tuple:
@@ -46,23 +44,13 @@ PATHS = {
     "tools/exports/python.sh": of("elf_c", "bindings/python/xmas_elf", "bindings/python/speed.py"),
     "tools/web/page.py": of("elf_c", "bindings/web"),
     "tools/web/web.sh": of("elf_c", "bindings/web/*.js", "tools/web"),
-    "tools/gate/wrong_bodies.py": ("crates", "tools/gate/edit*.py"),
+    "tools/gate/wrong_bodies.py": ("crates", "tools/gate/edits.py"),
     "tools/gate/quick.sh": ("crates", "tools"),
     ".ci/run": ("crates", "tools"),
 }
 
 FIGURE = re.compile(r"Measured at ([0-9a-f]{7,40}) by `([^`]+)` on (.+?)(?=[.:;](?:\s|$)| \(|$)")
-OTHER = re.compile(r"\b[Mm]easured (?:at|by)\b")
-
-
-def lines_of_pages():
-    """Each line of the pages, with its place."""
-    for name in PAGES:
-        path = ROOT / name
-        for page in [path] if path.is_file() else sorted(path.rglob("*.md")):
-            if "node_modules" not in page.parts and "target" not in page.parts:
-                for number, line in enumerate(page.read_text(encoding="utf-8").splitlines(), 1):
-                    yield f"{page.relative_to(ROOT)}:{number}", line
+OTHER = r"\b[Mm]easured (at|by)\b"
 
 
 def git(*arguments: str) -> subprocess.CompletedProcess:
@@ -82,13 +70,14 @@ def age(commit: str, command: str) -> str:
 
 def main() -> int:
     figures = warnings = 0
-    for place, line in lines_of_pages():
+    for it in git("grep", "--untracked", "-nE", OTHER, "--", *PAGES).stdout.splitlines():
+        place, line = re.match(r"(.*?:\d+):(.*)", it).groups()
         found = FIGURE.findall(line)
         for commit, command, machine in found:
             warning = age(commit, command)
             figures, warnings = figures + 1, warnings + bool(warning)
             print(f"{place}: {commit}, `{command}`, {machine}: {'WARNING: ' + warning if warning else 'as measured'}")
-        if not found and OTHER.search(line):
+        if not found:
             warnings += 1
             print(f"{place}: WARNING: no commit, command and machine in the form of tools/pages/figures.py: {line[:90]}")
     print(f"{figures} figures, {warnings} warnings")

@@ -5,16 +5,15 @@
     tools/pages/layers.py            writes the picture
     tools/pages/layers.py --check    fails where the page has another; writes nothing
 
-The picture is a Mermaid flowchart, with a line for each crate that uses others of the repository. A comment of
-crates.txt begins a group; the crates of tests are left out. Above the archive for C stand the languages that call
-it, by the folders of bindings/.
+The picture is a Mermaid flowchart, with a line for each crate that uses others of the repository. A comment of crates.txt begins a
+group; the crates of tests are left out. Above the archive stand the languages that call it, by the folders of bindings/.
 """
 import pathlib
 import re
 import sys
 
 sys.path.insert(0, str(pathlib.Path(__file__).resolve().parents[1]))
-from pages.writing import ROOT, differing, parser_of
+from pages.sources import ROOT, differing, ended, parser_of
 
 PAGE = ROOT / "CONTRIBUTING.md"
 PLACE = re.compile(r"(?<=<!-- layers -->\n).*(?=\n<!-- /layers -->)", re.S)
@@ -27,7 +26,10 @@ LEFT_OUT = "Tests"
 SAID = """An arrow leads from a crate to each that it uses. The kit's crates and those of tests are left out. `tools/pages/layers.py` draws this from `crates.txt`."""
 
 
-def picture() -> str:
+def main() -> int:
+    text = PAGE.read_text(encoding="utf-8")
+    if len(PLACE.findall(text)) != 1:
+        sys.exit("CONTRIBUTING.md: no room between <!-- layers --> and <!-- /layers -->")
     groups, uses, archives, group = {}, {}, [], "Crates"
     for line in (ROOT / "crates.txt").read_text(encoding="utf-8").splitlines():
         if line.startswith("#"):
@@ -44,16 +46,9 @@ def picture() -> str:
     lines += [f'  languages(["{languages}"]) -.-> {" & ".join(archives)}']
     used = {name: [it for it in all_used if it in uses] for name, all_used in uses.items()}
     lines += [f"  {name} --> {' & '.join(own)}" for name, own in used.items() if own]
-    return "\n".join([SAID, "", *lines, "```"])
-
-
-def main() -> int:
-    text = PAGE.read_text(encoding="utf-8")
-    if len(PLACE.findall(text)) != 1:
-        sys.exit("CONTRIBUTING.md: no room between <!-- layers --> and <!-- /layers -->")
-    faults = differing({PAGE: PLACE.sub(lambda _: picture(), text)}, parser_of(__doc__).parse_args().check)
-    print("\n".join(faults or ["CONTRIBUTING.md: the picture of the layers is what crates.txt gives"]))
-    return 1 if faults else 0
+    picture = "\n".join([SAID, "", *lines, "```"])
+    faults = differing({PAGE: PLACE.sub(lambda _: picture, text)}, parser_of(__doc__).parse_args().check)
+    return ended(faults, f"CONTRIBUTING.md: the picture of the layers, {len(faults)} faults")
 
 
 if __name__ == "__main__":

@@ -2,10 +2,9 @@
 """Wants each code block of the pages to stand in a file of the repository that the gate proves, and each
 link to lead somewhere.
 
-A block is told by its language, `rust` or `antt`. Its paragraphs must all stand in one source file of
-crates/, but for how their lines are broken. Of a paragraph of imports, `ghost use PATH.{NAME, NAME}`, the
-file must import each name by that path: a page shows the imports that its example needs, and the file has
-those of its other functions too. The pages of docs/api have a script of their own for their blocks.
+A block is told by its language, `rust` or `antt`. Its paragraphs must all stand in one source file of crates/, but for how their
+lines are broken. Of a paragraph of imports, `ghost use PATH.{NAME, NAME}`, the file must import each name by that path, and may
+import more. The pages of docs/api have a script of their own for their blocks.
 
 A link may name a heading of its page or of another, or a line of a file, as `specs/Text.antt#L12`. A path to a caller
 that a page names, as `callers::first::data_named`, must lead to one; without a crate before it, it is one of
@@ -16,7 +15,7 @@ import re
 import sys
 
 sys.path.insert(0, str(pathlib.Path(__file__).resolve().parents[1]))
-from pages.sources import ROOT, read
+from pages.sources import ROOT, anchor, ended, read
 
 BLOCK = re.compile(r"^ *```(rust|antt)\n(.*?)^ *```$", re.MULTILINE | re.DOTALL)
 ENDS = {"rust": ".rt", "antt": ".antt"}
@@ -27,23 +26,18 @@ CALLERS = ("elf_callers", "linking_callers")
 CALLER = re.compile(r"`((?:elf_callers::|linking_callers::)?(?:callers(?:::[a-z]\w*)+|recipes::\w+|evidence(?:::\w+)+)|elf_evidence(?:::\w+)+)`")
 
 
-def paragraphs(text: str) -> list:
-    """Runs of lines with no empty one between, less a first line that only names a file."""
-    text = re.sub(r"\A-- \S+\.antt\n", "", text)
-    return [one_line(it) for it in re.split(r"\n\s*\n", text) if it.strip()]
-
-
 def one_line(text: str) -> str:
     return " ".join(text.split())
 
 
-def imports(text: str) -> set:
-    """Each name that a text imports for clauses, with its path."""
-    return {(path, name.strip()) for path, names in IMPORT.findall(text) for name in names.split(",")}
+def paragraphs(text: str) -> list:
+    """Runs of lines with no empty one between, less a first line that only names a file."""
+    return [one_line(it) for it in re.split(r"\n\s*\n", re.sub(r"\A-- \S+\.antt\n", "", text)) if it.strip()]
 
 
 def stands_in(part: str, text: str) -> bool:
-    """Whether a file has a paragraph, or all the imports of one that has nothing else."""
+    """Whether a file has a paragraph, or all the imports of one that has nothing else: each name for clauses, with its path."""
+    imports = lambda it: {(path, name.strip()) for path, names in IMPORT.findall(it) for name in names.split(",")}
     return part in text or not IMPORT.sub("", part).strip() and imports(part) <= imports(text)
 
 
@@ -56,24 +50,19 @@ def leads(page: pathlib.Path, link: str) -> bool:
     text = target.read_text(encoding="utf-8")
     if line := re.fullmatch(r"L(\d+)", inside):
         return int(line[1]) <= text.count("\n")
-    return inside in {re.sub(r"[^\w\- ]", "", it.lower()).replace(" ", "-") for it in HEADING.findall(text)}
-
-
-def callers() -> tuple:
-    """The paths of the modules and items of the crates of callers, and the items without a doc of their own."""
-    known, faults = set(), []
-    for source in (it for it in read().values() if it.crate in CALLERS):
-        known |= {source.path_of, *(f"{source.path_of}::{name}" for name in source.items)}
-        docs = [it.doc for it in source.items.values()]
-        faults += [f"{source.path_of}: {it.name} has no doc of its own" for it in source.items.values() if not it.doc or docs.count(it.doc) > 1]
-    return known, faults
+    return inside in map(anchor, HEADING.findall(text))
 
 
 def main() -> int:
     files = [it for it in ROOT.glob("crates/*/*/**/*") if it.suffix in ENDS.values() and "out" not in it.parts]
     texts = {it: one_line(it.read_text(encoding="utf-8")) for it in files}
     pages = [ROOT / "README.md", ROOT / "CONTRIBUTING.md", ROOT / "CALLING.md", *sorted((ROOT / "docs").rglob("*.md"))]
-    (known, faults), count = callers(), 0
+    # The paths of the modules and items of the crates of callers, and the items without a doc of their own.
+    known, faults, count = set(), [], 0
+    for source in (it for it in read().values() if it.crate in CALLERS):
+        known |= {source.path_of, *(f"{source.path_of}::{name}" for name in source.items)}
+        docs = [it.doc for it in source.items.values()]
+        faults += [f"{source.path_of}: {it.name} has no doc of its own" for it in source.items.values() if not it.doc or docs.count(it.doc) > 1]
     for page in pages:
         said, name = page.read_text(encoding="utf-8"), page.relative_to(ROOT)
         links = (it for it in LINK.findall(said) if "://" not in it)
@@ -84,8 +73,7 @@ def main() -> int:
             parts = paragraphs(block)
             if not any(it.suffix == ENDS[language] and all(stands_in(part, text) for part in parts) for it, text in texts.items()):
                 faults.append(f"{name}: NOT QUOTED from one file: {parts[0][:90]}")
-    print("\n".join([*faults, f"{count} code blocks, {len(faults)} faults"]))
-    return 1 if faults else 0
+    return ended(faults, f"{count} code blocks, {len(faults)} faults")
 
 
 if __name__ == "__main__":

@@ -6,10 +6,9 @@
 
 Both print how many definitions the contracts of some calls lead to, and fail where there are more than the call's bound.
 
-The page is written by hand but for two kinds of rooms. One names calls, by `<!-- read CRATE::MODULE CALL .. -->`,
-and takes a row for each definition that their clauses lead to (tools/pages/definitions.py), but for those that stand
-in a room above. The other names bytes of a file of the repository, by `<!-- bytes FILE FIRST COUNT -->`, and takes
-them in hexadecimal. A room ends with `<!-- end -->`.
+The page is written by hand but for two kinds of rooms. `<!-- read CRATE::MODULE CALL .. -->` takes a row for each definition that
+the clauses of these calls lead to (tools/pages/definitions.py), but for those that stand in a room above.
+`<!-- bytes FILE FIRST COUNT -->` takes bytes of a file of the repository in hexadecimal. A room ends with `<!-- end -->`.
 """
 import pathlib
 import re
@@ -17,7 +16,7 @@ import sys
 
 sys.path.insert(0, str(pathlib.Path(__file__).resolve().parents[1]))
 from pages.definitions import Reader
-from pages.writing import ROOT, differing, parser_of
+from pages.sources import ROOT, differing, ended, parser_of
 
 PAGE = ROOT / "docs" / "READING.md"
 
@@ -37,15 +36,6 @@ def place(path, line: int) -> str:
     return f"../{path.relative_to(ROOT)}#L{line}"
 
 
-def sentence(text: str) -> str:
-    """What stands above a definition, in one line of a table."""
-    return re.split(r"(?<=\.) ", " ".join(text.split()))[0].replace("|", "\\|").rstrip(".")
-
-
-def counted(count: int, one: str) -> str:
-    return f"{count} {one}{'' if count == 1 else 's'}"
-
-
 class Lists:
     """The lists of a page, in order: a definition has its row in the first list that needs it."""
 
@@ -54,11 +44,10 @@ class Lists:
 
     def read(self, named: str) -> str:
         """The list of some calls, each named by `CRATE::MODULE CALL`."""
-        contracts, words = [], named.split()
-        for whole, call in zip(words[::2], words[1::2]):
-            contracts.append((call, self.reader.named(whole, call)))
-        found = self.reader.reached([contract for _, contract in contracts])
-        of = " and ".join(f"[`{call}`]({place(path, line)})" for call, (_, _, path, line) in contracts)
+        words = named.split()
+        contracts = {call: self.reader.named(whole, call) for whole, call in zip(words[::2], words[1::2])}
+        found = self.reader.reached([*contracts.values()])
+        of = " and ".join(f"[`{call}`]({place(path, line)})" for call, (_, _, path, line) in contracts.items())
         lines = [f"By {of}: {self.sizes(found)}.", ""]
         if seen := [one for one in found if (one.path, one.line) in self.above]:
             lines[0] += f" Of these, {len(seen)} {'is' if len(seen) == 1 else 'are'} in a list above; the others are"
@@ -66,17 +55,16 @@ class Lists:
         lines += ["| | Definition | Lines | What it says |", "|---:|---|---:|---|"]
         for one in found:
             if self.above.setdefault((one.path, one.line), len(self.above) + 1) == len(self.above) and one not in seen:
-                lines.append(self.row(one))
+                # The first sentence above the definition.
+                said = re.split(r"(?<=\.) ", " ".join(one.about.split()))[0].replace("|", "\\|").rstrip(".")
+                said = said or {"type": "a type of the code"}.get(one.kind, "")
+                lines.append(f"| {self.above[one.path, one.line]} | [`{one.name}`]({place(one.path, one.line)}) | {one.size} | {said} |")
         return "\n".join([*lines, "", f"Words of std: {', '.join(f'`{it}`' for it in self.reader.std)}.", ""])
 
     @staticmethod
     def sizes(found: list) -> str:
-        size, files = sum(one.size for one in found), len({one.path for one in found})
-        return f"{counted(len(found), 'definition')}, {counted(size, 'line')} in {counted(files, 'file')}"
-
-    def row(self, one) -> str:
-        said = sentence(one.about) or {"type": "a type of the code"}.get(one.kind, "")
-        return f"| {self.above[one.path, one.line]} | [`{one.name}`]({place(one.path, one.line)}) | {one.size} | {said} |"
+        counts = (len(found), "definition"), (sum(one.size for one in found), "line"), (len({one.path for one in found}), "file")
+        return "{}, {} in {}".format(*(f"{count} {one}{'' if count == 1 else 's'}" for count, one in counts))
 
 
 def bytes_of(named: str) -> str:
@@ -102,8 +90,8 @@ def main() -> int:
     given, lists, text = parser_of(__doc__).parse_args(), Lists(), PAGE.read_text(encoding="utf-8")
     wanted = ROOM.sub(lambda room: room[1] + (lists.read(room[3]) if room[2] == "read" else bytes_of(room[3])) + room[4], text)
     faults = differing({PAGE: wanted}, given.check)
-    print("\n".join([*faults, f"docs/READING.md: {len(ROOM.findall(text))} rooms, {len(lists.above)} definitions, {len(faults)} faults"]))
-    return 1 if closures() or faults else 0
+    status = ended(faults, f"docs/READING.md: {len(ROOM.findall(text))} rooms, {len(lists.above)} definitions, {len(faults)} faults")
+    return 1 if closures() else status
 
 
 if __name__ == "__main__":

@@ -4,11 +4,13 @@
     for path, item in public_items(sources, "elf_base"):    path, item.kind, item.name, item.doc, item.text
     Crate(ROOT / "crates" / "elf_base").functions           each with its file, its lines and the path by which a check names it
 
+Also what scripts share that write files from the sources, and with --check compare them.
+
 An item begins at the left margin, a method four blanks further in, and the brace of a body stands alone on its line
 where a function has clauses.
 """
+import argparse
 import collections
-import dataclasses
 import pathlib
 import re
 
@@ -22,50 +24,20 @@ USE = re.compile(r"^(pub )?use ([^;]+);", re.MULTILINE)
 NO_STAND_IN = re.compile(r"\bconst (?:unsafe )?fn\b|-> impl\b")
 
 
-@dataclasses.dataclass
-class Item:
-    """A public item: its kind, its doc, and its text up to the body."""
-
-    kind: str
-    name: str
-    doc: str
-    text: str
-    source: "Source"
-    at: int
+# A public item: its kind, its doc, and its text up to the body.
+Item = collections.namedtuple("Item", "kind name doc text source at")
+# An impl block or a trait: the trait of an impl, the type, the indices of its first and last line, its name in the path of a
+# function, as `Table`, `TableClone` or `Part_+P32`, and the type of an impl of no trait.
+Block = collections.namedtuple("Block", "trait type source at end is_trait label owner")
 
 
-@dataclasses.dataclass
-class Block:
-    """An impl block or a trait: the trait of an impl, the type, and the indices of its first and last line."""
-
-    trait: str
-    type: str
-    source: "Source"
-    at: int
-    end: int
-    is_trait: bool
-    # its name in the path of a function, as `Table`, `TableClone`, `Part_+P32`; the type of an impl of no trait
-    label: str
-    owner: str
+FUNCTION_FIELDS = "file first last path named_at body owner in_trait of"
 
 
-@dataclasses.dataclass(frozen=True)
-class Function:
-    """A function of a source file, by the lines that it takes, its attributes among them."""
-
-    file: str
-    first: int
-    last: int
-    path: str
-    # the line of its name, and the line that opens the body
-    named_at: int = 0
-    body: int = 0
-    # the type of an inherent method, which a check names by the module of that type
-    owner: str = ""
-    # whether it stands in a trait or an impl of one, and so can't have another name
-    in_trait: bool = False
-    # its trait, or its type where it is of no trait
-    of: str = ""
+class Function(collections.namedtuple("Function", FUNCTION_FIELDS, defaults=(0, 0, "", False, ""))):
+    """A function of a source file, by the lines that it takes, its attributes among them, the line of its name, and the line that
+    opens the body. The owner is the type of an inherent method, which a check names by the module of that type. One that stands
+    in a trait or an impl of one can't have another name. Last its trait, or its type where it is of no trait."""
 
     def tail(self) -> str:
         return "::".join(self.path.split("::")[-2:])
@@ -75,7 +47,7 @@ class Function:
 
     def moved(self, lines: int):
         """The function so many lines further down."""
-        return dataclasses.replace(self, first=self.first + lines, last=self.last + lines, body=self.body + lines)
+        return self._replace(first=self.first + lines, last=self.last + lines, body=self.body + lines)
 
 
 def label_of(found: re.Match) -> tuple:
@@ -101,7 +73,8 @@ class Source:
         module = path.relative_to(folder / "src").with_suffix("")
         self.module = "" if module.name in ("lib", "main") and len(module.parts) == 1 else "::".join(module.parts)
         self.path_of = "::".join(it for it in (self.crate, self.module) if it)
-        self.items = {it.name: it for it in self.items_at_margin()}
+        found = [(at, it) for at, line in enumerate(self.lines) if (it := ITEM.match(line))]
+        self.items = {it[2]: Item(it[1].split()[-1], it[2], self.doc_above(at), self.text_from(at, ""), self, at) for at, it in found}
         self.uses = list(self.read_uses())
         self.blocks = list(self.read_blocks())
         self.functions = list(self.read_functions())
@@ -134,11 +107,6 @@ class Source:
                 break
         return "\n".join(taken)
 
-    def items_at_margin(self):
-        for at, line in enumerate(self.lines):
-            if found := ITEM.match(line):
-                yield Item(found[1].split()[-1], found[2], self.doc_above(at), self.text_from(at, ""), self, at)
-
     def read_uses(self):
         """Each name that a `use` item brings: whether it is public, the path, and the name there."""
         for public, whole in USE.findall(self.text):
@@ -152,9 +120,6 @@ class Source:
             if re.match(r"(pub(\(\w+\))? )?(impl|trait)\b", line) and (found := BLOCK.match(" ".join(self.lines[at : at + 7]).split("{")[0] + "{")):
                 end = at if line.endswith("}") else self.lines.index("}", at)
                 yield Block(found[3] or "", found[5], self, at, end, found[1] == "trait", *label_of(found))
-
-    def impls(self) -> list:
-        return [it for it in self.blocks if not it.is_trait]
 
     def block_at(self, at: int):
         return next((it for it in self.blocks if it.at <= at <= it.end), None)
@@ -185,10 +150,6 @@ class Source:
                 of = block and (block.trait if block.trait and len(block.type) == 1 else block.type) or ""
                 yield Function(self.file, first or at, last, path, at, body, block.owner if block else "", in_trait, of)
             first = None
-
-    def given_by(self, trait: str) -> list:
-        """The traits that this file implements for all types of a trait of its own."""
-        return re.findall(rf"^impl<\w: {trait}> (\w+) for \w ", self.text, re.M)
 
 
 def spread(path: str) -> list:
@@ -246,8 +207,9 @@ def public_items(sources: dict, crate: str):
 def impls_of(sources: dict, item: Item):
     """The impl blocks of a type, in the order of the files of its crate."""
     for (crate, _), source in sources.items():
-        for block in source.impls():
-            if crate == item.source.crate and block.type == item.name and meant(sources, source, block.type) is item:
+        for block in source.blocks:
+            is_of = crate == item.source.crate and not block.is_trait and block.type == item.name
+            if is_of and meant(sources, source, block.type) is item:
                 yield block
 
 
@@ -314,3 +276,30 @@ class Crate:
         *above, name = self.told_path(one).split("::")[1:]
         found = [it.relative_to(self.folder / "proofs").parts for it in (self.folder / "proofs").rglob(name) if it.is_dir()]
         return [it for it in found if [part for part in it[:-1] if part != "fn"] == above]
+
+
+def parser_of(doc) -> argparse.ArgumentParser:
+    """The arguments of a script, which are described in its head."""
+    parser = argparse.ArgumentParser(description=doc, formatter_class=argparse.RawDescriptionHelpFormatter)
+    parser.add_argument("--check", action="store_true", help="write nothing, and fail where something differs")
+    return parser
+
+
+def anchor(heading: str) -> str:
+    """What a link names a heading by."""
+    return re.sub(r"[^\w\- ]", "", heading.lower()).replace(" ", "-")
+
+
+def differing(texts: dict, is_check: bool) -> list:
+    """Writes each file, or says of those that have another text."""
+    for path, text in texts.items():
+        if not is_check:
+            path.write_text(text, encoding="utf-8")
+    return [f"{path.relative_to(ROOT)} is not what the sources give" for path, text in texts.items()
+            if not path.exists() or path.read_text(encoding="utf-8") != text]
+
+
+def ended(faults: list, said: str) -> int:
+    """Prints faults, and what is said behind them; gives the status."""
+    print("\n".join([*faults, said]))
+    return 1 if faults else 0

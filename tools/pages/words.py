@@ -3,17 +3,15 @@
 
     tools/pages/words.py
 
-The words are those of WORDS. A page says instead that a call returns a value or an error, that the prover rejects a
-body, or that code follows a chain. Code blocks, text in backquotes, link targets, comments and the generated parts of
-pages are not counted, since a word may be a name there.
-
-The comments of each crate count too, those above definitions and items, and those of the exports, which the header has.
+The words are those of WORDS. A page says instead that a call returns a value or an error, that the prover rejects a body, or that
+code follows a chain. Code blocks, text in backquotes, link targets, comments and the generated parts of pages are not counted,
+since a word may be a name there. The comments of each crate count too, and those of the exports, which the header has.
 """
-import pathlib
 import re
 import sys
 
-ROOT = pathlib.Path(__file__).resolve().parents[2]
+from sources import ROOT, ended
+
 PAGES = ("*.md", "docs/*.md", "bindings/**/*.md", "bench/*.md", "oracle/*.md", "tools/*.md")
 
 # Folders that package managers and compilers fill.
@@ -37,33 +35,22 @@ PARTS = (
 )
 
 
-def prose_of(page: pathlib.Path) -> str:
-    """A page with blanks in the place of all that isn't prose."""
-    text = page.read_text(encoding="utf-8")
-    for part in PARTS:
-        text = part.sub(lambda found: re.sub(r"[^\n]", " ", found[0]), text)
-    return text
-
-
-def comments_of(path: pathlib.Path) -> str:
-    """The comments of a file on their lines, but for names in backquotes."""
-    lines = [COMMENT.match(line) for line in path.read_text(encoding="utf-8").splitlines()]
-    return "\n".join(re.sub(r"`[^`]*`", "", line[1] or line[2] or "") if line else "" for line in lines)
-
-
-def words_in(path: pathlib.Path, text: str) -> list:
-    """The words in a text, each with its file and line."""
-    name = path.relative_to(ROOT)
-    return [f"{name}:{number}: {word[0]}" for number, line in enumerate(text.splitlines(), 1) for word in WORDS.finditer(line)]
-
-
 def main() -> int:
     pages = [it for names in PAGES for it in sorted(ROOT.glob(names)) if not OTHERS & set(it.relative_to(ROOT).parts)]
     sources = sorted([*ROOT.glob("crates/*/specs/**/*.antt"), *ROOT.glob("crates/*/src/**/*.rt"), ROOT / "bindings/exports.toml"])
-    texts = [*((it, prose_of(it)) for it in pages), *((it, comments_of(it)) for it in sources)]
-    found = [place for path, text in texts for place in words_in(path, text)]
-    print("\n".join([*found, f"{len(found)} of the words on {len(pages)} pages and in comments"]))
-    return 1 if found else 0
+    texts = []
+    for page in pages:
+        text = page.read_text(encoding="utf-8")
+        for part in PARTS:
+            text = part.sub(lambda found: re.sub(r"[^\n]", " ", found[0]), text)
+        texts.append((page, text))
+    for path in sources:
+        # The comments on their lines, but for names in backquotes.
+        lines = [COMMENT.match(line) for line in path.read_text(encoding="utf-8").splitlines()]
+        texts.append((path, "\n".join(re.sub(r"`[^`]*`", "", line[1] or line[2] or "") if line else "" for line in lines)))
+    found = [f"{path.relative_to(ROOT)}:{number}: {word[0]}" for path, text in texts
+             for number, line in enumerate(text.splitlines(), 1) for word in WORDS.finditer(line)]
+    return ended(found, f"{len(found)} of the words on {len(pages)} pages and in comments")
 
 
 if __name__ == "__main__":

@@ -3,7 +3,7 @@
     with Chromium("http://127.0.0.1:8042/", 1440, 900) as page:
         page.run("document.title")
 """
-import re
+import json
 
 from selenium import webdriver
 from selenium.common.exceptions import WebDriverException
@@ -44,18 +44,36 @@ class Chromium(webdriver.Chrome):
         """Waits until an expression is true. While another page is being opened, none is."""
         WebDriverWait(self, seconds, 0.02, [WebDriverException]).until(lambda _: self.run(condition), f"never true: {condition}")
 
-    def choose_files(self, selector, paths):
-        self.find_element(By.CSS_SELECTOR, selector).send_keys("\n".join(map(str, paths)))
+    def text(self, selector):
+        """The text of the first element of a selector of CSS; None where there is none."""
+        return self.run(f"document.querySelector({json.dumps(selector)})?.textContent ?? null")
 
-    def drop(self, paths, x=600, y=400):
-        """Drops files on the page, as the mouse does."""
-        data = {"items": [], "files": [str(it) for it in paths], "dragOperationsMask": 1}
+    def texts(self, selector):
+        return self.run(f"Array.from(document.querySelectorAll({json.dumps(selector)}), (it) => it.textContent)")
+
+    def click(self, selector):
+        self.run(f"document.querySelector({json.dumps(selector)}).click()")
+
+    def wait_text(self, selector, pattern, seconds=30):
+        """Waits until the text of an element has a part that a regular expression of JavaScript matches."""
+        self.wait(f"/{pattern}/.test(document.querySelector({json.dumps(selector)})?.textContent)", seconds)
+
+    def choose_file(self, path):
+        """Hands a file to the input of the file dialog."""
+        self.find_element(By.ID, "file").send_keys(str(path))
+
+    def drop(self, path, x=600, y=400):
+        """Drops a file on the page, as the mouse does."""
+        data = {"items": [], "files": [str(path)], "dragOperationsMask": 1}
         for kind in ("dragEnter", "dragOver", "drop"):
             self.send("Input.dispatchDragEvent", type=kind, x=x, y=y, data=data)
 
-    def key(self, name):
-        """Presses a key, as `Enter` or `PageDown`."""
-        ActionChains(self).send_keys(getattr(Keys, re.sub("(?<=[a-z])(?=[A-Z])", "_", name).upper())).perform()
+    def keys(self, *names, at=None):
+        """Presses keys, as `ENTER` or `PAGE_DOWN`, one after the other, at an element where one is named."""
+        if at:
+            self.run(f"document.querySelector({json.dumps(at)}).focus()")
+        for name in names:
+            ActionChains(self).send_keys(getattr(Keys, name)).perform()
 
     def look(self, scheme):
         """Light or dark, with no transition between them."""

@@ -5,15 +5,14 @@
 
 Drops files on the page and compares what it shows with readelf; opens damaged and foreign files, an empty one and one that
 doesn't fit; filters and scrolls a long table; stops work; and goes through the page by the keyboard. FOLDER is a built one,
-bindings/web/out/site where none is given. Where Debian's selenium or its driver isn't installed it says so, and the
-status is 0.
+bindings/web/out/site where none is given. It needs Debian's selenium and its driver.
 """
 import argparse
 import functools
 import http.server
+import itertools
 import pathlib
 import re
-import shutil
 import subprocess
 import sys
 import tempfile
@@ -23,18 +22,15 @@ import time
 sys.path.insert(1, str(pathlib.Path(__file__).resolve().parents[1]))
 import files
 import readelf
-from compare import damage
-from comparison import compare_file, compare_segments, compare_tables, symbol_form
-
-try:
-    from chromium import Chromium
-except ImportError as missing:
-    Chromium, WHY = None, missing
+from chromium import By, Chromium
+from compare import comparing, damage
+from readelf import PANEL, compare_file, compare_segments, compare_tables, symbol_form
 
 TOP = pathlib.Path(__file__).resolve().parents[2]
 MOST_ROWS = 800
 SIZE = (1440, 2400)
 LIBRARIES = pathlib.Path("/usr/lib/x86_64-linux-gnu")
+LIBC, LIBM = LIBRARIES / "libc.so.6", LIBRARIES / "libm.so.6"
 TABS = ("Overview", "Layout", "Sections", "Segments", "Symbols", "Versions", "Relocations", "Dynamic", "Notes", "Hash tables")
 
 # Texts in view whose contrast with what is behind them is below 4.5, as the accessibility guidelines ask for.
@@ -121,26 +117,35 @@ async (most) => {
 class Test:
     """The page, and what differed."""
 
-    def __init__(self, page):
-        self.page, self.differences, self.compared = page, [], 0
+    def __init__(self, page, site, count, room):
+        self.page, self.site, self.count, self.room = page, site, count, room
+        self.example, self.differences, self.compared = site / "example.elf", [], 0
 
     def same(self, where, shown, wanted):
         self.compared += 1
         if shown != wanted:
             self.differences.append(f"{where}: the page says {shown!r}, and {wanted!r} is wanted")
 
-    def open(self, path, drops=False):
-        """Opens a file by the file dialog's input, or drops it."""
+    def wait(self, condition, seconds=5):
+        """Waits until an expression is true, which counts as a comparison."""
+        self.page.wait(condition, seconds)
+        self.compared += 1
+
+    def open(self, path, drops=False, tab=None):
+        """Opens a file by the file dialog's input, or drops it, and then a tab."""
         self.page.run("document.body.dataset.state = 'waiting'")
-        if drops:
-            self.page.drop([path])
-        else:
-            self.page.choose_files("#file", [path])
+        (self.page.drop if drops else self.page.choose_file)(path)
         self.page.wait("document.body.dataset.state === 'ready'", 60)
+        if tab:
+            self.tab(tab)
 
     def tab(self, title):
-        name = title.lower().replace(" ", "")
-        self.page.run(f"document.getElementById('tab-{name}').click()")
+        self.page.click(f"#tab-{title.lower().replace(' ', '')}")
+
+    def tabs(self):
+        for title in TABS:
+            self.tab(title)
+            yield title
 
     def rows(self, most=MOST_ROWS):
         said = self.page.run(f"({ROWS})({most})")
@@ -148,49 +153,30 @@ class Test:
 
     def choose(self, label, text):
         """Chooses, in the panel in view, the option that begins with a text."""
-        return self.page.run("""((label, text) => {
-          const panel = document.querySelector("[role=tabpanel]:not([hidden])");
-          const field = Array.from(panel.querySelectorAll("label")).find((it) => it.firstChild.textContent === label);
-          const chosen = field?.querySelector("select");
-          const option = chosen && Array.from(chosen.options).find((it) => it.textContent.startsWith(text + " ("));
-          if (!option) return false;
-          chosen.value = option.value;
-          chosen.dispatchEvent(new Event("change"));
-          return true;
-        })(%r, %r)""" % (label, text))
+        field = f"//*[@role='tabpanel'][not(@hidden)]//label[span='{label}']"
+        options = self.page.find_elements(By.XPATH, f"{field}//option[starts-with(., '{text} (')]")
+        for option in options[:1]:
+            option.click()
+        return bool(options)
+
+    def go(self, what, number):
+        self.page.run(f"(() => {{ const it = document.getElementById('go'); it.elements.what.value = '{what}';"
+                      f" it.elements.where.value = '{number:x}'; it.requestSubmit(); }})()")
 
 
 def system_files(count):
     """Files of this system, of all sizes up to 8 MiB, and small ones of this repository."""
-    found = [TOP / "crates/elfnm/data/add.o", TOP / "crates/elfsym/data/stripped.so"]
-    found += [pathlib.Path(it) for it in ("/usr/lib32/libc.so.6", "/usr/lib32/libm.so.6", "/usr/lib/x86_64-linux-gnu/crt1.o", "/usr/lib/x86_64-linux-gnu/libc.so.6",
-                                          "/usr/lib/x86_64-linux-gnu/libm.so.6", "/usr/bin/readelf", "/usr/bin/python3")]
-    others = [it for folder in ("/usr/lib/x86_64-linux-gnu", "/usr/bin") for it in sorted(pathlib.Path(folder).iterdir())
-              if it.is_file() and not it.is_symlink() and it.stat().st_size < 8 << 20 and is_elf(it)]
-    step = max(1, len(others) // count)
-    return [it for it in [*found, *others[::step]] if it.exists()][:count]
+    found = [TOP / "crates/elfnm/data/add.o", TOP / "crates/elfsym/data/stripped.so", *(pathlib.Path("/usr/lib32", it.name) for it in (LIBC, LIBM)),
+             LIBRARIES / "crt1.o", LIBC, LIBM, pathlib.Path("/usr/bin/readelf"), pathlib.Path("/usr/bin/python3")]
+    return [it for it in [*found, *comparing.spread(count, 8 << 20)] if it.exists()][:count]
 
 
-def large_file():
-    """The largest library that is likely to be here: the compiler of Rust, LLVM's, or Python."""
-    rust = shutil.which("rustc") and subprocess.run(["rustc", "--print", "sysroot"], capture_output=True, text=True).stdout.strip()
-    compilers = sorted(pathlib.Path(rust, "lib").glob("librustc_driver-*.so")) if rust else []
-    others = ("/usr/lib/x86_64-linux-gnu/libLLVM-15.so.1", "/usr/lib/x86_64-linux-gnu/libLLVM-14.so.1", "/usr/bin/python3")
-    return next(it for it in [*compilers, *map(pathlib.Path, others)] if it.exists())
-
-
-def is_elf(path):
-    with open(path, "rb") as file:
-        return file.read(4) == b"\x7fELF"
-
-
-def try_comparison(test, options, room):
+def try_comparison(test):
     """Files of the system and of other machines, of both classes and byte orders, compared with readelf."""
-    others = files.of_other_machines(room)
-    libraries = [LIBRARIES / "libc.so.6", LIBRARIES / "libm.so.6", *(it for it in others if it.suffix == ".so")]
-    bare = [files.without_sections(room, it) for it in libraries]
+    others = files.of_other_machines(test.room)
+    bare = [files.without_sections(test.room, it) for it in (LIBC, LIBM, *(it for it in others if it.suffix == ".so"))]
     stored = [TOP / "crates/elfsym/data" / it for it in ("versions.so", "needs.so")]
-    paths = [options.site / "example.elf", *stored, *bare, *system_files(options.files), *others]
+    paths = [test.example, *stored, *bare, *system_files(test.count), *others]
     for index, path in enumerate(paths):
         compare_file(test, path, drops=index % 10 == 0)
     headers = [readelf.header(path) for path in paths]
@@ -199,74 +185,52 @@ def try_comparison(test, options, room):
     print(f"web: compared {len(paths)} files for {machines} machines with readelf: {', '.join(kinds)}")
 
 
-def refusal_of(test, path):
-    test.open(path)
-    return test.page.run("document.body.dataset.view === 'viewer' ? null : document.getElementById('message').textContent")
-
-
-def try_foreign(test, options, room):
+def try_foreign(test):
     """Files that are no ELF files, and one that doesn't fit, are refused by name and reason."""
-    foreign = {"a.txt": (b"plain text\n" * 9, "Did not find ELF magic number"), "empty": (b"", "File is shorter than the first ELF header part"),
-               "<img src=x onerror=alert(1)>": (b"\x7fELF", "File is shorter than the first ELF header part")}
+    short = "File is shorter than the first ELF header part"
+    foreign = {"a.txt": (b"plain text\n" * 9, "Did not find ELF magic number"), "empty": (b"", short),
+               "<img src=x onerror=alert(1)>": (b"\x7fELF", short), "too-large.elf": (b"", "does not fit")}
     for name, (data, text) in foreign.items():
-        (room / name).write_bytes(data)
-        said = refusal_of(test, room / name)
-        test.same(f"{name}: refused", bool(said) and name in said and text in said, True)
-    large = room / "too-large.elf"
-    with open(large, "wb") as file:
-        file.truncate(1 << 40)
-    said = refusal_of(test, large)
-    test.same("too large: refused by name", bool(said) and "too-large.elf" in said and "does not fit" in said, True)
+        with open(test.room / name, "wb") as file:
+            file.write(data)
+            file.truncate(1 << 40 if name == "too-large.elf" else None)
+        test.open(test.room / name)
+        said = test.page.text("#message")
+        is_refused = test.page.run("document.body.dataset.view") != "viewer"
+        test.same(f"{name}: refused", is_refused and name in said and text in said, True)
 
 
-def try_damaged(test, options, room):
+def try_damaged(test):
     """Damaged files are shown as far as they can be read, each tab of them."""
     for index in range(30):
-        path = room / f"damaged-{index}"
+        path = test.room / f"damaged-{index}"
         path.write_bytes(damage.damaged(1, index))
         test.open(path)
         if test.page.run("document.body.dataset.view") == "viewer":
-            for tab in TABS:
-                test.tab(tab)
-            test.compared += 1
+            test.compared += bool([*test.tabs()])
     test.tab("Overview")
 
 
-# What the Overview says of the checks; the labels of the columns of the table in view.
-CHECKS = """
-(() => {
-  const card = Array.from(document.querySelectorAll(".card")).find((it) => it.querySelector("h3")?.textContent === "What the checks say");
-  return Array.from(card.querySelectorAll("dt"), (it) => `${it.textContent}: ${it.nextElementSibling.textContent}`);
-})()
-"""
-LABELS = "Array.from(document.querySelectorAll('[role=tabpanel]:not([hidden]) [role=columnheader]'), (it) => it.textContent)"
+# The terms of a list and what it says of each; what the Overview says of the checks.
+TERMS = "Array.from(%s, (it) => `${it.textContent}: ${it.nextElementSibling.textContent}`)"
+CHECKS = TERMS % """Array.from(document.querySelectorAll(".card")).find((it) =>
+  it.querySelector("h3")?.textContent === "What the checks say").querySelectorAll("dt")"""
 
 
-def said_of(test, tab, label):
-    """The texts of a column of a table, by row; none where the table hasn't the column."""
-    test.tab(tab)
-    labels, (_, rows) = test.page.run(LABELS), test.rows()
-    return {index: row[labels.index(label)] for index, row in rows.items()} if label in labels else {}
-
-
-def try_hardening(test, options, room):
+def try_hardening(test):
     """What the overview says of how a file is hardened, for programs linked in several ways and shared objects."""
-    shown = "Array.from(document.querySelectorAll('.hardened dt'), (it) => `${it.textContent}: ${it.nextElementSibling.textContent}`)"
-    programs = list(files.hardened(room))
-    libraries = [it for it in (LIBRARIES / "libc.so.6", LIBRARIES / "libz.so.1") if it.exists()]
-    bare = [files.without_sections(room, it) for it in programs[:-1]]
-    for path in (*programs, *libraries, *bare):
-        test.open(path)
-        test.tab("Overview")
-        test.same(f"{path}: hardening", test.page.run(shown), readelf.hardening(path))
+    programs = list(files.hardened(test.room))
+    libraries = [it for it in (LIBC, LIBRARIES / "libz.so.1") if it.exists()]
+    for path in (*programs, *libraries, *(files.without_sections(test.room, it) for it in programs[:-1])):
+        test.open(path, tab="Overview")
+        test.same(f"{path}: hardening", test.page.run(TERMS % "document.querySelectorAll('.hardened dt')"), readelf.hardening(path))
 
 
-def try_refused_symbols(test, options, room):
+def try_refused_symbols(test):
     """Where a section of dynamic symbols is refused, those of the dynamic segment are shown."""
-    whole = LIBRARIES / "libm.so.6"
-    path = files.refused_symbols(room, whole)
+    path = files.refused_symbols(test.room, LIBM)
     test.open(path)
-    compare_tables(test, path, "Symbols", "Table", {"the dynamic segment": readelf.symbols(whole)[".dynsym"]}, symbol_form)
+    compare_tables(test, path, "Symbols", "Table", {"the dynamic segment": readelf.symbols(LIBM)[".dynsym"]}, symbol_form)
 
 
 # Looks a name up in each hash table: what the page says of the table, of its check and of the name.
@@ -284,78 +248,77 @@ LOOK_UPS = """
 """
 
 
-def try_hash_tables(test, options, room):
+def try_hash_tables(test):
     """The hash tables of a file without section headers are those that its dynamic segment names; each passes its check, and
     finds a symbol as readelf lists it."""
-    libraries = [LIBRARIES / "libm.so.6", options.site / "example.elf", *(it for it in files.of_other_machines(room) if it.suffix == ".so")]
-    for path in [files.without_sections(room, it) for it in libraries]:
+    libraries = [LIBM, test.example, *(it for it in files.of_other_machines(test.room) if it.suffix == ".so")]
+    for path in [files.without_sections(test.room, it) for it in libraries]:
         tags = [name for _, name, _ in readelf.dynamic(path)]
         symbols = readelf.symbols(path)["the dynamic segment"]
         names = [it[6] for it in symbols]
         number, value, *_, name, _ = next(it for it in reversed(symbols) if int(it[1], 16) and it[4] == "GLOBAL" and names.count(it[6]) == 1)
-        test.open(path)
-        test.tab("Hash tables")
+        test.open(path, tab="Hash tables")
         cards = test.page.run(f"({LOOK_UPS})('{name}')")
-        kinds = [kind for tag, kind in (("GNU_HASH", "GNU"), ("HASH", "gABI")) if tag in tags]
-        wanted = [[f"DT_{'GNU_' if it == 'GNU' else ''}HASH{it} hash table", "passes its check", f"Symbol {number} at 0x{int(value, 16):x}"] for it in kinds]
+        kinds = [f"DT_{tag}{kind} hash table" for tag, kind in (("GNU_HASH", "GNU"), ("HASH", "gABI")) if tag in tags]
+        wanted = [[it, "passes its check", f"Symbol {number} at 0x{int(value, 16):x}"] for it in kinds]
         test.same(f"{path}: hash tables, and {name}", [[*it[:2], it[2].split(",")[0]] for it in cards], wanted)
 
 
-def try_examples(test, options):
+def try_examples(test):
     """The example without faults has none, by the page and by readelf. Of the other the page says what is wrong with the header,
     with each section and each segment, and with the hash table."""
     size, kind, end = "header_size does not match size of header", "Invalid sh type", "entry point out of range"
     align, outside = "Invalid combination of virtual_addr, offset, and align", "Data is out of range"
-    rows = lambda count, faults: {**dict.fromkeys(range(count), "passes"), **faults}
-    silent = lambda count, faults: {**dict.fromkeys(range(count), ""), **faults}
-    wanted = {"example.elf": [["Header: passes", "Sections: passes", "Segments: passes", "Hash table .hash: passes its check"],
-                              rows(19, {}), {}, rows(8, {}), {}],
-              "example-with-faults.elf": [[f"Header: {size}", f"Sections: {kind} at section 15", f"Segments: {end} at segment 5, and 1 more",
-                                           "Hash table .hash: Chain index is out of range"],
-                                          rows(19, {15: kind}), silent(19, {11: outside, 15: kind}), rows(8, {5: end, 7: align}), silent(8, {5: outside})]}
+    cells = lambda count, said, faults: {**dict.fromkeys(range(count), said), **faults}
+    good = ["Header: passes", "Sections: passes", "Segments: passes", "Hash table .hash: passes its check"]
+    bad = [f"Header: {size}", f"Sections: {kind} at section 15", f"Segments: {end} at segment 5, and 1 more",
+           "Hash table .hash: Chain index is out of range"]
+    wanted = {"example.elf": [good, cells(19, "passes", {}), {}, cells(8, "passes", {}), {}],
+              "example-with-faults.elf": [bad, cells(19, "passes", {15: kind}), cells(19, "", {11: outside, 15: kind}),
+                                          cells(8, "passes", {5: end, 7: align}), cells(8, "", {5: outside})]}
     for name, said in wanted.items():
         test.page.run("document.querySelector('.brand')?.click(), document.body.dataset.state = 'waiting'")
-        test.page.run(f"document.querySelector('[data-example=\"{name}\"]').click()")
+        test.page.click(f"[data-example='{name}']")
         test.page.wait("document.body.dataset.state === 'ready' && !document.querySelector('.overview .pending')")
         test.tab("Overview")
-        test.same(f"{name}: errors in the overview", test.page.run("document.querySelector('.overview .refusal') !== null"), name != "example.elf")
-        columns = [said_of(test, tab, label) for tab in ("Sections", "Segments") for label in ("Check", "Data")]
-        test.same(f"{name}: checks, and those of sections and segments with their data", [test.page.run(CHECKS), *columns], said)
-        printed = subprocess.run(["readelf", "--all", "--wide", options.site / name], capture_output=True).stderr
+        test.same(f"{name}: errors in the overview", test.page.text(".overview .refusal") is not None, name != "example.elf")
+        shown = [test.page.run(CHECKS)]
+        for tab in ("Sections", "Segments"):
+            test.tab(tab)
+            labels, (_, rows) = test.page.texts(f"{PANEL} [role=columnheader]"), test.rows()
+            # A table without faults hasn't all columns.
+            shown += [{index: row[labels.index(it)] for index, row in rows.items()} if it in labels else {} for it in ("Check", "Data")]
+        test.same(f"{name}: checks, and those of sections and segments with their data", shown, said)
+        printed = subprocess.run(["readelf", "--all", "--wide", test.site / name], capture_output=True).stderr
         test.same(f"{name}: errors by readelf", bool(printed), name != "example.elf")
 
 
-def try_back(test, options):
+def try_back(test):
     """Back and Forward lead through the views and files that were opened, and not out of the page."""
-    test.open(options.site / "example.elf")
-    test.tab("Overview")
-    test.page.run("document.querySelector('.brand').click()")
-    for path, tab in ((TOP / "crates/elfnm/data/add.o", "Symbols"), (options.site / "example.elf", "Notes")):
-        test.open(path)
-        test.tab(tab)
+    test.open(test.example, tab="Overview")
+    test.page.click(".brand")
+    test.open(TOP / "crates/elfnm/data/add.o", tab="Symbols")
+    test.open(test.example, tab="Notes")
     seen = """[document.body.dataset.view, document.getElementById('filename').textContent,
       document.querySelector('[role=tab][aria-selected=true] span').textContent, document.body.dataset.state].join(' ')"""
     steps = [("back", "viewer example.elf Symbols"), ("back", "viewer add.o Symbols"), ("back", "viewer add.o Overview"),
              ("back", "welcome add.o Overview"), ("forward", "viewer add.o Overview"), ("forward", "viewer add.o Symbols")]
     for step, wanted in steps:
         test.page.run(f"history.{step}()")
-        test.page.wait(f"{seen} === '{wanted} ready'", 10)
-        test.compared += 1
+        test.wait(f"{seen} === '{wanted} ready'", 10)
 
 
-def try_sorting(test, options):
+def try_sorting(test):
     """Symbols are sorted by their names, by the keyboard alone."""
-    path = LIBRARIES / "libm.so.6"
-    wanted = sorted(it[6] for it in readelf.symbols(path)[".dynsym"])
-    test.open(path)
-    test.tab("Symbols")
-    test.page.run("Array.from(document.querySelectorAll('[role=tabpanel]:not([hidden]) select')).at(-1).focus()")
-    for _ in range(5):
-        test.page.key("Tab")
-    test.same("the fifth stop after the filter", test.page.run("document.activeElement.textContent"), "Name")
+    wanted = sorted(it[6] for it in readelf.symbols(LIBM)[".dynsym"])
+    test.open(LIBM, tab="Symbols")
+    test.page.run(f"Array.from(document.querySelectorAll('{PANEL} select')).at(-1).focus()")
+    test.page.keys(*["TAB"] * 5)
+    test.same("the fifth stop after the filter", test.page.text(":focus"), "Name")
     for order, names in (("ascending", wanted), ("descending", wanted[::-1])):
-        test.page.key("Enter")
-        test.page.wait(f"document.querySelector('[aria-sort={order}]') && / of /.test(document.querySelector('[role=tabpanel]:not([hidden]) .said').textContent)")
+        test.page.keys("ENTER")
+        test.page.wait(f"document.querySelector('[aria-sort={order}]')")
+        test.page.wait_text(f"{PANEL} .said", " of ")
         time.sleep(0.3)
         _, rows = test.rows()
         test.same(f"names {order}", {at: row[7] for at, row in rows.items()}, {at: names[at] for at in rows})
@@ -369,94 +332,71 @@ CUT = """
   return [...cut.map((it) => it.textContent), ...(document.documentElement.scrollWidth > innerWidth ? ["the page"] : [])];
 })()
 """
-
-
 # Clicks a section in the strip; whether the symbols of a section are shown.
 CLICK = """Array.from(document.querySelectorAll(".strip rect")).find((it) => it.textContent.startsWith("%s  ")).dispatchEvent(new MouseEvent("click"))"""
 INSIDE = "document.querySelector('.insidesection h3')?.textContent === 'Symbols in %s' && !document.querySelector('.insidesection').hidden"
-
-
 # Whether the build id, the last of what people look for, is in view.
 FIRST = """document.querySelector(".id").getBoundingClientRect().bottom < document.getElementById("panels").getBoundingClientRect().bottom"""
 
 
-def try_narrow(test, options, room):
+def try_narrow(test):
     """In 400 pixels all views fit, and in any width no number is cut off."""
     for width in (400, 1280):
         test.page.resize(width, 800)
-        for path in (files.wide_numbers(room, options.site / "example.elf"), LIBRARIES / "libc.so.6"):
+        for path in (files.wide_numbers(test.room, test.example), LIBC):
             test.open(path)
-            for tab in TABS:
-                test.tab(tab)
+            for tab in test.tabs():
                 time.sleep(0.2)
                 if tab == "Overview":
                     test.same(f"{path}: what people look for is in the first view, {width} pixels wide", test.page.run(FIRST), True)
-                if tab == "Layout" and path.name == "libc.so.6":
+                if tab == "Layout" and path == LIBC:
                     test.page.run(CLICK % ".text")
                     test.page.wait(INSIDE % ".text", 5)
                 test.same(f"{path}: cut off in {tab}, {width} pixels wide", test.page.run(CUT), [])
     test.page.resize(*SIZE)
 
 
-def try_cut(test, options, room):
+def try_cut(test):
     """A file without its second half: its segments are those that readelf lists, and it is said what is refused."""
-    libc = pathlib.Path("/usr/lib/x86_64-linux-gnu/libc.so.6")
-    path = files.cut_file(room, libc, libc.stat().st_size // 2)
+    path = files.changed(test.room, LIBC, f"cut-{LIBC.name}", lambda data: data[: len(data) // 2])
     test.open(path)
     compare_segments(test, path, holds_sections=False)
-    test.tab("Overview")
-    said = test.page.run("document.querySelector('.refusals').textContent")
-    for what in ("Section headers end early", "Data of segment", "Entries of the dynamic segment"):
-        test.same(f"{path}: {what}", what in said, True)
-    test.tab("Sections")
-    said = test.page.run("document.querySelector('[role=tabpanel]:not([hidden]) .notice').textContent")
-    test.same(f"{path}: refused sections", "can be read" in said and "File is shorter than section header offset" in said, True)
+    for tab, place, words in (
+            ("Overview", ".refusals", ("Section headers end early", "Data of segment", "Entries of the dynamic segment")),
+            ("Sections", f"{PANEL} .notice", ("can be read", "File is shorter than section header offset"))):
+        test.tab(tab)
+        said = test.page.text(place)
+        test.same(f"{path}: {words}", [it for it in words if it not in said], [])
 
 
-def try_many_symbols(test, options, room):
+def try_many_symbols(test):
     """A table of 165,000 symbols scrolls, by the scroll bar and by keys, shows each row where it belongs, and is filtered."""
     count = 165_000
     test.page.resize(1440, 900)
-    test.open(files.many_symbols(room, count))
-    test.tab("Symbols")
+    test.open(files.many_symbols(test.room, count), tab="Symbols")
     shown, rows = test.rows(200)
     test.same("number of symbols", shown, count)
     test.same("names of rows", {at: row[7] for at, row in rows.items() if at}, {at: f"symbol_{at}" for at in rows if at})
     test.same("the last row", count - 1 in rows, True)
-    test.same("rows in the page", test.page.run("document.querySelectorAll('[role=tabpanel]:not([hidden]) .row').length") < 400, True)
-    test.page.run("document.querySelector('[role=tabpanel]:not([hidden]) .table').focus()")
-    for key in ("Home", "PageDown", "End", "ArrowUp", "Enter"):
-        test.page.key(key)
-    test.page.wait(f"document.querySelector('[role=tabpanel]:not([hidden]) [aria-selected=true]')?.dataset.index === '{count - 2}'")
-    test.page.wait("/Symbol 164,998 symbol_164998/.test(document.getElementById('place').textContent)")
-    test.page.run("(() => { const it = document.querySelector('[role=tabpanel]:not([hidden]) input[type=search]'); it.value = 'BOL_1649'; it.dispatchEvent(new Event('input')); })()")
-    test.page.wait("/ of /.test(document.querySelector('[role=tabpanel]:not([hidden]) .said').textContent)")
-    shown = test.page.run("document.querySelector('[role=tabpanel]:not([hidden]) .said').textContent")
+    test.same("rows in the page", len(test.page.texts(f"{PANEL} .row")) < 400, True)
+    test.page.keys("HOME", "PAGE_DOWN", "END", "ARROW_UP", "ENTER", at=f"{PANEL} .table")
+    test.page.wait(f"document.querySelector('{PANEL} [aria-selected=true]')?.dataset.index === '{count - 2}'")
+    test.page.wait_text("#place", "Symbol 164,998 symbol_164998")
+    test.page.run("(() => { const it = document.querySelector('%s input[type=search]'); it.value = 'BOL_1649';"
+                  " it.dispatchEvent(new Event('input')); })()" % PANEL)
+    test.page.wait_text(f"{PANEL} .said", " of ")
+    shown = test.page.text(f"{PANEL} .said")
     test.same("symbols with a text", int(shown.split()[0].replace(",", "")), sum("1649" in str(it)[:4] for it in range(1, count)))
     test.page.resize(*SIZE)
 
 
-def try_stop(test, options):
-    """Work stops at the button, and what is shown says so."""
-    path = large_file()
+def try_stop(test):
+    """Work on a large library stops at the button, and what is shown says so."""
     test.page.run("document.body.dataset.state = 'waiting'")
-    test.page.choose_files("#file", [path])
-    test.page.run("document.getElementById('stop').click()")
+    test.page.choose_file(max((it for it in LIBRARIES.glob("*.so*") if it.is_file()), key=lambda it: it.stat().st_size))
+    test.page.click("#stop")
     test.page.wait("document.body.dataset.state === 'ready'", 60)
-    said = test.page.run("document.getElementById('message').textContent")
-    test.same("stopped", "was stopped" in said, True)
-
-
-def stops_of(page):
-    """What Tab leads to from the first stop on, until it leaves the page."""
-    stops = []
-    for _ in range(80):
-        page.key("Tab")
-        stop = page.run(STOP)
-        if stop["isBody"]:
-            break
-        stops.append(stop)
-    return stops
+    test.same("stopped", "was stopped" in test.page.text("#message"), True)
 
 
 def unnamed(page):
@@ -465,81 +405,67 @@ def unnamed(page):
     return [it["role"]["value"] for it in nodes if it["role"]["value"] in NAMED and not it.get("name", {}).get("value", "").strip()]
 
 
-def try_screen_reader(test, options):
+def try_screen_reader(test):
     """Whatever a screen reader meets in a view has a name, and refers to what is there."""
-    test.page.run("document.querySelector('.brand').click()")
+    test.page.click(".brand")
     test.same("without a name before a file is opened", unnamed(test.page), [])
-    test.open(options.site / "example.elf")
-    for tab in TABS:
-        test.tab(tab)
+    test.open(test.example)
+    for tab in test.tabs():
         test.same(f"without a name in {tab}", unnamed(test.page), [])
         test.same(f"references in {tab}", test.page.run(REFERENCES), [])
-        heads = test.page.run("Array.from(document.querySelectorAll('[role=tabpanel]:not([hidden]) h2'), (it) => it.textContent).length")
-        test.same(f"headings of {tab}", heads, 1)
+        test.same(f"headings of {tab}", len(test.page.texts(f"{PANEL} h2")), 1)
 
 
-def try_keyboard(test, options):
+def try_keyboard(test):
     """The page by the keyboard alone: each stop has a name and is seen, tabs and tables move by arrows."""
     page = test.page
-    test.open(TOP / "crates/elfnm/data/add.o")
-    test.tab("Overview")
+    test.open(TOP / "crates/elfnm/data/add.o", tab="Overview")
     page.run("document.activeElement?.blur(), window.getSelection()?.removeAllRanges(), document.querySelector('.skip').focus()")
-    stops = stops_of(page)
+    # What Tab leads to from the first stop on, until it leaves the page.
+    pressed = (page.keys("TAB") or page.run(STOP) for _ in range(80))
+    stops = [*itertools.takewhile(lambda it: not it["isBody"], pressed)]
     test.same("each stop of the keyboard has a name", [it for it in stops if not it["name"]], [])
     test.same("each stop of the keyboard is seen", [it for it in stops if not it["isSeen"]], [])
     order = ["Open a file", "Overview", "Bytes", "Go to", "Number in base 16", "Go", "Bytes", "Fields of the record"]
     heads = [re.split(r"\s*[\n,]", it["name"])[0] for it in stops]
     test.same("stops of the keyboard in order", [it for it in heads if it in order], order)
-    page.run("document.getElementById('tab-overview').focus(), document.getElementById('tab-overview').click()")
-    page.key("ArrowDown")
-    page.key("ArrowDown")
-    test.same("arrows change the tab", page.run("document.activeElement.textContent.startsWith('Sections')"), True)
-    page.run("document.querySelector('[role=tabpanel]:not([hidden]) .table').focus()")
-    for key in ("Home", "ArrowDown", "ArrowDown", "Enter"):
-        page.key(key)
-    test.same("Enter chooses a row", page.run("document.querySelector('[role=tabpanel]:not([hidden]) [aria-selected=true]').dataset.index"), "2")
-    page.run("document.getElementById('bytes').focus()")
-    before = page.run("document.getElementById('bytes').getAttribute('aria-activedescendant')")
-    page.key("ArrowRight")
-    after = page.run("document.getElementById('bytes').getAttribute('aria-activedescendant')")
-    test.same("arrows move in the bytes", int(after.split("-")[1]), int(before.split("-")[1]) + 1)
+    page.click("#tab-overview")
+    page.keys("ARROW_DOWN", "ARROW_DOWN", at="#tab-overview")
+    test.same("arrows change the tab", page.text(":focus").startswith("Sections"), True)
+    page.keys("HOME", "ARROW_DOWN", "ARROW_DOWN", "ENTER", at=f"{PANEL} .table")
+    test.same("Enter chooses a row", page.run(f"document.querySelector('{PANEL} [aria-selected=true]').dataset.index"), "2")
+    places = []
+    for keys in ((), ("ARROW_RIGHT",)):
+        page.keys(*keys, at="#bytes")
+        places.append(int(page.run("document.getElementById('bytes').getAttribute('aria-activedescendant')").split("-")[1]))
+    test.same("arrows move in the bytes", places[1], places[0] + 1)
 
 
-def try_fields(test, options):
+def try_fields(test):
     """The field under the pointer is named."""
     page, path = test.page, TOP / "crates/elfsym/data/stripped.so"
-    test.open(path)
-    test.tab("Overview")
-    page.run("document.querySelector('table.plain button').click()")
+    test.open(path, tab="Overview")
+    page.click("table.plain button")
     x, y = page.run("(() => { const it = document.getElementById('byte-24').getBoundingClientRect(); return [it.x + 6, it.y + 6]; })()")
     page.send("Input.dispatchMouseEvent", type="mouseMoved", x=x, y=y)
-    page.wait("/e_entry/.test(document.getElementById('place').textContent)", 5)
-    shown = page.run("document.querySelector('.fieldrow.current .fieldvalue').textContent")
+    page.wait_text("#place", "e_entry", 5)
+    shown = page.text(".fieldrow.current .fieldvalue")
     test.same("the value of the field", int(shown.split()[0], 16), int(readelf.header(path)["Entry point address"], 16))
 
 
-def try_addresses(test, options):
+def try_addresses(test):
     """Bytes are found by their address, by a record's button and by "Go to", and an address in no segment is refused."""
-    page, path = test.page, "/usr/lib/x86_64-linux-gnu/libc.so.6"
-    test.open(path)
-    entry = int(readelf.header(path)["Entry point address"], 16)
-    load = next(row for row in readelf.segments(path) if row[0] == "LOAD" and 0 <= entry - int(row[2], 16) < int(row[4], 16))
+    test.open(LIBC)
+    entry = int(readelf.header(LIBC)["Entry point address"], 16)
+    load = next(row for row in readelf.segments(LIBC) if row[0] == "LOAD" and 0 <= entry - int(row[2], 16) < int(row[4], 16))
     offset = entry - int(load[2], 16) + int(load[1], 16)
-    page.run("document.querySelector('.follow button').click()")
-    page.wait(f"document.getElementById('bytes').getAttribute('aria-activedescendant') === 'byte-{offset}'", 5)
-    go = "(() => { const it = document.getElementById('go'); it.elements.what.value = 'address'; it.elements.where.value = '%s'; it.requestSubmit(); })()"
-    page.run(go % "0xffffffffffff0000")
-    page.wait("/Address is in no loaded segment/.test(document.getElementById('goanswer').textContent)", 5)
-    page.run(go % hex(entry + 16))
-    page.wait(f"document.getElementById('bytes').getAttribute('aria-activedescendant') === 'byte-{offset + 16}'", 5)
-    test.compared += 3
-
-
-PROGRAM = """
-static int inner(int number) { return number * 3 + 1; }
-int (*volatile outer)(int) = inner;
-int main(int count, char **words) { return outer(count) + words[0][0]; }
-"""
+    is_at = "document.getElementById('bytes').getAttribute('aria-activedescendant') === 'byte-%d'"
+    test.page.click(".follow button")
+    test.wait(is_at % offset)
+    test.go("address", 0xffffffffffff0000)
+    test.wait("/Address is in no loaded segment/.test(document.getElementById('goanswer').textContent)")
+    test.go("address", entry + 16)
+    test.wait(is_at % (offset + 16))
 
 
 def functions_of(path):
@@ -549,26 +475,20 @@ def functions_of(path):
     return [(row[3], int(row[0], 16), int(row[1], 16)) for row in rows if len(row) == 4 and row[2] in "tT" and int(row[1], 16)]
 
 
-def try_symbols_of_addresses(test, options, room):
+def try_symbols_of_addresses(test):
     """The symbol of the byte under the pointer or the cursor is named: in a program by the address, in an object file by the offset in
     its section; and none where no symbol is."""
-    (room / "named.c").write_text(PROGRAM)
-    shown, page = "document.getElementById('place').textContent", test.page
-    go = "(() => { const it = document.getElementById('go'); it.elements.what.value = '%s'; it.elements.where.value = '%x'; it.requestSubmit(); })()"
-    for name, words, what in (("named", ["-O0"], "address"), ("named.o", ["-O0", "-c"], "offset")):
-        path = room / name
-        subprocess.run(["gcc", room / "named.c", "-o", path, *words], check=True)
+    for path in files.programs(test.room):
         test.open(path)
         text = next(it for it in readelf.sections(path) if it[1] == ".text")
-        start = int(text[4], 16) if what == "offset" else 0
+        what, start = ("offset", int(text[4], 16)) if path.suffix else ("address", 0)
         for function, value, size in functions_of(path):
-            page.run(go % (what, start + value + size // 2))
-            page.wait(f"{shown}.endsWith(' › {function}+{size // 2:#x}')", 5)
-            test.compared += 1
-    page.run(go % ("offset", 0))
-    page.wait(f"{shown}.startsWith('00000000 ›') || {shown}.includes('0 › ELF header')", 5)
+            test.go(what, start + value + size // 2)
+            test.wait(f"document.getElementById('place').textContent.endsWith(' › {function}+{size // 2:#x}')")
+    test.go("offset", 0)
+    test.page.wait_text("#place", "^00000000 ›|0 › ELF header", 5)
     time.sleep(0.3)
-    test.same("a symbol of the ELF header", "+0x" in page.run(shown), False)
+    test.same("a symbol of the ELF header", "+0x" in test.page.text("#place"), False)
 
 
 # The pieces of the map, as far as they are drawn, and the bytes of no part that the page says.
@@ -593,90 +513,75 @@ async () => {
 """
 
 
-def try_pieces(test, options, room):
+def try_pieces(test):
     """Each byte is in one piece, and the symbols of a section are as large as nm says."""
     page = test.page
-    (room / "named.c").write_text(PROGRAM)
-    for name, words in (("pieces", ["-O0"]), ("pieces.o", ["-O0", "-c"])):
-        path = room / name
-        subprocess.run(["gcc", room / "named.c", "-o", path, *words], check=True)
-        path.write_bytes(path.read_bytes() + bytes(7))
-        test.open(path)
-        test.tab("Layout")
+    for whole in files.programs(test.room):
+        path = files.changed(test.room, whole, f"longer-{whole.name}", lambda data: data + bytes(7))
+        test.open(path, tab="Layout")
         shown = page.run(f"({PIECES})()")
         starts, ends = [start for start, _ in shown["pieces"]], [end for _, (_, end) in shown["pieces"]]
-        test.same(f"{name}: pieces follow each other", [*starts, path.stat().st_size], [0, *ends])
+        test.same(f"{path.name}: pieces follow each other", [*starts, path.stat().st_size], [0, *ends])
         free = {label: sum(end - start for start, (it, end) in shown["pieces"] if it == label) for label in ("Between parts", "Behind all parts")}
         said = re.search(r"([\d,]+) bytes of no part: ([\d,]+) between parts, ([\d,]+) behind", shown["said"])
         numbers = [int(it.replace(",", "")) for it in said.groups()]
-        test.same(f"{name}: bytes of no part", numbers, [sum(free.values()), free["Between parts"], free["Behind all parts"]])
-        test.same(f"{name}: bytes behind all parts", free["Behind all parts"], 7)
-        page.run("document.querySelector('.mapscroll').focus(), document.querySelector('.mapscroll').scrollTo(0, 0)")
-        page.key("Home")
-        for _ in range([it for _, (it, _) in shown["pieces"]].index(".text")):
-            page.key("ArrowDown")
-        page.key("Enter")
+        test.same(f"{path.name}: bytes of no part", numbers, [sum(free.values()), *free.values()])
+        test.same(f"{path.name}: bytes behind all parts", free["Behind all parts"], 7)
+        page.run("document.querySelector('.mapscroll').scrollTo(0, 0)")
+        index = [it for _, (it, _) in shown["pieces"]].index(".text")
+        page.keys("HOME", *["ARROW_DOWN"] * index, "ENTER", at=".mapscroll")
         page.wait(INSIDE % ".text", 5)
         _, rows = test.rows(200)
         sizes = {row[2]: int(row[0].replace(",", "")) for row in rows.values() if row[2] != "no symbol"}
         wanted = {it: size for it, _, size in functions_of(path) if it not in ("_init", "_fini")}
-        test.same(f"{name}: symbols in .text", {it: sizes.get(it) for it in wanted}, wanted)
+        test.same(f"{path.name}: symbols in .text", {it: sizes.get(it) for it in wanted}, wanted)
 
 
-def try_contrast(test, options):
+def try_contrast(test):
     """All text of each view has enough contrast, in light and in dark."""
-    test.open(options.site / "example.elf")
-    for tab in TABS:
-        test.tab(tab)
+    test.open(test.example)
+    for tab in test.tabs():
         for scheme in ("dark", "light"):
             test.page.look(scheme)
             time.sleep(0.05)
             test.same(f"contrast of {tab} in {scheme}", test.page.run(CONTRAST), [])
 
 
-# Texts of the view, and how many elements there are that no module of the page makes.
-SEEN = """
-(() => {
-  const made = document.querySelectorAll("body script, body img:not(.brand img), body b, body i, body [onerror], body [onload]");
-  return { texts: document.querySelector("[role=tabpanel]:not([hidden])").textContent, made: made.length };
-})()
-"""
+# How many elements there are that no module of the page makes.
+MADE = "document.querySelectorAll('body script, body img:not(.brand img), body b, body i, body [onerror], body [onload]').length"
 
 
-def try_hostile_names(test, options, room):
+def try_hostile_names(test):
     """Names that look like markup are shown as the text that they are, in each view, and nothing is made of them."""
-    path = files.markup(room)
+    path = files.markup(test.room)
     test.open(path)
-    test.same("the file's name", test.page.run("document.getElementById('filename').textContent"), path.name)
+    test.same("the file's name", test.page.text("#filename"), path.name)
     wanted = {"Overview": 5, "Layout": 5, "Sections": 5, "Segments": 0, "Symbols": 5, "Relocations": 0, "Dynamic": 5, "Notes": 1, "Hash tables": 0}
     for tab, least in wanted.items():
         test.tab(tab)
         if tab in ("Sections", "Symbols", "Dynamic", "Notes"):
             test.rows()
-        seen = test.page.run(SEEN)
-        test.same(f"markup in {tab}: elements made of it", seen["made"], 0)
-        shown = sum(it in seen["texts"] for it in files.MARKUP)
-        test.same(f"markup in {tab}: names shown as they are", shown >= least, True)
+        test.same(f"markup in {tab}: elements made of it", test.page.run(MADE), 0)
+        shown = test.page.text(PANEL)
+        test.same(f"markup in {tab}: names shown as they are", sum(it in shown for it in files.MARKUP) >= least, True)
     refused = test.page.run("(() => { try { document.createElement('p').innerHTML = '<b>x</b>'; return false; } catch { return true; } })()")
     test.same("markup of strings is refused", refused, True)
     test.page.faults()
 
 
-def try_slow_check(test, options, room):
+def try_slow_check(test):
     """The page answers while the check of a hash table takes long, and the check can be stopped."""
-    test.open(files.slow_table(room))
-    test.tab("Hash tables")
+    test.open(files.slow_table(test.room), tab="Hash tables")
     test.page.wait("document.querySelector('.checked button') !== null", 5)
     test.tab("Symbols")
     count, rows = test.rows(100)
     test.same("symbols beside a running check", [count, rows[1][7]], [60000, "a"])
     test.tab("Hash tables")
-    test.page.run("document.querySelector('.checked button').click()")
-    test.page.wait("/was stopped/.test(document.querySelector('.checked').textContent)", 5)
-    test.compared += 1
+    test.page.click(".checked button")
+    test.wait("/was stopped/.test(document.querySelector('.checked').textContent)")
 
 
-def try_old_browser(test, options):
+def try_old_browser(test):
     """Without memory64 the page says so, and offers no file."""
     script = test.page.send("Page.addScriptToEvaluateOnNewDocument", source="WebAssembly.validate = () => false")["identifier"]
     test.page.send("Page.reload")
@@ -688,33 +593,25 @@ def try_old_browser(test, options):
     test.page.wait("document.body?.dataset.state === 'ready'")
 
 
-def serve(site):
-    handler = functools.partial(http.server.SimpleHTTPRequestHandler, directory=str(site))
-    handler.func.log_message = lambda *_: None
-    server = http.server.ThreadingHTTPServer(("127.0.0.1", 0), handler)
-    threading.Thread(target=server.serve_forever, daemon=True).start()
-    return server.server_address[1]
-
-
 def main():
     parser = argparse.ArgumentParser()
     parser.add_argument("--site", type=pathlib.Path, default=TOP / "bindings/web/out/site")
     parser.add_argument("--files", type=int, default=50)
     parser.add_argument("--only", default="")
     options = parser.parse_args()
-    if not Chromium or not shutil.which("chromedriver"):
-        print(f"web: the page is not tested: {WHY if not Chromium else 'chromedriver is not installed'}")
-        return 0
-    with tempfile.TemporaryDirectory() as room, Chromium(f"http://127.0.0.1:{serve(options.site)}/", *SIZE) as page:
-        test = Test(page)
+    http.server.SimpleHTTPRequestHandler.log_message = lambda *_: None
+    handler = functools.partial(http.server.SimpleHTTPRequestHandler, directory=str(options.site))
+    server = http.server.ThreadingHTTPServer(("127.0.0.1", 0), handler)
+    threading.Thread(target=server.serve_forever, daemon=True).start()
+    with tempfile.TemporaryDirectory() as room, Chromium(f"http://127.0.0.1:{server.server_port}/", *SIZE) as page:
+        test = Test(page, options.site, options.files, pathlib.Path(room))
         page.wait("document.body?.dataset.state === 'ready'")
-        tries = {name: it for name, it in globals().items() if name.startswith("try_") and options.only in name}
-        for name, it in tries.items():
-            rooms = [pathlib.Path(room)] if it.__code__.co_argcount == 3 else []
-            began = time.monotonic()
-            it(test, options, *rooms)
-            print(f"web: {name.removeprefix('try_')}: {time.monotonic() - began:.1f} s", flush=True)
-            test.same(f"{name}: faults of the page", page.faults(), [])
+        for name, it in list(globals().items()):
+            if name.startswith("try_") and options.only in name:
+                began = time.monotonic()
+                it(test)
+                print(f"web: {name.removeprefix('try_')}: {time.monotonic() - began:.1f} s", flush=True)
+                test.same(f"{name}: faults of the page", page.faults(), [])
     for difference in test.differences[:40]:
         print(f"web: {difference}")
     print(f"web: {test.compared} comparisons, {len(test.differences)} differences")

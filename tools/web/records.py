@@ -21,15 +21,6 @@ HEADER = ROOT / "bindings" / "include" / "xmas_elf.h"
 ANSWERS = {"status": "uint32_t", "size": "size_t", "none": "void"}
 
 
-def printed(lines):
-    """What C prints of the structs, by these lines."""
-    source = '#include "xmas_elf.h"\n#include <stddef.h>\n#include <stdio.h>\nint main(void) {\n' + "\n".join(lines) + "\nreturn 0; }\n"
-    with tempfile.TemporaryDirectory() as room:
-        program = f"{room}/layout"
-        subprocess.run(["cc", "-x", "c", f"-I{HEADER.parent}", "-", "-o", program], input=source, text=True, check=True)
-        return subprocess.run([program], capture_output=True, text=True, check=True).stdout.split()
-
-
 def records_of(listed):
     """The layout of each struct: its size, and the place and the size of each member, and which record it is."""
     names = {struct.name for struct in listed.structs}
@@ -37,7 +28,13 @@ def records_of(listed):
     for struct in listed.structs:
         lines.append(f'printf("%zu\\n", sizeof({struct.c_type}));')
         lines += [f'printf("%zu %zu\\n", offsetof({struct.c_type}, {it.c_name}), sizeof((({struct.c_type} *)0)->{it.c_name}));' for it in struct.fields]
-    numbers, records = map(int, printed(lines)), {}
+    # What C prints of the structs, by these lines.
+    source = '#include "xmas_elf.h"\n#include <stddef.h>\n#include <stdio.h>\nint main(void) {\n' + "\n".join(lines) + "\nreturn 0; }\n"
+    with tempfile.TemporaryDirectory() as room:
+        program = f"{room}/layout"
+        subprocess.run(["cc", "-x", "c", f"-I{HEADER.parent}", "-", "-o", program], input=source, text=True, check=True)
+        printed = subprocess.run([program], capture_output=True, text=True, check=True).stdout
+    numbers, records = map(int, printed.split()), {}
     for struct in listed.structs:
         records[struct.name] = {"size": next(numbers), "members": [
             {"name": it.c_name, "at": next(numbers), "size": next(numbers), "record": it.type if it.type in names else None} for it in struct.fields]}
@@ -54,7 +51,7 @@ def parameters_of(one):
     return found
 
 
-def module():
+def main(out):
     listed, header = listing.read(), HEADER.read_text()
     functions = {it.name: {"answers": ANSWERS[it.result], "parameters": [part for one in it.parameters for part in parameters_of(one)]}
                  for it in listed.functions}
@@ -62,10 +59,10 @@ def module():
     longest = int(re.search(r"#define XMAS_ELF_LONGEST_MESSAGE (\d+)", header)[1])
     parts = {"RECORDS": records_of(listed), "FUNCTIONS": functions, "STATUS": statuses, "LONGEST_MESSAGE": longest}
     lines = ["// Written by tools/web/records.py from bindings/include/xmas_elf.h: not to be edited.\n"]
-    return "".join(lines + [f"export const {name} = {json.dumps(part, indent=1)};\n" for name, part in parts.items()])
+    pathlib.Path(out).write_text("".join(lines + [f"export const {name} = {json.dumps(part, indent=1)};\n" for name, part in parts.items()]))
 
 
 if __name__ == "__main__":
     if len(sys.argv) != 2:
         sys.exit(__doc__)
-    pathlib.Path(sys.argv[1]).write_text(module())
+    main(sys.argv[1])

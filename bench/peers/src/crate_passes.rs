@@ -29,37 +29,37 @@ fn symbols<'a>(file: &ElfFile<'a>) -> Option<&'a [Entry64]> {
 }
 
 /// What entering a pass takes.
-pub fn nothing(data: &[u8], _: &[u8]) -> u64 {
+pub extern "C-unwind" fn nothing(data: &[u8], _: &[u8]) -> u64 {
     data.len() as u64
 }
 
-pub fn header(data: &[u8], _: &[u8]) -> u64 {
+pub extern "C-unwind" fn header(data: &[u8], _: &[u8]) -> u64 {
     let part = opened!(data).header.pt2;
     part.entry_point().wrapping_add(part.sh_offset()).wrapping_add(part.ph_offset())
 }
 
-pub fn header_fields(data: &[u8], _: &[u8]) -> u64 {
+pub extern "C-unwind" fn header_fields(data: &[u8], _: &[u8]) -> u64 {
     let part = opened!(data).header.pt2;
     [part.header_size(), part.ph_entry_size(), part.ph_count(), part.sh_entry_size(), part.sh_count(), part.sh_str_index()]
         .iter()
         .fold(part.entry_point().wrapping_add(part.sh_offset()).wrapping_add(part.ph_offset()), |sum, number| sum.wrapping_add(u64::from(*number)))
 }
 
-pub fn header_check(data: &[u8], _: &[u8]) -> u64 {
+pub extern "C-unwind" fn header_check(data: &[u8], _: &[u8]) -> u64 {
     xmas_elf::header::sanity_check(&opened!(data)).is_ok().into()
 }
 
-pub fn sections(data: &[u8], _: &[u8]) -> u64 {
+pub extern "C-unwind" fn sections(data: &[u8], _: &[u8]) -> u64 {
     opened!(data).section_iter().fold(0, |sum, section| sum.wrapping_add(section.size()))
 }
 
-pub fn sections_index(data: &[u8], _: &[u8]) -> u64 {
+pub extern "C-unwind" fn sections_index(data: &[u8], _: &[u8]) -> u64 {
     let file = opened!(data);
     let count = file.header.pt2.sh_count();
     (0..count).filter_map(|index| file.section_header(index).ok()).fold(0, |sum, section| sum.wrapping_add(section.size()))
 }
 
-pub fn section_fields(data: &[u8], _: &[u8]) -> u64 {
+pub extern "C-unwind" fn section_fields(data: &[u8], _: &[u8]) -> u64 {
     opened!(data).section_iter().fold(0u64, |sum, section| {
         // SAFETY: the type holds one number of 32 bits, which it doesn't show.
         let kind: u32 = unsafe { std::mem::transmute(section.type_()) };
@@ -74,7 +74,7 @@ pub fn section_fields(data: &[u8], _: &[u8]) -> u64 {
     })
 }
 
-pub fn section_types(data: &[u8], _: &[u8]) -> u64 {
+pub extern "C-unwind" fn section_types(data: &[u8], _: &[u8]) -> u64 {
     opened!(data).section_iter().fold(0, |sum, section| {
         sum + match section.get_type() {
             Ok(ShType::StrTab) => 1,
@@ -85,17 +85,17 @@ pub fn section_types(data: &[u8], _: &[u8]) -> u64 {
     })
 }
 
-pub fn section_names(data: &[u8], _: &[u8]) -> u64 {
+pub extern "C-unwind" fn section_names(data: &[u8], _: &[u8]) -> u64 {
     let file = opened!(data);
     file.section_iter().fold(0, |sum, section| sum + section.get_name(&file).map_or(0, |name| sum_of(name.as_bytes())))
 }
 
-pub fn find(data: &[u8], text: &[u8]) -> u64 {
+pub extern "C-unwind" fn find(data: &[u8], text: &[u8]) -> u64 {
     let file = opened!(data);
     file.find_section_by_name(from_utf8(text).unwrap()).map_or(0, |section| section.offset())
 }
 
-pub fn raw_data(data: &[u8], _: &[u8]) -> u64 {
+pub extern "C-unwind" fn raw_data(data: &[u8], _: &[u8]) -> u64 {
     let file = opened!(data);
     file.section_iter().fold(0u64, |sum, section| match section.get_type() {
         Err(_) | Ok(ShType::Null | ShType::NoBits) => sum,
@@ -103,7 +103,7 @@ pub fn raw_data(data: &[u8], _: &[u8]) -> u64 {
     })
 }
 
-pub fn data(data: &[u8], _: &[u8]) -> u64 {
+pub extern "C-unwind" fn data(data: &[u8], _: &[u8]) -> u64 {
     let file = opened!(data);
     file.section_iter().fold(0u64, |sum, section| {
         sum + match section.get_data(&file) {
@@ -126,29 +126,29 @@ pub fn data(data: &[u8], _: &[u8]) -> u64 {
     })
 }
 
-pub fn segments(data: &[u8], _: &[u8]) -> u64 {
+pub extern "C-unwind" fn segments(data: &[u8], _: &[u8]) -> u64 {
     opened!(data).program_iter().fold(0u64, |sum, segment| {
         let loaded = segment.get_type() == Ok(Type::Load);
         sum.wrapping_add(segment.offset()).wrapping_add(segment.file_size()).wrapping_add(loaded.into())
     })
 }
 
-pub fn section_checks(data: &[u8], _: &[u8]) -> u64 {
+pub extern "C-unwind" fn section_checks(data: &[u8], _: &[u8]) -> u64 {
     let file = opened!(data);
     file.section_iter().filter(|section| xmas_elf::sections::sanity_check(*section, &file).is_ok()).count() as u64
 }
 
-pub fn segment_checks(data: &[u8], _: &[u8]) -> u64 {
+pub extern "C-unwind" fn segment_checks(data: &[u8], _: &[u8]) -> u64 {
     let file = opened!(data);
     file.program_iter().filter(|segment| xmas_elf::program::sanity_check(*segment, &file).is_ok()).count() as u64
 }
 
-pub fn symbol_values(data: &[u8], _: &[u8]) -> u64 {
+pub extern "C-unwind" fn symbol_values(data: &[u8], _: &[u8]) -> u64 {
     let file = opened!(data);
     symbols(&file).map_or(NONE, |symbols| symbols.iter().fold(0, |sum, symbol| sum.wrapping_add(symbol.value())))
 }
 
-pub fn symbol_fields(data: &[u8], _: &[u8]) -> u64 {
+pub extern "C-unwind" fn symbol_fields(data: &[u8], _: &[u8]) -> u64 {
     let file = opened!(data);
     let Some(symbols) = symbols(&file) else { return NONE };
     symbols.iter().fold(0u64, |sum, symbol| {
@@ -158,20 +158,20 @@ pub fn symbol_fields(data: &[u8], _: &[u8]) -> u64 {
     })
 }
 
-pub fn symbol_names(data: &[u8], _: &[u8]) -> u64 {
+pub extern "C-unwind" fn symbol_names(data: &[u8], _: &[u8]) -> u64 {
     let file = opened!(data);
     let Some(symbols) = symbols(&file) else { return NONE };
     symbols.iter().fold(0, |sum, symbol| sum + symbol.get_name(&file).map_or(0, |name| sum_of(name.as_bytes())))
 }
 
-pub fn symbol_texts(data: &[u8], _: &[u8]) -> u64 {
+pub extern "C-unwind" fn symbol_texts(data: &[u8], _: &[u8]) -> u64 {
     let file = opened!(data);
     let (Some(symbols), Some(section)) = (symbols(&file), file.find_section_by_name(".strtab")) else { return NONE };
     let texts = section.raw_data(&file);
     symbols.iter().fold(0, |sum, symbol| sum + sum_of(read_str(&texts[symbol.name() as usize..]).as_bytes()))
 }
 
-pub fn symbol_search(data: &[u8], text: &[u8]) -> u64 {
+pub extern "C-unwind" fn symbol_search(data: &[u8], text: &[u8]) -> u64 {
     let file = opened!(data);
     let (Some(symbols), Some(section)) = (symbols(&file), file.find_section_by_name(".strtab")) else { return NONE };
     let (texts, name) = (section.raw_data(&file), from_utf8(text).unwrap());
@@ -179,7 +179,7 @@ pub fn symbol_search(data: &[u8], text: &[u8]) -> u64 {
     found.map_or(NONE, Entry::value)
 }
 
-pub fn dynamic(data: &[u8], _: &[u8]) -> u64 {
+pub extern "C-unwind" fn dynamic(data: &[u8], _: &[u8]) -> u64 {
     let file = opened!(data);
     let Some(section) = part(&file, ShType::Dynamic) else { return NONE };
     let Ok(SectionData::Dynamic64(entries)) = section.get_data(&file) else { return NONE };
@@ -195,7 +195,7 @@ pub fn dynamic(data: &[u8], _: &[u8]) -> u64 {
     sum
 }
 
-pub fn relocations(data: &[u8], _: &[u8]) -> u64 {
+pub extern "C-unwind" fn relocations(data: &[u8], _: &[u8]) -> u64 {
     let file = opened!(data);
     let mut sum = 0u64;
     for section in file.section_iter().filter(|section| section.get_type() == Ok(ShType::Rela)) {
@@ -211,7 +211,7 @@ pub fn relocations(data: &[u8], _: &[u8]) -> u64 {
     sum
 }
 
-pub fn notes(data: &[u8], _: &[u8]) -> u64 {
+pub extern "C-unwind" fn notes(data: &[u8], _: &[u8]) -> u64 {
     let file = opened!(data);
     let mut sum = 0u64;
     for section in file.section_iter().filter(|section| section.get_type() == Ok(ShType::Note)) {
@@ -222,17 +222,17 @@ pub fn notes(data: &[u8], _: &[u8]) -> u64 {
     sum
 }
 
-pub fn build_id(data: &[u8], _: &[u8]) -> u64 {
+pub extern "C-unwind" fn build_id(data: &[u8], _: &[u8]) -> u64 {
     opened!(data).get_gnu_buildid().map_or(0, sum_of)
 }
 
-pub fn hash_numbers(_: &[u8], text: &[u8]) -> u64 {
+pub extern "C-unwind" fn hash_numbers(_: &[u8], text: &[u8]) -> u64 {
     text.chunks_exact(NAME).filter_map(|name| from_utf8(name).ok()).map(|name| u64::from(xmas_elf::hash::hash(name))).sum()
 }
 
 /// By a walk of one's own: the crate's `lookup` isn't written, and it doesn't show how many buckets there
 /// are.
-pub fn look_ups(data: &[u8], text: &[u8]) -> u64 {
+pub extern "C-unwind" fn look_ups(data: &[u8], text: &[u8]) -> u64 {
     let file = opened!(data);
     let (Some(hashes), Some(dynsym), Some(dynstr)) = (part(&file, ShType::Hash), part(&file, ShType::DynSym), file.find_section_by_name(".dynstr")) else {
         return NONE;

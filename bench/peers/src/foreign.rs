@@ -1,17 +1,12 @@
-//! The contenders behind a C interface: this library, bare loops in C, and libelf.
+//! The contenders behind a C interface: this library, bare loops in C, and libelf. The bench calls each of their
+//! functions itself, as it calls the passes in Rust.
 macro_rules! contender {
     ($module:ident, $prefix:literal, $($name:ident)*) => {
         pub mod $module {
-            mod raw {
-                extern "C" {
-                    $(#[link_name = concat!($prefix, stringify!($name))]
-                    pub fn $name(data: *const u8, len: usize, text: *const u8, text_len: usize) -> u64;)*
-                }
+            extern "C-unwind" {
+                $(#[link_name = concat!($prefix, stringify!($name))]
+                pub fn $name(data: &[u8], text: &[u8]) -> u64;)*
             }
-            $(pub fn $name(data: &[u8], text: &[u8]) -> u64 {
-                // SAFETY: both slices live through the call.
-                unsafe { raw::$name(data.as_ptr(), data.len(), text.as_ptr(), text.len()) }
-            })*
         }
     };
 }

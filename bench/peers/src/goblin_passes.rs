@@ -50,24 +50,24 @@ fn symbols(data: &[u8], kind: u32) -> Option<(Symtab<'_>, Strtab<'_>)> {
     Some((table(data, section)?, texts(data, sections.get(section.sh_link as usize)?)?))
 }
 
-pub fn header(data: &[u8], _: &[u8]) -> u64 {
+pub extern "C-unwind" fn header(data: &[u8], _: &[u8]) -> u64 {
     let part: Header = there!(data.pread(0).ok());
     part.e_entry.wrapping_add(part.e_shoff).wrapping_add(part.e_phoff)
 }
 
-pub fn header_fields(data: &[u8], _: &[u8]) -> u64 {
+pub extern "C-unwind" fn header_fields(data: &[u8], _: &[u8]) -> u64 {
     let part: Header = there!(data.pread(0).ok());
     [part.e_ehsize, part.e_phentsize, part.e_phnum, part.e_shentsize, part.e_shnum, part.e_shstrndx]
         .iter()
         .fold(part.e_entry.wrapping_add(part.e_shoff).wrapping_add(part.e_phoff), |sum, number| sum.wrapping_add(u64::from(*number)))
 }
 
-pub fn sections(data: &[u8], _: &[u8]) -> u64 {
+pub extern "C-unwind" fn sections(data: &[u8], _: &[u8]) -> u64 {
     let (_, sections) = there!(listed(data));
     sections.iter().fold(0, |sum, section| sum.wrapping_add(section.sh_size))
 }
 
-pub fn section_fields(data: &[u8], _: &[u8]) -> u64 {
+pub extern "C-unwind" fn section_fields(data: &[u8], _: &[u8]) -> u64 {
     let (_, sections) = there!(listed(data));
     sections.iter().fold(0u64, |sum, section| {
         sum.wrapping_add(section.sh_name as u64 + u64::from(section.sh_type))
@@ -81,7 +81,7 @@ pub fn section_fields(data: &[u8], _: &[u8]) -> u64 {
     })
 }
 
-pub fn section_names(data: &[u8], _: &[u8]) -> u64 {
+pub extern "C-unwind" fn section_names(data: &[u8], _: &[u8]) -> u64 {
     let (header, sections) = there!(listed(data));
     let index = if header.e_shstrndx == 0xffff { sections[0].sh_link as usize } else { header.e_shstrndx.into() };
     let names = there!(sections.get(index).and_then(|section| texts(data, section)));
@@ -91,13 +91,13 @@ pub fn section_names(data: &[u8], _: &[u8]) -> u64 {
     })
 }
 
-pub fn raw_data(data: &[u8], _: &[u8]) -> u64 {
+pub extern "C-unwind" fn raw_data(data: &[u8], _: &[u8]) -> u64 {
     let (_, sections) = there!(listed(data));
     let used = sections.iter().filter(|section| !matches!(section.sh_type, types::SHT_NULL | types::SHT_NOBITS));
     used.fold(0u64, |sum, section| sum.wrapping_add(data.get(section.file_range()).map_or(0, sum_of)))
 }
 
-pub fn segments(data: &[u8], _: &[u8]) -> u64 {
+pub extern "C-unwind" fn segments(data: &[u8], _: &[u8]) -> u64 {
     let programs = there!(programs(data));
     programs.iter().fold(0u64, |sum, segment| {
         let loaded = segment.p_type == goblin::elf::program_header::PT_LOAD;
@@ -105,12 +105,12 @@ pub fn segments(data: &[u8], _: &[u8]) -> u64 {
     })
 }
 
-pub fn symbol_values(data: &[u8], _: &[u8]) -> u64 {
+pub extern "C-unwind" fn symbol_values(data: &[u8], _: &[u8]) -> u64 {
     let (symbols, _) = there!(symbols(data, types::SHT_SYMTAB));
     symbols.iter().fold(0, |sum, symbol| sum.wrapping_add(symbol.st_value))
 }
 
-pub fn symbol_fields(data: &[u8], _: &[u8]) -> u64 {
+pub extern "C-unwind" fn symbol_fields(data: &[u8], _: &[u8]) -> u64 {
     let (symbols, _) = there!(symbols(data, types::SHT_SYMTAB));
     symbols.iter().fold(0u64, |sum, symbol| {
         sum.wrapping_add(symbol.st_value)
@@ -119,7 +119,7 @@ pub fn symbol_fields(data: &[u8], _: &[u8]) -> u64 {
     })
 }
 
-pub fn symbol_texts(data: &[u8], _: &[u8]) -> u64 {
+pub extern "C-unwind" fn symbol_texts(data: &[u8], _: &[u8]) -> u64 {
     let (symbols, texts) = there!(symbols(data, types::SHT_SYMTAB));
     symbols.iter().fold(0, |sum, symbol| match texts.get(symbol.st_name) {
         Some(Ok(name)) => sum + sum_of(name.as_bytes()),
@@ -127,7 +127,7 @@ pub fn symbol_texts(data: &[u8], _: &[u8]) -> u64 {
     })
 }
 
-pub fn symbol_search(data: &[u8], text: &[u8]) -> u64 {
+pub extern "C-unwind" fn symbol_search(data: &[u8], text: &[u8]) -> u64 {
     let (symbols, texts) = there!(symbols(data, types::SHT_SYMTAB));
     let name = there!(from_utf8(text).ok());
     let found = symbols.iter().find(|symbol| matches!(texts.get(symbol.st_name), Some(Ok(found)) if found == name));
@@ -135,13 +135,13 @@ pub fn symbol_search(data: &[u8], text: &[u8]) -> u64 {
 }
 
 /// By the program headers, as it does. Tags aren't asked for their meaning.
-pub fn dynamic(data: &[u8], _: &[u8]) -> u64 {
+pub extern "C-unwind" fn dynamic(data: &[u8], _: &[u8]) -> u64 {
     let programs = there!(programs(data));
     let entries = there!(Dynamic::parse(data, &programs, CTX).ok().flatten());
     entries.dyns.iter().fold(0, |sum, entry| sum.wrapping_add(entry.d_val))
 }
 
-pub fn relocations(data: &[u8], _: &[u8]) -> u64 {
+pub extern "C-unwind" fn relocations(data: &[u8], _: &[u8]) -> u64 {
     let (_, sections) = there!(listed(data));
     let with_addends = sections.iter().filter(|section| section.sh_type == types::SHT_RELA);
     let tables = with_addends.filter_map(|section| RelocSection::parse(data, section.sh_offset as usize, section.sh_size as usize, true, CTX).ok());
@@ -153,7 +153,7 @@ pub fn relocations(data: &[u8], _: &[u8]) -> u64 {
     })
 }
 
-pub fn notes(data: &[u8], _: &[u8]) -> u64 {
+pub extern "C-unwind" fn notes(data: &[u8], _: &[u8]) -> u64 {
     let (_, sections) = there!(listed(data));
     let noted = sections.iter().filter(|section| section.sh_type == types::SHT_NOTE);
     noted.fold(0, |sum, section| {
@@ -166,7 +166,7 @@ pub fn notes(data: &[u8], _: &[u8]) -> u64 {
 }
 
 /// Its table takes the symbols as a vector, which is made once.
-pub fn gnu_look_ups(data: &[u8], text: &[u8]) -> u64 {
+pub extern "C-unwind" fn gnu_look_ups(data: &[u8], text: &[u8]) -> u64 {
     let (_, sections) = there!(listed(data));
     let section = there!(sections.iter().find(|section| section.sh_type == types::SHT_GNU_HASH));
     let linked = there!(sections.get(section.sh_link as usize));

@@ -2,6 +2,9 @@
 //!
 //! `bench [--answers] [--seconds S] [--passes 'NAME;NAME..'] GROUP=FILE..`: a line a contender, of the
 //! columns file, pass, contender, nanoseconds an item, items, repetitions.
+// A slice as an argument is its address and its length, in C too.
+#![allow(improper_ctypes, improper_ctypes_definitions)]
+
 mod crate_passes;
 mod facts;
 mod foreign;
@@ -26,8 +29,8 @@ pub const NAME: usize = 28;
 /// number of the version in four bytes of little order.
 pub const RECORD: usize = 64;
 
-/// A pass by a contender: of a file and a text, which answers a sum.
-pub type Call = fn(&[u8], &[u8]) -> u64;
+/// A pass by a contender: of a file and a text, which answers a sum. All are called in one way, that of C.
+pub type Call = unsafe extern "C-unwind" fn(&[u8], &[u8]) -> u64;
 
 /// The shortest repetition that is timed, in seconds.
 const SHORTEST: f64 = 2e-4;
@@ -51,7 +54,8 @@ fn lanes(pass: &Pass, data: &[u8], text: &[u8]) -> Result<Vec<Lane>, String> {
     let mut answers = Vec::new();
     for &(name, call) in pass.calls {
         let start = Instant::now();
-        match catch_unwind(AssertUnwindSafe(|| call(data, text))) {
+        // SAFETY: both slices live through the call.
+        match catch_unwind(AssertUnwindSafe(|| unsafe { call(data, text) })) {
             Ok(NONE) | Err(_) => continue,
             Ok(answer) => answers.push((name, answer)),
         }
@@ -75,7 +79,8 @@ fn race(lanes: &mut [Lane], data: &[u8], text: &[u8], seconds: f64) -> usize {
             let lane = &mut lanes[at];
             let begin = Instant::now();
             for _ in 0..lane.calls {
-                black_box((lane.call)(black_box(data), black_box(text)));
+                // SAFETY: both slices live through the call.
+                black_box(unsafe { (lane.call)(black_box(data), black_box(text)) });
             }
             let each = begin.elapsed().as_secs_f64() / f64::from(lane.calls);
             lane.least = lane.least.min(each);

@@ -32,31 +32,31 @@ fn symbols(data: &[u8], kind: u32) -> Option<(SymbolTable<'_, Header>, Endiannes
     Some((sections.symbols(endian, data, kind).ok()?, endian))
 }
 
-pub fn header(data: &[u8], _: &[u8]) -> u64 {
+pub extern "C-unwind" fn header(data: &[u8], _: &[u8]) -> u64 {
     let (header, endian) = there!(opened(data));
     header.e_entry(endian).wrapping_add(header.e_shoff(endian)).wrapping_add(header.e_phoff(endian))
 }
 
-pub fn header_fields(data: &[u8], text: &[u8]) -> u64 {
+pub extern "C-unwind" fn header_fields(data: &[u8], text: &[u8]) -> u64 {
     let (part, endian) = there!(opened(data));
     let small = [part.e_ehsize(endian), part.e_phentsize(endian), part.e_phnum(endian), part.e_shentsize(endian), part.e_shnum(endian), part.e_shstrndx(endian)];
     let sum: u64 = small.iter().map(|number| u64::from(*number)).sum();
     header(data, text).wrapping_add(sum)
 }
 
-pub fn sections(data: &[u8], _: &[u8]) -> u64 {
+pub extern "C-unwind" fn sections(data: &[u8], _: &[u8]) -> u64 {
     let (header, endian) = there!(opened(data));
     let headers = there!(header.section_headers(endian, data).ok());
     headers.iter().fold(0, |sum, section| sum.wrapping_add(section.sh_size(endian)))
 }
 
-pub fn sections_index(data: &[u8], _: &[u8]) -> u64 {
+pub extern "C-unwind" fn sections_index(data: &[u8], _: &[u8]) -> u64 {
     let (sections, endian) = there!(listed(data));
     let found = (0..sections.len()).filter_map(|index| sections.section(SectionIndex(index)).ok());
     found.fold(0, |sum, section| sum.wrapping_add(section.sh_size(endian)))
 }
 
-pub fn section_fields(data: &[u8], _: &[u8]) -> u64 {
+pub extern "C-unwind" fn section_fields(data: &[u8], _: &[u8]) -> u64 {
     let (header, endian) = there!(opened(data));
     let headers = there!(header.section_headers(endian, data).ok());
     headers.iter().fold(0u64, |sum, section| {
@@ -76,7 +76,7 @@ fn is_refused(kind: u32) -> bool {
     matches!(kind, 12 | 13 | 19..=0x5fff_ffff)
 }
 
-pub fn section_types(data: &[u8], _: &[u8]) -> u64 {
+pub extern "C-unwind" fn section_types(data: &[u8], _: &[u8]) -> u64 {
     let (header, endian) = there!(opened(data));
     let headers = there!(header.section_headers(endian, data).ok());
     headers.iter().fold(0, |sum, section| {
@@ -89,30 +89,30 @@ pub fn section_types(data: &[u8], _: &[u8]) -> u64 {
     })
 }
 
-pub fn section_names(data: &[u8], _: &[u8]) -> u64 {
+pub extern "C-unwind" fn section_names(data: &[u8], _: &[u8]) -> u64 {
     let (sections, endian) = there!(listed(data));
     sections.iter().fold(0, |sum, section| sum + sections.section_name(endian, section).map_or(0, sum_of))
 }
 
-pub fn section_texts(data: &[u8], _: &[u8]) -> u64 {
+pub extern "C-unwind" fn section_texts(data: &[u8], _: &[u8]) -> u64 {
     let (sections, endian) = there!(listed(data));
     let names = sections.iter().filter_map(|section| from_utf8(sections.section_name(endian, section).ok()?).ok());
     names.fold(0, |sum, name| sum + sum_of(name.as_bytes()))
 }
 
-pub fn find(data: &[u8], text: &[u8]) -> u64 {
+pub extern "C-unwind" fn find(data: &[u8], text: &[u8]) -> u64 {
     let (sections, endian) = there!(listed(data));
     sections.section_by_name(endian, text).map_or(0, |found| found.1.sh_offset(endian))
 }
 
-pub fn raw_data(data: &[u8], _: &[u8]) -> u64 {
+pub extern "C-unwind" fn raw_data(data: &[u8], _: &[u8]) -> u64 {
     let (header, endian) = there!(opened(data));
     let headers = there!(header.section_headers(endian, data).ok());
     let used = headers.iter().filter(|section| section.sh_type(endian) != 0);
     used.fold(0u64, |sum, section| sum.wrapping_add(section.data(endian, data).map_or(0, sum_of)))
 }
 
-pub fn data(data: &[u8], _: &[u8]) -> u64 {
+pub extern "C-unwind" fn data(data: &[u8], _: &[u8]) -> u64 {
     let (header, endian) = there!(opened(data));
     let headers = there!(header.section_headers(endian, data).ok());
     headers.iter().fold(0u64, |sum, section| {
@@ -140,7 +140,7 @@ pub fn data(data: &[u8], _: &[u8]) -> u64 {
     })
 }
 
-pub fn segments(data: &[u8], _: &[u8]) -> u64 {
+pub extern "C-unwind" fn segments(data: &[u8], _: &[u8]) -> u64 {
     let (header, endian) = there!(opened(data));
     let headers = there!(header.program_headers(endian, data).ok());
     headers.iter().fold(0u64, |sum, segment| {
@@ -149,12 +149,12 @@ pub fn segments(data: &[u8], _: &[u8]) -> u64 {
     })
 }
 
-pub fn symbol_values(data: &[u8], _: &[u8]) -> u64 {
+pub extern "C-unwind" fn symbol_values(data: &[u8], _: &[u8]) -> u64 {
     let (symbols, endian) = there!(symbols(data, elf::SHT_SYMTAB));
     symbols.iter().fold(0, |sum, symbol| sum.wrapping_add(symbol.st_value(endian)))
 }
 
-pub fn symbol_fields(data: &[u8], _: &[u8]) -> u64 {
+pub extern "C-unwind" fn symbol_fields(data: &[u8], _: &[u8]) -> u64 {
     let (symbols, endian) = there!(symbols(data, elf::SHT_SYMTAB));
     symbols.iter().fold(0u64, |sum, symbol| {
         sum.wrapping_add(symbol.st_value(endian))
@@ -163,25 +163,25 @@ pub fn symbol_fields(data: &[u8], _: &[u8]) -> u64 {
     })
 }
 
-pub fn symbol_names(data: &[u8], _: &[u8]) -> u64 {
+pub extern "C-unwind" fn symbol_names(data: &[u8], _: &[u8]) -> u64 {
     let (symbols, endian) = there!(symbols(data, elf::SHT_SYMTAB));
     symbols.iter().fold(0, |sum, symbol| sum + symbol.name(endian, symbols.strings()).map_or(0, sum_of))
 }
 
-pub fn symbol_texts(data: &[u8], _: &[u8]) -> u64 {
+pub extern "C-unwind" fn symbol_texts(data: &[u8], _: &[u8]) -> u64 {
     let (symbols, endian) = there!(symbols(data, elf::SHT_SYMTAB));
     let names = symbols.iter().filter_map(|symbol| from_utf8(symbol.name(endian, symbols.strings()).ok()?).ok());
     names.fold(0, |sum, name| sum + sum_of(name.as_bytes()))
 }
 
-pub fn symbol_search(data: &[u8], text: &[u8]) -> u64 {
+pub extern "C-unwind" fn symbol_search(data: &[u8], text: &[u8]) -> u64 {
     let (symbols, endian) = there!(symbols(data, elf::SHT_SYMTAB));
     let found = symbols.iter().find(|symbol| symbol.name(endian, symbols.strings()) == Ok(text));
     found.map_or(NONE, |symbol| symbol.st_value(endian))
 }
 
 /// Tags aren't asked for their meaning.
-pub fn dynamic(data: &[u8], _: &[u8]) -> u64 {
+pub extern "C-unwind" fn dynamic(data: &[u8], _: &[u8]) -> u64 {
     let (sections, endian) = there!(listed(data));
     let (entries, _) = there!(sections.dynamic(endian, data).ok().flatten());
     let mut sum = 0u64;
@@ -194,7 +194,7 @@ pub fn dynamic(data: &[u8], _: &[u8]) -> u64 {
     sum
 }
 
-pub fn relocations(data: &[u8], _: &[u8]) -> u64 {
+pub extern "C-unwind" fn relocations(data: &[u8], _: &[u8]) -> u64 {
     let (sections, endian) = there!(listed(data));
     let tables = sections.iter().filter_map(|section| section.rela(endian, data).ok().flatten());
     tables.flat_map(|table| table.0).fold(0u64, |sum, relocation| {
@@ -205,7 +205,7 @@ pub fn relocations(data: &[u8], _: &[u8]) -> u64 {
     })
 }
 
-pub fn notes(data: &[u8], _: &[u8]) -> u64 {
+pub extern "C-unwind" fn notes(data: &[u8], _: &[u8]) -> u64 {
     let (sections, endian) = there!(listed(data));
     sections.iter().fold(0, |sum, section| {
         let mut notes = match section.notes(endian, data) {
@@ -217,7 +217,7 @@ pub fn notes(data: &[u8], _: &[u8]) -> u64 {
     })
 }
 
-pub fn build_id(data: &[u8], _: &[u8]) -> u64 {
+pub extern "C-unwind" fn build_id(data: &[u8], _: &[u8]) -> u64 {
     let (sections, endian) = there!(listed(data));
     let Some((_, section)) = sections.section_by_name(endian, b".note.gnu.build-id") else { return 0 };
     let Ok(Some(mut notes)) = section.notes(endian, data) else { return 0 };
@@ -225,7 +225,7 @@ pub fn build_id(data: &[u8], _: &[u8]) -> u64 {
     sum_of(note.desc())
 }
 
-pub fn hash_numbers(_: &[u8], text: &[u8]) -> u64 {
+pub extern "C-unwind" fn hash_numbers(_: &[u8], text: &[u8]) -> u64 {
     text.chunks_exact(NAME).filter_map(|name| from_utf8(name).ok()).map(|name| u64::from(elf::hash(name.as_bytes()))).sum()
 }
 
@@ -235,14 +235,14 @@ fn found<'a>(text: &'a [u8], endian: Endianness, find: impl Fn(&'a [u8]) -> Opti
     names.fold(0, |sum, name| sum.wrapping_add(find(name.as_bytes()).map_or(0, |symbol| symbol.st_value(endian))))
 }
 
-pub fn look_ups<'a>(data: &'a [u8], text: &'a [u8]) -> u64 {
+pub extern "C-unwind" fn look_ups<'a>(data: &'a [u8], text: &'a [u8]) -> u64 {
     let (sections, endian) = there!(listed(data));
     let (table, _) = there!(sections.hash(endian, data).ok().flatten());
     let (symbols, versions) = (there!(symbols(data, elf::SHT_DYNSYM)).0, VersionTable::default());
     found(text, endian, |name| table.find(endian, name, elf::hash(name), None, &symbols, &versions).map(|found| found.1))
 }
 
-pub fn gnu_look_ups<'a>(data: &'a [u8], text: &'a [u8]) -> u64 {
+pub extern "C-unwind" fn gnu_look_ups<'a>(data: &'a [u8], text: &'a [u8]) -> u64 {
     let (sections, endian) = there!(listed(data));
     let (table, _) = there!(sections.gnu_hash(endian, data).ok().flatten());
     let (symbols, versions) = (there!(symbols(data, elf::SHT_DYNSYM)).0, VersionTable::default());
@@ -250,7 +250,7 @@ pub fn gnu_look_ups<'a>(data: &'a [u8], text: &'a [u8]) -> u64 {
 }
 
 /// How many of the names in records a look-up finds.
-pub fn linked_look_ups<'a>(data: &'a [u8], text: &'a [u8]) -> u64 {
+pub extern "C-unwind" fn linked_look_ups<'a>(data: &'a [u8], text: &'a [u8]) -> u64 {
     let (sections, endian) = there!(listed(data));
     let (table, _) = there!(sections.gnu_hash(endian, data).ok().flatten());
     let (symbols, versions) = (there!(symbols(data, elf::SHT_DYNSYM)).0, VersionTable::default());
@@ -265,13 +265,13 @@ fn map(data: &[u8]) -> Option<object::SymbolMap<object::SymbolMapName<'_>>> {
     Some(object::read::elf::ElfFile64::<Endianness>::parse(data).ok()?.symbol_map())
 }
 
-pub fn addresses_build(data: &[u8], _: &[u8]) -> u64 {
+pub extern "C-unwind" fn addresses_build(data: &[u8], _: &[u8]) -> u64 {
     std::hint::black_box(there!(map(data)));
     there!(symbols(data, elf::SHT_SYMTAB)).0.len() as u64
 }
 
 /// Each address is in a symbol, so that all are found.
-pub fn addresses_asked(data: &[u8], text: &[u8]) -> u64 {
+pub extern "C-unwind" fn addresses_asked(data: &[u8], text: &[u8]) -> u64 {
     let map = there!(map(data));
     let addresses = text.chunks_exact(8).map(|part| u64::from_le_bytes(part.try_into().unwrap()));
     addresses.filter(|address| map.get(*address).is_some()).count() as u64
@@ -304,7 +304,7 @@ fn checked_load(load: &ProgramHeader64<Endianness>, endian: Endianness, before: 
 }
 
 /// The plan that glibc follows for a file, with the same checks.
-pub fn load_plan(data: &[u8], _: &[u8]) -> u64 {
+pub extern "C-unwind" fn load_plan(data: &[u8], _: &[u8]) -> u64 {
     let (header, endian) = there!(opened(data));
     let segments = there!(header.program_headers(endian, data).ok());
     if !matches!(header.e_type(endian), 2 | 3) || size_of_val(segments) as u64 > PAGE {

@@ -18,13 +18,13 @@ fn sorted(data: &[u8]) -> Option<(Vec<(u64, u64, u32)>, usize)> {
     Some((found, symbols.len()))
 }
 
-pub fn addresses_build(data: &[u8], _: &[u8]) -> u64 {
+pub extern "C-unwind" fn addresses_build(data: &[u8], _: &[u8]) -> u64 {
     let Some((found, count)) = sorted(data) else { return NONE };
     std::hint::black_box(found);
     count as u64
 }
 
-pub fn addresses_asked(data: &[u8], text: &[u8]) -> u64 {
+pub extern "C-unwind" fn addresses_asked(data: &[u8], text: &[u8]) -> u64 {
     let Some((found, _)) = sorted(data) else { return NONE };
     let addresses = text.chunks_exact(8).map(|part| u64::from_le_bytes(part.try_into().unwrap()));
     addresses.filter(|address| found.partition_point(|symbol| symbol.0 <= *address) > 0).count() as u64

@@ -995,6 +995,36 @@ class Status(IntEnum):
     """Thread-local storage is not valid."""
     LOAD_IMAGE_SIZE = 318
     """Image is not of the size of the span."""
+    LOAD_DYNAMIC = 319
+    """Dynamic segment is in no readable load segment."""
+    LOAD_NO_ENTRY = 320
+    """No string table or no symbols."""
+    LOAD_RELOCATION_SIZE = 321
+    """Size of relocations is not that of the class."""
+    LOAD_NOT_MULTIPLE = 322
+    """Table of relocations is not a whole number of them."""
+    LOAD_UNREADABLE = 323
+    """Table of the dynamic segment is in no readable load segment."""
+    LOAD_SLOT_KIND = 324
+    """Kind of relocations of the procedure linkage table is neither Rel nor Rela."""
+    LOAD_MACHINE = 325
+    """Machine is not supported."""
+    LOAD_FEW_MARKS = 326
+    """Marks have fewer bits than the load segments have bytes."""
+    LOAD_WORD_TYPE = 327
+    """Type of a relocation is not supported."""
+    LOAD_WORD_ADDRESS = 328
+    """Word is in no load segment."""
+    LOAD_READ_ONLY = 329
+    """Word is in a load segment that is not writable."""
+    LOAD_WORDS_OVERLAP = 330
+    """Words overlap."""
+    LOAD_WORD_IN_TABLE = 331
+    """Word is in a table of the dynamic segment."""
+    LOAD_UNRESOLVED = 332
+    """Symbol is in no object."""
+    LOAD_COPY_SOURCE = 333
+    """Bytes to copy are not in the image of their object."""
     INDEX_MANY_SYMBOLS = 401
     """Table has 2^32 symbols or more."""
     INDEX_FEW_WORDS = 402
@@ -1002,4 +1032,4 @@ class Status(IntEnum):
 
 
 # The size of the longest text of a status, in bytes.
-LONGEST_MESSAGE = 64
+LONGEST_MESSAGE = 74

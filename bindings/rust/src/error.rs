@@ -190,6 +190,36 @@ pub enum Error {
     LoadTls,
     /// Image is not of the size of the span.
     LoadImageSize,
+    /// Dynamic segment is in no readable load segment.
+    LoadDynamic,
+    /// No string table or no symbols.
+    LoadNoEntry,
+    /// Size of relocations is not that of the class.
+    LoadRelocationSize,
+    /// Table of relocations is not a whole number of them.
+    LoadNotMultiple,
+    /// Table of the dynamic segment is in no readable load segment.
+    LoadUnreadable,
+    /// Kind of relocations of the procedure linkage table is neither Rel nor Rela.
+    LoadSlotKind,
+    /// Machine is not supported.
+    LoadMachine,
+    /// Marks have fewer bits than the load segments have bytes.
+    LoadFewMarks,
+    /// Type of a relocation is not supported.
+    LoadWordType,
+    /// Word is in no load segment.
+    LoadWordAddress,
+    /// Word is in a load segment that is not writable.
+    LoadReadOnly,
+    /// Words overlap.
+    LoadWordsOverlap,
+    /// Word is in a table of the dynamic segment.
+    LoadWordInTable,
+    /// Symbol is in no object.
+    LoadUnresolved,
+    /// Bytes to copy are not in the image of their object.
+    LoadCopySource,
     /// Table has 2^32 symbols or more.
     IndexManySymbols,
     /// Too few words for the index.
@@ -295,6 +325,21 @@ impl Error {
             316 => Error::LoadRelro,
             317 => Error::LoadTls,
             318 => Error::LoadImageSize,
+            319 => Error::LoadDynamic,
+            320 => Error::LoadNoEntry,
+            321 => Error::LoadRelocationSize,
+            322 => Error::LoadNotMultiple,
+            323 => Error::LoadUnreadable,
+            324 => Error::LoadSlotKind,
+            325 => Error::LoadMachine,
+            326 => Error::LoadFewMarks,
+            327 => Error::LoadWordType,
+            328 => Error::LoadWordAddress,
+            329 => Error::LoadReadOnly,
+            330 => Error::LoadWordsOverlap,
+            331 => Error::LoadWordInTable,
+            332 => Error::LoadUnresolved,
+            333 => Error::LoadCopySource,
             401 => Error::IndexManySymbols,
             402 => Error::IndexFewWords,
             other => Error::Unknown(other),
@@ -397,6 +442,21 @@ impl Error {
             Error::LoadRelro => 316,
             Error::LoadTls => 317,
             Error::LoadImageSize => 318,
+            Error::LoadDynamic => 319,
+            Error::LoadNoEntry => 320,
+            Error::LoadRelocationSize => 321,
+            Error::LoadNotMultiple => 322,
+            Error::LoadUnreadable => 323,
+            Error::LoadSlotKind => 324,
+            Error::LoadMachine => 325,
+            Error::LoadFewMarks => 326,
+            Error::LoadWordType => 327,
+            Error::LoadWordAddress => 328,
+            Error::LoadReadOnly => 329,
+            Error::LoadWordsOverlap => 330,
+            Error::LoadWordInTable => 331,
+            Error::LoadUnresolved => 332,
+            Error::LoadCopySource => 333,
             Error::IndexManySymbols => 401,
             Error::IndexFewWords => 402,
             Error::Unknown(status) => *status,
@@ -405,4 +465,4 @@ impl Error {
 }
 
 // How many bytes the longest text has.
-pub(crate) const LONGEST: usize = 64;
+pub(crate) const LONGEST: usize = 74;

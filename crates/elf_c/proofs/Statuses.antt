@@ -24,18 +24,27 @@ pub link_above : (error : LinkError) → 0 < link_number error
 link_above (link_error.Elf error) = error_above error
 link_above _ = lit< tt
 
--- the numbers of `elf_linking` are below 300, those of `elf_loading` between 300 and 400, and those of `elf_addresses` above
+-- the numbers of `elf_linking` are below 300, those of `elf_loading` below 400, and those of `elf_addresses` above
 error_below : (error : ElfError) → error_number error < 300
 error_below ShortPart1 = lit< tt
 error_below _ = lit< tt
+
+elf_under : (error : ElfError) → error_number error < 400
+elf_under ShortPart1 = lit< tt
+elf_under _ = lit< tt
 
 pub link_below : (error : LinkError) → link_number error < 300
 link_below (link_error.Elf error) = error_below error
 link_below _ = lit< tt
 
-pub load_within : (error : LoadError) → (300 < load_number error) × (load_number error < 400)
-load_within load_error.Type = (lit< tt, lit< tt)
-load_within _ = (lit< tt, lit< tt)
+link_under : (error : LinkError) → link_number error < 400
+link_under (link_error.Elf error) = elf_under error
+link_under _ = lit< tt
+
+pub load_below : (error : LoadError) → load_number error < 400
+load_below load_error.Type = lit< tt
+load_below (load_error.Link error) = link_under error
+load_below _ = lit< tt
 
 pub index_within : (error : IndexError) → 400 < index_number error
 index_within index_error.ManySymbols = lit< tt
@@ -43,6 +52,7 @@ index_within index_error.FewWords = lit< tt
 
 load_above : (error : LoadError) → 0 < load_number error
 load_above load_error.Type = lit< tt
+load_above (load_error.Link error) = link_above error
 load_above _ = lit< tt
 
 index_above : (error : IndexError) → 0 < index_number error

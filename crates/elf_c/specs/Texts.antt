@@ -1,14 +1,17 @@
 -- The texts of the statuses (this project's own).
 use Rattle.std.specs.Prelude.{◌≡◌, ℕ, ◌++◌, List, [], drop, length, take, Option, None, Some}
 use Rattle.elf_linking.specs.declared.error.LinkError.TheVariants as link_error
+use Rattle.elf_loading.specs.declared.error.LoadError.TheVariants as load_error
 use Rattle.elf_c.specs.Status.{refusal_message, refusal_number}
 use Rattle.elf_c.specs.declared.status.Refusal.{Refusal}
-use Rattle.elf_c.specs.declared.status.Refusal.TheVariants.{Elf, Link}
+use Rattle.elf_c.specs.declared.status.Refusal.TheVariants.{Elf, Link, Load}
 
--- the error that is found by its number: for an error of the ELF reader inside one of `elf_linking`, the
--- inner error; no two others have the same number
+-- the error that is found by its number: for an error of the ELF reader inside one of `elf_linking`, and for one of
+-- these inside one of `elf_loading`, the inner error; no two others have the same number
 abbrev pub error_within : Refusal → Refusal
 error_within (Link (link_error.Elf error)) = Elf error
+error_within (Load (load_error.Link (link_error.Elf error))) = Elf error
+error_within (Load (load_error.Link error)) = Link error
 error_within refusal = refusal
 
 -- an error has the number, or no error has it

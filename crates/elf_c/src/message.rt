@@ -19,13 +19,13 @@ use elf_linking::LinkError;
 use elf_loading::LoadError;
 
 // The error of `elf_linking`, `elf_loading` or `elf_addresses` with a number.
-#[tactic(auto, using(crate::proofs::Statuses::link_below, crate::proofs::Statuses::load_within, crate::proofs::Statuses::index_within))]
+#[tactic(auto, using(crate::proofs::Statuses::link_below, crate::proofs::Statuses::load_below, crate::proofs::Statuses::index_within))]
 fn library_refusal(number: u32) -> Option<Refusal>
     ensures found { IfSome result (λ refusal. (100 < number)
         × (refusal_number refusal ≡ number)) }
     ensures link { (error : LinkError) → link_number error ≡ number → 100 < number
         → result ≡ Some (Link error) }
-    ensures load { (error : LoadError) → load_number error ≡ number
+    ensures load { (error : LoadError) → load_number error ≡ number → 300 < number
         → result ≡ Some (Load error) }
     ensures index { (error : IndexError) → index_number error ≡ number
         → result ≡ Some (Index error) }

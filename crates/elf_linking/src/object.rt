@@ -131,6 +131,16 @@ impl<'a, E: LinkedSymbol> DynamicObject<'a, E> {
         self.view
     }
 
+    /// The file that it was read from.
+    pub fn file(&self) -> ElfFile<'a>
+        ensures { result ≡ object_file self.now }
+    {
+        ElfFile {
+            input: self.file.input,
+            header: self.file.header,
+        }
+    }
+
     /// The hash table of the symbols.
     pub fn table(&self) -> AnyTable<'a>
         ensures { result ≡ object_table self.now }

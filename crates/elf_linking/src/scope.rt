@@ -52,6 +52,13 @@ impl<'s, 'a, E: LinkedSymbol> Scope<'s, 'a, E> {
         Self { objects }
     }
 
+    /// The objects, the program first.
+    pub fn objects(&self) -> &'s [DynamicObject<'a, E>]
+        ensures { result ≡ scope_objects self.now }
+    {
+        self.objects
+    }
+
     /// The symbol that a look-up for the object at index `from` finds: that of the first object in
     /// which `DynamicObject::find` returns a symbol that serves references of other files, as
     /// `serves_others` says. An object in which it returns another symbol is passed over, even if

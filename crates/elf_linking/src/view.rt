@@ -12,7 +12,7 @@ mod symbols;
 mod tables;
 mod tags;
 
-pub use crate::view::dynamic::{DynamicView, strings};
+pub use crate::view::dynamic::{DynamicView, dynamic_segment, strings};
 pub use crate::view::entries::DynamicEntries;
 pub use crate::view::linked_symbol::LinkedSymbol;
 pub use crate::view::loaded::{bytes_at, bytes_from, segment_at, word_at};

@@ -1,5 +1,6 @@
 pub mod Rounded
 pub mod Fits
+pub mod HeadersAt
 pub mod Lists
 pub mod Others
 pub mod LoadChecks
@@ -18,3 +19,14 @@ pub mod Relro
 pub mod Numbers
 pub mod Reasons
 pub mod InOrders
+pub mod NumberBytes
+pub mod Written
+pub mod Checked
+pub mod OneWords
+pub mod ErrorsLeft
+pub mod ImageTables
+pub mod ImageLoads
+pub mod Marks
+pub mod ImageWord
+pub mod ImageChecks
+pub mod ImagePasses

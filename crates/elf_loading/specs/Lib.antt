@@ -1,6 +1,8 @@
 pub mod Message
 pub mod Pages
 pub mod Segments
+pub mod HeaderAt
+pub mod Programs
 pub mod LoadCheck
 pub mod FileCheck
 pub mod Loads
@@ -17,3 +19,7 @@ pub mod InOrder
 pub mod Values
 pub mod Words
 pub mod WordsLeft
+pub mod ImageTables
+pub mod ImageWords
+pub mod Relocate
+pub mod OneWord

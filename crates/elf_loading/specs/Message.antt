@@ -1,9 +1,10 @@
 -- The number of each error, which never changes, and its text (this project's own).
 use Rattle.std.specs.Prelude.{ℕ, List, codes}
+use Rattle.elf_linking.specs.Message.{link_message, link_number}
 use Rattle.elf_loading.specs.declared.error.LoadError.{LoadError}
 use Rattle.elf_loading.specs.declared.error.LoadError.TheVariants as error
 
--- the number and the text of an error
+-- the number and the text of an error; for `Link` those of the inner one
 abbrev pub load_row : LoadError → ℕ × List ℕ
 load_row error.Type = (301, codes "Type is neither executable nor shared object")
 load_row error.EntrySize = (302, codes "Program headers are not of the size of the class")
@@ -23,6 +24,22 @@ load_row error.Interpreter = (315, codes "Path of the interpreter is not valid")
 load_row error.Relro = (316, codes "Part that is read-only after relocation is in no load segment")
 load_row error.Tls = (317, codes "Thread-local storage is not valid")
 load_row error.ImageSize = (318, codes "Image is not of the size of the span")
+load_row error.Dynamic = (319, codes "Dynamic segment is in no readable load segment")
+load_row error.NoEntry = (320, codes "No string table or no symbols")
+load_row error.RelocationSize = (321, codes "Size of relocations is not that of the class")
+load_row error.NotMultiple = (322, codes "Table of relocations is not a whole number of them")
+load_row error.Unreadable = (323, codes "Table of the dynamic segment is in no readable load segment")
+load_row error.SlotKind = (324, codes "Kind of relocations of the procedure linkage table is neither Rel nor Rela")
+load_row error.Machine = (325, codes "Machine is not supported")
+load_row error.FewMarks = (326, codes "Marks have fewer bits than the load segments have bytes")
+load_row error.WordType = (327, codes "Type of a relocation is not supported")
+load_row error.WordAddress = (328, codes "Word is in no load segment")
+load_row error.ReadOnly = (329, codes "Word is in a load segment that is not writable")
+load_row error.WordsOverlap = (330, codes "Words overlap")
+load_row error.WordInTable = (331, codes "Word is in a table of the dynamic segment")
+load_row error.Unresolved = (332, codes "Symbol is in no object")
+load_row error.CopySource = (333, codes "Bytes to copy are not in the image of their object")
+load_row (error.Link inner) = (link_number inner, link_message inner)
 
 -- the number of an error
 abbrev pub load_number : LoadError → ℕ

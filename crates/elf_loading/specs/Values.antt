@@ -1,6 +1,6 @@
 -- What a relocation writes, in terms of the addresses at which files are loaded (the processor supplements of the System
 -- V ABI, "Relocation Types"; the values without a symbol, and of indirect functions, as glibc 2.36 has them).
-use Rattle.std.specs.Prelude.{ℕ, ◌+◌, ◌-◌, ◌*◌, ◌%◌, ◌^◌, ◌==◌, ◌&&◌, not, nat_le, Bool, Option, None, Some, if◌then◌else◌}
+use Rattle.std.specs.Prelude.{ℕ, ◌+◌, ◌-◌, ◌*◌, ◌%◌, ◌^◌, ◌==◌, ◌&&◌, not, min, Bool, Option, None, Some, if◌then◌else◌}
 use Rattle.elf_linking.specs.declared.scope.Bound.{Bound}
 use Rattle.elf_loading.specs.declared.formulas.Formula.{Formula}
 use Rattle.elf_loading.specs.declared.formulas.Formula.TheVariants as formulas
@@ -19,9 +19,6 @@ low width number = if width == 4 then number % 2 ^ 32 else number % 2 ^ 64
 -- a number less another, which is below 2 to the 64
 abbrev pub difference : ℕ → ℕ → ℕ → ℕ
 difference width one other = low width (one + 2 ^ 64 - other)
-
-abbrev pub lesser : ℕ → ℕ → ℕ
-lesser one other = if nat_le one other then one else other
 
 -- The symbol that a relocation gets, as an origin plus a number.
 
@@ -70,7 +67,7 @@ bound_value fields terms bound formulas.ThreadNegated =
 bound_value fields terms bound formulas.Descriptor =
     Descriptor (Some bound.object) (low terms.width ((fields bound.symbol).value + terms.addend))
 bound_value fields terms bound formulas.Copy =
-    Copy bound.object (fields bound.symbol).value (lesser (fields bound.symbol).size terms.size)
+    Copy bound.object (fields bound.symbol).value (min (fields bound.symbol).size terms.size)
 bound_value fields terms bound _ = Unchanged
 
 abbrev pub module_value : {E : Type 0} → (E → SymbolFields) → Terms → Option (Bound E) → Formula → Value

@@ -1,6 +1,8 @@
 -- The words that relocations write when a file is loaded (the processor supplements of the System V ABI; which symbol
 -- a relocation gets, as `bind` of elf_linking says; what jump slots hold before they are called, as glibc 2.36 has it).
-use Rattle.std.specs.Prelude.{◌≡◌, ℕ, ◌+◌, ◌/◌, ◌%◌, ◌^◌, ◌==◌, ◌&&◌, ◌||◌, not, is_some, Bool, true, false, List, slice_get, Option, None, Some, Result, Ok, Err, if◌then◌else◌}
+use Rattle.std.specs.Prelude.{◌≡◌, ℕ, ◌+◌, ◌/◌, ◌%◌, ◌^◌, ◌==◌, ◌&&◌, ◌||◌, not, nat_le, is_some, Bool, true, false, List, slice_get, Option, None, Some, Result, Ok, Err, if◌then◌else◌}
+use Rattle.std.specs.List.{list_any}
+use Rattle.elf_base.specs.FileHeader.{file_class}
 use Rattle.elf_base.specs.Table.{table_items}
 use Rattle.elf_linking.specs.DynamicObject.{object_records}
 use Rattle.elf_linking.specs.DynamicView.{number_with}
@@ -13,19 +15,21 @@ use Rattle.elf_linking.specs.declared.references.Reference.{Reference}
 use Rattle.elf_linking.specs.declared.scope.Bound.{Bound}
 use Rattle.elf_linking.specs.declared.view.tags.TheConstants.{DT_BIND_NOW, DT_FLAGS, DT_FLAGS_1}
 use Rattle.elf_loading.specs.Formulas.{formula_of, width_of}
+use Rattle.elf_loading.specs.Segments.{loads_of}
 use Rattle.elf_loading.specs.Values.{bytes_of, value_of}
+use Rattle.elf_loading.specs.declared.error.LoadError.{LoadError}
+use Rattle.elf_loading.specs.declared.error.LoadError.TheVariants.{Link, WordType}
 use Rattle.elf_loading.specs.declared.formulas.Formula.{Formula}
 use Rattle.elf_loading.specs.declared.formulas.Formula.TheVariants as formulas
 use Rattle.elf_loading.specs.declared.in_order.Relocation.{Relocation}
 use Rattle.elf_loading.specs.declared.value.Terms.{Terms}
 use Rattle.elf_loading.specs.declared.words.Binding.{Binding}
 use Rattle.elf_loading.specs.declared.words.Binding.TheVariants.{Lazy, Now}
-use Rattle.elf_loading.specs.declared.words.ImageError.{ImageError}
-use Rattle.elf_loading.specs.declared.words.ImageError.TheVariants.{Link, WordType}
 use Rattle.elf_loading.specs.declared.words.Relocated.{Relocated}
 use Rattle.elf_loading.specs.declared.words.Word.{Word}
 use Rattle.elf_records.specs.declared.dynamic.Dynamic.{Dynamic}
 use Rattle.xmas_elf.specs.Symbol.{SymbolFields}
+use Rattle.xmas_elf.specs.Types.{ProgramHeader64}
 use Rattle.xmas_elf.specs.declared.ElfFile.{ElfFile}
 
 -- Jump slots that get their symbols when they are called first.
@@ -93,10 +97,29 @@ abbrev pub addend_place : Formula → ℕ → ℕ
 addend_place formulas.Descriptor address = (address + 4) % 2 ^ 64
 addend_place _ address = address
 
+-- the bytes of a word at an address are zeros after the bytes that a load has in the file
+abbrev pub has_zeros : ℕ → ℕ → ProgramHeader64 → Bool
+has_zeros address width load = nat_le (load.virtual_addr + load.file_size) address
+    && nat_le (address + width) (load.virtual_addr + load.mem_size)
+
+-- the size of an address in bytes, by the class
+abbrev pub address_size : ElfFile → ℕ
+address_size file = if file_class file.header == 1 then 4 else 8
+
+-- a number, or 0 for zeros of memory, or the error
+abbrev pub or_zeros : Bool → Result ℕ LinkError → Result ℕ LinkError
+or_zeros zeros (Ok number) = Ok number
+or_zeros zeros (Err error) = if zeros then Ok 0 else Err error
+
+-- the word at an address in memory before relocation
+abbrev pub word_in_memory : ElfFile → ℕ → Result ℕ LinkError
+word_in_memory file address =
+    or_zeros (list_any (has_zeros address (address_size file)) (loads_of file)) (word_at_of file address)
+
 -- the addend, if the formula has one: that of the record, or the word in place
 abbrev pub addend_of : ElfFile → Bool → Formula → Reference → Result ℕ LinkError
 addend_of file in_place formula reference =
-    if in_place && takes_addend formula then word_at_of file (addend_place formula reference.offset) else Ok reference.addend
+    if in_place && takes_addend formula then word_in_memory file (addend_place formula reference.offset) else Ok reference.addend
 
 abbrev pub size_in_own : {E : Type 0} → (E → SymbolFields) → Option E → ℕ
 size_in_own fields None = 0
@@ -114,12 +137,12 @@ value_word fields terms bound formula = let value = value_of fields terms bound 
     record { address = terms.address; width = bytes_of terms.width value; value = value }
 
 -- a result after one that may be an error of elf_linking
-abbrev pub and_link : {A B : Type 0} → Result A LinkError → (A → Result B ImageError) → Result B ImageError
+abbrev pub and_link : {A B : Type 0} → Result A LinkError → (A → Result B LoadError) → Result B LoadError
 and_link (Ok value) next = next value
 and_link (Err error) next = Err (Link error)
 
 -- the word of a relocation of the object at index `of`, by its formula and the symbol that it gets
-abbrev pub formula_word : {E : Type 0} → {r : _} → (E → SymbolFields) → ElfFile → DynamicObject E r → ℕ → Bool → Reference → Result (Option (Bound E)) LinkError → Option Formula → Result Word ImageError
+abbrev pub formula_word : {E : Type 0} → {r : _} → (E → SymbolFields) → ElfFile → DynamicObject E r → ℕ → Bool → Reference → Result (Option (Bound E)) LinkError → Option Formula → Result Word LoadError
 formula_word fields file own of in_place reference bound None = Err WordType
 formula_word fields file own of in_place reference bound (Some formula) =
     and_link (addend_of file in_place formula reference) (λ addend. and_link bound (λ symbol.
@@ -132,7 +155,7 @@ formula_word fields file own of in_place reference bound (Some formula) =
     }) symbol formula)))
 
 -- the word of a relocation of the object at index `of`, by the symbol that it gets
-abbrev pub word_of : {E : Type 0} → {r : _} → (E → SymbolFields) → ElfFile → DynamicObject E r → ℕ → Bool → Relocation → Result (Option (Bound E)) LinkError → Result Word ImageError
+abbrev pub word_of : {E : Type 0} → {r : _} → (E → SymbolFields) → ElfFile → DynamicObject E r → ℕ → Bool → Relocation → Result (Option (Bound E)) LinkError → Result Word LoadError
 word_of fields file own of lazy relocation bound = let machine = file_machine file in
     formula_word fields file own of (in_place_when machine lazy relocation) relocation.reference bound
     (formula_when machine lazy relocation)

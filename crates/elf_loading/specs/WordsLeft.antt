@@ -1,25 +1,27 @@
 -- The words of an object that are left (this project's own).
-use Rattle.std.specs.Prelude.{◌≡◌, ℕ, Bool, List, Option, None, Some, Result, Err}
+use Rattle.std.specs.Prelude.{◌≡◌, ℕ, Bool, List, Option, None, Some, Result, Err, slice_get}
 use Rattle.std.specs.Borrow.{Bor}
-use Rattle.elf_linking.specs.DynamicObject.{object_view}
+use Rattle.elf_linking.specs.DynamicObject.{object_file, object_view}
 use Rattle.elf_linking.specs.DynamicView.{view_entries}
 use Rattle.elf_linking.specs.declared.error.LinkError.{LinkError}
 use Rattle.elf_linking.specs.declared.error.LinkError.TheVariants.{ObjectIndex}
 use Rattle.elf_linking.specs.declared.object.DynamicObject.{DynamicObject}
 use Rattle.elf_linking.specs.Scope.{scope_objects}
 use Rattle.elf_loading.specs.InOrder.{order_left, relocations_in_order}
+use Rattle.elf_loading.specs.Words.{binds_lazily}
 use Rattle.elf_loading.specs.declared.in_order.Relocation.{Relocation}
+use Rattle.elf_loading.specs.declared.words.Binding.{Binding}
 use Rattle.elf_loading.specs.declared.words.Relocated.{Relocated}
 use Rattle.elf_loading.specs.declared.words.Words.{Words}
 use Rattle.xmas_elf.specs.declared.ElfFile.{ElfFile}
 
 -- the relocations of an object in their order, if there is such an object
-abbrev pub words_of : {E : Type 0} → {r : _} → ElfFile → Option (DynamicObject E r) → Result (List Relocation) LinkError
-words_of file None = Err ObjectIndex
-words_of file (Some own) = relocations_in_order file (view_entries (object_view own))
+abbrev pub words_of : {E : Type 0} → {r : _} → Option (DynamicObject E r) → Result (List Relocation) LinkError
+words_of None = Err ObjectIndex
+words_of (Some own) = relocations_in_order (object_file own) (view_entries (object_view own))
 
--- the objects of the scope, the file, its object, the index of the object, and whether its jump slots get their symbols
--- when they are called first
+-- the objects of the scope, the file, its object, the index of the object, and whether its jump slots get their
+-- symbols when they are called first
 abbrev pub words_objects : {E : Type 0} → {r : _} → Words E r → Bor (List (DynamicObject E r))
 words_objects words = scope_objects words.scope
 
@@ -43,6 +45,14 @@ words_left words = order_left words.order
 abbrev pub IsSame : {E : Type 0} → {r : _} → Words E r → Words E r → Type 0
 IsSame one other = (words_objects other ≡ words_objects one) × (words_file other ≡ words_file one) × (words_own other ≡ words_own one)
     × (words_index other ≡ words_index one) × (words_lazy other ≡ words_lazy one)
+
+-- the words are those of the object at an index of a scope
+pub record AreWordsOf {E : Type 0} {r : _} (objects : Bor (List (DynamicObject E r))) (of : ℕ) (when : Binding) (words : Words E r) : Type 0 where
+  pub objects_are : words_objects words ≡ objects
+  pub own_is : slice_get objects.now of ≡ Some (words_own words)
+  pub file_is : words_file words ≡ object_file (words_own words)
+  pub index_is : words_index words ≡ of
+  pub lazy_is : words_lazy words ≡ binds_lazily (view_entries (object_view (words_own words))) when
 
 -- the relocation of an item
 abbrev pub relocation_of : {E : Type 0} → Relocated E → Relocation

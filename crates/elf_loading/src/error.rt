@@ -1,14 +1,18 @@
-//! Why a file can't be loaded.
+//! Why a file can't be loaded, or its words can't be written.
 
-ghost use Rattle.std.specs.Prelude.{◌≡◌, IfSome, Some};
+ghost use Rattle.std.specs.Prelude.{◌≡◌, ◌<◌, IfSome, Some};
 ghost use Rattle.elf_loading.specs.Message.{load_message, load_number};
 
+use elf_linking::LinkError;
 use std::error::Error;
 use std::fmt;
 
-/// Why a file can't be loaded. Each error has one text. All but `ImageSize` are of
-/// `LoadPlan::check_load`, which returns the first that applies in this order; those from `FileSize`
-/// to `Zeros` are of one load segment, and of several such segments the first decides.
+/// Why a file can't be loaded, or its words can't be written. Each error has one text.
+///
+/// Those from `Type` to `Tls` are of `LoadPlan::check_load`, which returns the first that applies in
+/// this order; those from `FileSize` to `Zeros` are of one load segment, and of several such segments
+/// the first decides. Those from `Dynamic` to `WordInTable` are of `LoadScope::check_image`, which
+/// does the same; those from `WordType` on are of one word.
 #[derive(Clone, Copy, Debug, PartialEq, Eq)]
 pub enum LoadError {
     /// The type of the file is neither 2 (ET_EXEC) nor 3 (ET_DYN).
@@ -51,12 +55,53 @@ pub enum LoadError {
     /// The last PT_TLS that is not empty has more bytes in the file than in memory, has an alignment
     /// that is no power of two, or has bytes that are not in the memory of one load segment.
     Tls,
-    /// The length of an image is not that of the span. Returned by `LoadPlan::fill`.
+    /// The length of an image is not that of the span, or there are not as many places or images as
+    /// objects. Returned by `LoadPlan::fill` and `LoadScope::relocate`.
     ImageSize,
+    /// The bytes of the dynamic segment are not in the file for a readable load segment, or the
+    /// segment is writable and that load segment is not.
+    Dynamic,
+    /// There is no entry DT_STRTAB, or no entry DT_SYMTAB.
+    NoEntry,
+    /// The entry with the size of a relocation (DT_RELAENT, DT_RELENT, DT_RELRENT) has another number
+    /// than the class has, or is missing.
+    RelocationSize,
+    /// The size of a table of relocations is not a multiple of the size of a relocation.
+    NotMultiple,
+    /// The bytes of a table of the dynamic segment are not in the file for a readable load segment, or
+    /// no entry says how many there are.
+    Unreadable,
+    /// The relocations of the procedure linkage table are neither those of DT_RELA nor of DT_REL.
+    SlotKind,
+    /// The machine is not x86-64 or AArch64 in class 64, and not 386 in class 32.
+    Machine,
+    /// There are fewer bits for marks than the load segments have bytes.
+    FewMarks,
+    /// The machine has no such relocation type, or glibc doesn't apply it. Also the error of a word.
+    WordType,
+    /// The bytes of a word are not in the memory of one load segment; in `LoadScope::relocate`, not in
+    /// the image.
+    WordAddress,
+    /// The load segment of a word is not writable, and the file does not ask for writes there
+    /// (DT_TEXTREL).
+    ReadOnly,
+    /// A byte of a word is also one of an earlier word.
+    WordsOverlap,
+    /// A byte of a word is also one of the dynamic segment or of a table that a dynamic linker reads
+    /// while it relocates.
+    WordInTable,
+    /// No object has the symbol of a relocation, and the symbol is not weak. Returned by
+    /// `LoadScope::relocate`.
+    Unresolved,
+    /// The bytes that a relocation copies are not in the image of their object. Returned by
+    /// `LoadScope::relocate`.
+    CopySource,
+    /// A part of the file, a name, a version or a word in place can't be read.
+    Link(LinkError),
 }
 
-// All errors.
-const ERRORS: [LoadError; 18] = [
+// All errors but those in `Link`.
+const ERRORS: [LoadError; 33] = [
     LoadError::Type,
     LoadError::EntrySize,
     LoadError::Count,
@@ -75,30 +120,51 @@ const ERRORS: [LoadError; 18] = [
     LoadError::Relro,
     LoadError::Tls,
     LoadError::ImageSize,
+    LoadError::Dynamic,
+    LoadError::NoEntry,
+    LoadError::RelocationSize,
+    LoadError::NotMultiple,
+    LoadError::Unreadable,
+    LoadError::SlotKind,
+    LoadError::Machine,
+    LoadError::FewMarks,
+    LoadError::WordType,
+    LoadError::WordAddress,
+    LoadError::ReadOnly,
+    LoadError::WordsOverlap,
+    LoadError::WordInTable,
+    LoadError::Unresolved,
+    LoadError::CopySource,
 ];
 
 impl LoadError {
     ghost use Rattle.elf_loading.specs.declared.error.LoadError.{LoadError};
 
-    /// The number of the error, which never changes.
+    /// The number of the error, which never changes; for `Link` that of the inner error, which is
+    /// below 300.
     pub fn number(&self) -> u32
         ensures { result ≡ load_number self.now }
     {
         self.row().0
     }
 
-    /// The text of the error.
+    /// The text of the error; for `Link` that of the inner error.
     pub fn message(&self) -> &'static str
         ensures { result.now ≡ load_message self.now }
     {
         self.row().1
     }
 
-    /// The error with this number, or `None` if no error has it.
+    /// The error with this number. `None` if no error has it, and for the number of a `LinkError`,
+    /// which is below 300.
     pub fn with_number(number: u32) -> Option<LoadError>
-        ensures own { IfSome result (λ error. load_number error ≡ number) }
-        ensures only { (error : LoadError) → load_number error ≡ number → result ≡ Some error }
+        ensures own { IfSome result (λ error. (300 < number) × (load_number error ≡ number)) }
+        ensures only { (error : LoadError) → load_number error ≡ number → 300 < number
+            → result ≡ Some error }
     {
+        if number <= 300 {
+            return None;
+        }
         ERRORS
             .iter()
             .find(|error| error.number() == number)
@@ -144,6 +210,31 @@ impl LoadError {
             ),
             LoadError::Tls => (317, "Thread-local storage is not valid"),
             LoadError::ImageSize => (318, "Image is not of the size of the span"),
+            LoadError::Dynamic => (319, "Dynamic segment is in no readable load segment"),
+            LoadError::NoEntry => (320, "No string table or no symbols"),
+            LoadError::RelocationSize => (321, "Size of relocations is not that of the class"),
+            LoadError::NotMultiple => (322, "Table of relocations is not a whole number of them"),
+            LoadError::Unreadable => (
+                323,
+                "Table of the dynamic segment is in no readable load segment",
+            ),
+            LoadError::SlotKind => (
+                324,
+                "Kind of relocations of the procedure linkage table is neither Rel nor Rela",
+            ),
+            LoadError::Machine => (325, "Machine is not supported"),
+            LoadError::FewMarks => (
+                326,
+                "Marks have fewer bits than the load segments have bytes",
+            ),
+            LoadError::WordType => (327, "Type of a relocation is not supported"),
+            LoadError::WordAddress => (328, "Word is in no load segment"),
+            LoadError::ReadOnly => (329, "Word is in a load segment that is not writable"),
+            LoadError::WordsOverlap => (330, "Words overlap"),
+            LoadError::WordInTable => (331, "Word is in a table of the dynamic segment"),
+            LoadError::Unresolved => (332, "Symbol is in no object"),
+            LoadError::CopySource => (333, "Bytes to copy are not in the image of their object"),
+            LoadError::Link(error) => (error.number(), error.message()),
         }
     }
 }

@@ -6,7 +6,8 @@ ghost use Rattle.std.specs.Prelude.{◌≡◌, ◌<◌, Err, MatchResult, Ok, dr
 ghost use Rattle.std.specs.Iterator.{YieldsFirst, item_count};
 ghost use Rattle.elf_linking.specs.DynamicView.{view_entries};
 ghost use Rattle.elf_linking.specs.References.{all_left};
-ghost use Rattle.elf_loading.specs.InOrder.{address_of_slots, is_of_kind, kept_bytes, kept_records};
+ghost use Rattle.elf_loading.specs.InOrder.{address_of_slots, is_kind, is_of_kind, kept_bytes};
+ghost use Rattle.elf_loading.specs.InOrder.{kept_records};
 ghost use Rattle.elf_loading.specs.InOrder.{order_left, packed_left, part_left, record_count};
 ghost use Rattle.elf_loading.specs.InOrder.{record_size, relative_type, relocations_in_order};
 ghost use Rattle.elf_loading.specs.InOrder.{relr_addresses, relr_left, size_in, take_most};
@@ -134,7 +135,7 @@ impl Part<'_> {
 }
 
 // The size of a record of a table of this kind.
-fn record_size(file: &ElfFile<'_>, kind: u64) -> u64
+pub(crate) fn record_size(file: &ElfFile<'_>, kind: u64) -> u64
     ensures exact { result ≡ record_size file.now kind }
     ensures above { 0 < result }
 {
@@ -146,14 +147,21 @@ fn record_size(file: &ElfFile<'_>, kind: u64) -> u64
     }
 }
 
+// Whether there is a number, and it is this one.
+pub(crate) fn is_kind(kind: u64, number: Option<u64>) -> bool
+    ensures { result ≡ is_kind kind number }
+{
+    match number {
+        Some(number) => number == kind,
+        None => false,
+    }
+}
+
 // Whether the procedure linkage table has relocations of this kind.
 fn is_of_kind(view: &DynamicView<'_>, kind: u64) -> bool
     ensures { result ≡ is_of_kind (view_entries view.now) kind }
 {
-    match view.entry(DT_PLTREL) {
-        Some(number) => number == kind,
-        None => false,
-    }
+    is_kind(kind, view.entry(DT_PLTREL))
 }
 
 // The address of the procedure linkage table's relocations, if they are of this kind.

@@ -4,7 +4,7 @@
 
 ghost use Rattle.std.specs.Prelude.{◌≡◌, ◌<◌, ◌^◌};
 ghost use Rattle.elf_loading.specs.Values.{absent_value, bound_value, bytes_of, difference};
-ghost use Rattle.elf_loading.specs.Values.{is_indirect, lesser, low, module_value, object_of};
+ghost use Rattle.elf_loading.specs.Values.{is_indirect, low, module_value, object_of};
 ghost use Rattle.elf_loading.specs.Values.{origin_of, size_of, target_of, value_of};
 
 use crate::formulas::Formula;
@@ -240,17 +240,10 @@ fn bound_value<E: LinkedSymbol>(terms: &Terms, bound: &Bound<E>, formula: Formul
         Formula::Copy => Value::Copy {
             object,
             offset: value,
-            size: lesser(bound.symbol.size(), terms.size),
+            size: bound.symbol.size().min(terms.size),
         },
         _ => Value::Unchanged,
     }
-}
-
-// The lesser of two sizes.
-fn lesser(one: u64, other: u64) -> u64
-    ensures { result ≡ lesser one other }
-{
-    if one <= other { one } else { other }
 }
 
 // The value of a relocation, by its formula, its numbers, and the symbol that it gets.

@@ -1,20 +1,26 @@
 //! The words that relocations write when a file is loaded.
 
-ghost use Rattle.std.specs.Prelude.{◌≡◌, ◌<◌, ◌^◌, Err, IfOk, IfSome, MatchResult, Ok, Some, slice_get};
+ghost use Rattle.std.specs.Prelude.{◌≡◌, ◌<◌, ◌≤◌, ◌^◌, Err, IfOk, IfSome, MatchResult, Ok, Some, slice_get};
 ghost use Rattle.std.specs.Iterator.{YieldsFirst, YieldsFirstBy, item_count};
 ghost use Rattle.elf_linking.specs.DynamicObject.{object_view};
 ghost use Rattle.elf_linking.specs.DynamicView.{view_entries};
 ghost use Rattle.elf_linking.specs.References.{file_machine};
+ghost use Rattle.elf_linking.specs.Scope.{scope_objects};
+ghost use Rattle.std.specs.List.{list_any};
+ghost use Rattle.elf_loading.specs.Segments.{loads_of};
 ghost use Rattle.elf_loading.specs.Words.{HasWord, IsBoundIf, addend_of, addend_place};
+ghost use Rattle.elf_loading.specs.Words.{address_size, has_zeros, word_in_memory};
 ghost use Rattle.elf_loading.specs.Words.{binds_lazily, flag_in, formula_when, in_place_when, is_jump_slot};
 ghost use Rattle.elf_loading.specs.Words.{is_lazy, needs_symbol, own_size, takes_addend, takes_symbol};
 ghost use Rattle.elf_loading.specs.Words.{value_word, word_of};
-ghost use Rattle.elf_loading.specs.WordsLeft.{IsSame, relocation_of, words_file, words_index};
-ghost use Rattle.elf_loading.specs.WordsLeft.{words_lazy, words_left, words_objects, words_of};
-ghost use Rattle.elf_loading.specs.WordsLeft.{words_own};
+ghost use Rattle.elf_loading.specs.WordsLeft.{AreWordsOf, IsSame, relocation_of, words_file};
+ghost use Rattle.elf_loading.specs.WordsLeft.{words_index, words_lazy, words_left, words_objects};
+ghost use Rattle.elf_loading.specs.WordsLeft.{words_of, words_own};
 
+use crate::LoadError;
 use crate::formulas::{Formula, formula_of, width_of};
 use crate::in_order::{InOrder, Relocation};
+use crate::segments::loads_of;
 use crate::value::{Terms, Value, bytes_of, value_of};
 use elf_base::bytes::Record;
 use elf_linking::references::Reference;
@@ -25,6 +31,7 @@ use elf_linking::scope::{Bound, Scope};
 use elf_linking::view::{DT_BIND_NOW, DT_FLAGS, DT_FLAGS_1, DynamicView, LinkedSymbol, word_at};
 use elf_linking::{DynamicObject, LinkError};
 use xmas_elf::ElfFile;
+use xmas_elf::program::ProgramHeader64;
 
 /// When jump slots get their symbols.
 #[derive(Clone, Copy, Debug, PartialEq, Eq)]
@@ -34,15 +41,6 @@ pub enum Binding {
     /// When a function is called first, unless the file asks for `Now`: by DT_BIND_NOW, or by the
     /// flag DF_BIND_NOW or DF_1_NOW.
     Lazy,
-}
-
-/// Why the word of a relocation isn't known.
-#[derive(Clone, Copy, Debug, PartialEq, Eq)]
-pub enum ImageError {
-    /// The symbol or the word in place can't be read.
-    Link(LinkError),
-    /// The machine has no such relocation type, or glibc doesn't apply it.
-    WordType,
 }
 
 /// What a relocation writes, and where.
@@ -65,7 +63,10 @@ pub struct Relocated<E> {
     /// The symbol that it gets: the result of `Scope::bind`; `None` if no symbol is needed.
     pub bound: Result<Option<Bound<E>>, LinkError>,
     /// What it writes.
-    pub word: Result<Word, ImageError>,
+    ///
+    /// Errors: `WordType`; `Link` with those of the word in place if it is the addend, and then of
+    /// the symbol.
+    pub word: Result<Word, LoadError>,
 }
 
 /// An iterator over the relocations of one object of a scope with the words that they write, in the
@@ -83,7 +84,7 @@ pub struct Words<'s, 'a, E: Record> {
 }
 
 // Whether a number of flags, if there is one, has a flag.
-fn flag_in(flags: Option<u64>, flag: u64) -> bool
+pub(crate) fn flag_in(flags: Option<u64>, flag: u64) -> bool
     requires { 0 < flag }
     ensures { result ≡ flag_in flags flag }
 {
@@ -94,7 +95,7 @@ fn flag_in(flags: Option<u64>, flag: u64) -> bool
 }
 
 // Whether jump slots of a file get their symbols when they are called first.
-fn binds_lazily(view: &DynamicView<'_>, when: Binding) -> bool
+pub(crate) fn binds_lazily(view: &DynamicView<'_>, when: Binding) -> bool
     ensures { result ≡ binds_lazily (view_entries view.now) when }
 {
     match when {
@@ -166,7 +167,7 @@ fn in_place_when(machine: u16, lazy: bool, relocation: &Relocation) -> bool
 }
 
 // Whether the word of a relocation depends on a symbol.
-fn needs_symbol(machine: u16, lazy: bool, relocation: &Relocation) -> bool
+pub(crate) fn needs_symbol(machine: u16, lazy: bool, relocation: &Relocation) -> bool
     ensures { result ≡ needs_symbol machine lazy relocation.now }
 {
     match formula_when(machine, lazy, relocation) {
@@ -186,6 +187,52 @@ fn addend_place(formula: Formula, address: u64) -> u64
     }
 }
 
+// The size of an address in bytes.
+pub(crate) fn address_size(file: &ElfFile<'_>) -> u64
+    ensures exact { result ≡ address_size file.now }
+    ensures above { 0 < result }
+    ensures most { result ≤ 8 }
+{
+    if file.header.pt1.class.raw() == 1 {
+        4
+    } else {
+        8
+    }
+}
+
+// Whether the bytes of a word at an address are zeros after the bytes that a load has in the file.
+fn has_zeros(address: u64, width: u64, load: &ProgramHeader64) -> bool
+    ensures { result ≡ has_zeros address width load.now }
+{
+    let start = u128::from(load.virtual_addr);
+    start + u128::from(load.file_size) <= u128::from(address)
+        && u128::from(address) + u128::from(width) <= start + u128::from(load.mem_size)
+}
+
+// Whether the bytes of a word at an address are zeros after the bytes that one of the loads has.
+#[tactic(auto, using(crate::proofs::Lists::zeros_first, crate::proofs::Lists::zeros_rest, crate::proofs::Lists::zeros_end))]
+fn is_in_zeros(file: &ElfFile<'_>, address: u64, width: u64) -> bool
+    ensures { result ≡ list_any (has_zeros address width) (loads_of file.now) }
+{
+    for load in loads_of(file.program_table()) {
+        if has_zeros(address, width, &load) {
+            return true;
+        }
+    }
+    false
+}
+
+// The word at an address in memory before relocation.
+fn word_in_memory(file: &ElfFile<'_>, address: u64) -> Result<u64, LinkError>
+    ensures { result ≡ word_in_memory file.now address }
+{
+    match word_at(file, address) {
+        Ok(number) => Ok(number),
+        Err(_) if is_in_zeros(file, address, address_size(file)) => Ok(0),
+        Err(error) => Err(error),
+    }
+}
+
 // The addend of a relocation, if the formula has one.
 fn addend_of(
     file: &ElfFile<'_>,
@@ -196,7 +243,7 @@ fn addend_of(
     ensures { result ≡ addend_of file.now in_place formula reference.now }
 {
     if in_place && takes_addend(formula) {
-        word_at(file, addend_place(formula, reference.offset))
+        word_in_memory(file, addend_place(formula, reference.offset))
     } else {
         Ok(reference.addend)
     }
@@ -233,18 +280,18 @@ fn word_of<E: LinkedSymbol>(
     lazy: bool,
     relocation: &Relocation,
     bound: &Result<Option<Bound<E>>, LinkError>,
-) -> Result<Word, ImageError>
+) -> Result<Word, LoadError>
     ensures { result ≡ word_of E.fields file.now own.now of lazy relocation.now bound.now }
 {
     let reference = &relocation.reference;
     let machine = file.header.pt2.machine().raw();
     let Some(formula) = formula_when(machine, lazy, relocation) else {
-        return Err(ImageError::WordType);
+        return Err(LoadError::WordType);
     };
     let in_place = in_place_when(machine, lazy, relocation);
     let addend = match addend_of(file, in_place, formula, reference) {
         Ok(addend) => addend,
-        Err(error) => return Err(ImageError::Link(error)),
+        Err(error) => return Err(LoadError::Link(error)),
     };
     let terms = Terms {
         own: of,
@@ -255,43 +302,26 @@ fn word_of<E: LinkedSymbol>(
     };
     match bound {
         Ok(bound) => Ok(value_word(&terms, bound, formula)),
-        Err(error) => Err(ImageError::Link(*error)),
+        Err(error) => Err(LoadError::Link(*error)),
     }
 }
 
 impl<'s, 'a, E: LinkedSymbol> Words<'s, 'a, E> {
-    /// The words of the object at index `of`, whose file is `file`. The objects are those of a scope:
-    /// the program, then its libraries in the order in which they are loaded.
-    ///
-    /// Errors: `ObjectIndex` if there is no object at `of`; those of `DynamicView::relr`; those of
-    /// `DynamicView::relocations`.
-    pub fn new(
-        objects: &'s [DynamicObject<'a, E>],
-        of: usize,
-        file: &ElfFile<'a>,
-        when: Binding,
-    ) -> Result<Self, LinkError>
-        ensures exact { let answer = words_of file.now (slice_get objects.now of) in
+    // The words of the object at index `of` of a scope.
+    pub(crate) fn new(scope: Scope<'s, 'a, E>, of: usize, when: Binding) -> Result<Self, LinkError>
+        ensures exact { let answer = words_of (slice_get (scope_objects scope.entry).now of) in
             MatchResult result (λ words. answer ≡ Ok (words_left words))
             (λ error. answer ≡ Err error) }
-        ensures objects { IfOk result (λ words. words_objects words ≡ objects.entry) }
-        ensures file { IfOk result (λ words. words_file words ≡ file.now) }
-        ensures own { IfOk result (λ words. slice_get objects.now of ≡ Some (words_own words)) }
-        ensures index { IfOk result (λ words. words_index words ≡ of) }
-        ensures lazy { IfOk result (λ words. words_lazy words
-            ≡ binds_lazily (view_entries (object_view (words_own words))) when) }
+        ensures begun { IfOk result (AreWordsOf (scope_objects scope.entry) of when) }
     {
-        let Some(own) = objects.get(of) else {
+        let Some(own) = scope.objects().get(of) else {
             return Err(LinkError::ObjectIndex);
         };
-        let view = own.view();
-        let order = InOrder::read(&view, file)?;
+        let (view, file) = (own.view(), own.file());
+        let order = InOrder::read(&view, &file)?;
         Ok(Words {
-            scope: Scope::new(objects),
-            file: ElfFile {
-                input: file.input,
-                header: file.header,
-            },
+            scope,
+            file,
             own,
             of,
             lazy: binds_lazily(&view, when),

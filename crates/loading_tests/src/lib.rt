@@ -4,3 +4,4 @@
 pub mod callers;
 #[cfg(test)]
 mod tests;
+pub mod word_callers;

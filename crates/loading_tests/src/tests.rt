@@ -3,11 +3,13 @@
 
 mod bytes;
 mod formulas;
+mod images;
 mod in_order;
 mod messages;
 mod plans;
 mod refusals;
 mod relocated_files;
+mod relocated_images;
 mod rows;
 mod want;
 mod words;

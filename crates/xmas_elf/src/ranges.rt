@@ -91,5 +91,5 @@ pub(crate) fn short_table_is_within(input: &[u8], offset: u64, entry_size: u16, 
     ensures { IsTrue result ↔ (entry_place offset entry_size count ≤ length input.now) }
 {
     let size = u32::from(count) * u32::from(entry_size);
-    is_within(input, u64::from(size), offset)
+    is_within(input, offset, u64::from(size))
 }

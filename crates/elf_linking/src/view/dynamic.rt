@@ -37,9 +37,9 @@ fn is_dynamic(program: &ProgramHeader) -> bool
     program.get_type() == Ok(Type::Dynamic)
 }
 
-// The first segment of type Dynamic.
+/// The program header of the dynamic segment: the first of type Dynamic.
 #[tactic(auto, unfolding(crate::specs::DynamicView::dynamic_segment_of), using(crate::proofs::Firsts::find_none, crate::proofs::Firsts::find_hit, crate::proofs::Firsts::find_other))]
-fn dynamic_segment(file: &ElfFile<'_>) -> Option<ProgramHeader>
+pub fn dynamic_segment(file: &ElfFile<'_>) -> Option<ProgramHeader>
     ensures { result ≡ dynamic_segment_of file.now }
 {
     for program in file.program_iter() {

@@ -32,6 +32,6 @@ fn errors_have_numbers_and_texts(rt: HostRuntime) -> Result<(), AllocError> {
         want_at(&rt, number, printed.as_str(), text);
     }
     want_at(&rt, 300, LoadError::with_number(300), None);
-    want_at(&rt, 319, LoadError::with_number(319), None);
+    want_at(&rt, 334, LoadError::with_number(334), None);
     Ok(())
 }

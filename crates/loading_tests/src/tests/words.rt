@@ -12,8 +12,9 @@ use crate::tests::words::aarch64::AARCH64;
 use crate::tests::words::i386::I386;
 use crate::tests::words::x86_64::X86_64;
 use elf_linking::DynamicObject;
+use elf_linking::scope::Scope;
 use elf_linking::view::LinkedSymbol;
-use elf_loading::{Binding, ImageError, Origin, Value, Word, Words};
+use elf_loading::{Binding, LoadError, LoadScope, Origin, Value, Word};
 use std::process::Abort;
 use xmas_elf::symbol_table::{DynEntry32, DynEntry64};
 
@@ -34,16 +35,16 @@ fn first_word<E: LinkedSymbol>(
     rt: &impl Abort,
     bytes: &[u8],
     when: Binding,
-) -> Result<Word, ImageError> {
+) -> Result<Word, LoadError> {
     let file = open(rt, bytes);
     let one = DynamicObject::<E>::read(&file).expect(rt, "an object");
     let two = DynamicObject::<E>::read(&file).expect(rt, "an object");
     let objects = [one, two];
-    let mut words = Words::new(&objects, 1, &file, when).expect(rt, "words");
+    let mut words = Scope::new(&objects).words(1, when).expect(rt, "words");
     words.next().expect(rt, "a relocation").word
 }
 
-fn word_of(rt: &impl Abort, bytes: &[u8], machine: u64, when: Binding) -> Result<Word, ImageError> {
+fn word_of(rt: &impl Abort, bytes: &[u8], machine: u64, when: Binding) -> Result<Word, LoadError> {
     if machine == 3 {
         first_word::<DynEntry32>(rt, bytes, when)
     } else {
@@ -67,5 +68,5 @@ fn each_type_writes_its_value(rt: HostRuntime) {
     }
     let file = file_of(62, 9, 1, 0);
     let found = word_of(&rt, &file, 62, Binding::Now);
-    want_at(&rt, (9, 1, 0), found, Err(ImageError::WordType));
+    want_at(&rt, (9, 1, 0), found, Err(LoadError::WordType));
 }

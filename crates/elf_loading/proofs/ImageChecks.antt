@@ -1,0 +1,201 @@
+-- The check of the words of an object, word by word.
+use Rattle.std.proofs.Common.{◌≡◌, ℕ, ◌*◌, ◌≤◌, nat_lt, Bool, List, [], ◌∷◌, ◌++◌, map, Option, Some, None, Result, Ok, Err, refl, sym, ap, ◌∙◌, subst, append_assoc, arith}
+use Rattle.std.proofs.lemmas.Bool.{ltb-false}
+use Rattle.std.proofs.lemmas.List.{map-append}
+use Rattle.std.proofs.lemmas.List.Elements.{All-nil, All-push, All-weaker}
+use Rattle.std.proofs.lemmas.Option.{same_Some, slice_get-get_or}
+use Rattle.std.specs.Borrow.{Bor}
+use Rattle.std.specs.Prelude.{All, slice_get}
+use Rattle.std.specs.Slice.{IsItemAt}
+use Rattle.elf_base.specs.Refusal.{and_then, unless}
+use Rattle.elf_linking.specs.DynamicObject.{object_file, object_view}
+use Rattle.elf_linking.specs.DynamicView.{view_entries}
+use Rattle.elf_linking.specs.declared.error.LinkError.{LinkError}
+use Rattle.elf_linking.specs.declared.error.LinkError.TheVariants.{ObjectIndex}
+use Rattle.elf_linking.specs.declared.object.DynamicObject.{DynamicObject}
+use Rattle.elf_loading.specs.ImageTables.{asks_for_text, check_tables, tables_of}
+use Rattle.elf_loading.specs.ImageWords.{AreMarksOf, AreWordsFrom, HasRoom, IsBegun, IsImageCheck, IsCheckAt, as_load_error, by_words, marks_count, check_word, check_words, checked_relocations, refused, words_in}
+use Rattle.elf_loading.specs.Segments.{loads_of}
+use Rattle.elf_loading.specs.Words.{HasWord}
+use Rattle.elf_loading.specs.WordsLeft.{IsSame, relocation_of, words_file, words_index, words_lazy, words_left, words_objects, words_of, words_own}
+use Rattle.elf_loading.specs.declared.error.LoadError.{LoadError}
+use Rattle.elf_loading.specs.declared.error.LoadError.TheVariants.{FewMarks, Link}
+use Rattle.elf_loading.specs.declared.image_tables.Extent.{Extent}
+use Rattle.elf_loading.specs.declared.in_order.Relocation.{Relocation}
+use Rattle.elf_loading.specs.declared.words.Relocated.{Relocated}
+use Rattle.elf_loading.specs.declared.words.Word.{Word}
+use Rattle.elf_loading.specs.declared.words.Words.{Words}
+use Rattle.elf_loading.proofs.LoadChecks.{unless_ok}
+use Rattle.xmas_elf.specs.Symbol.{SymbolFields}
+use Rattle.xmas_elf.specs.Types.{ElfFile, ProgramHeader64}
+
+ok_last : {A E : Type 0} (r : Result A E) → and_then r (λ x. Ok x) ≡ r
+ok_last (Ok x) = refl
+ok_last (Err e) = refl
+
+module _ (loads : List ProgramHeader64) (text : Bool) (tables : List Extent) where
+  then_by : (r : Result (List Word) LoadError) (words : List (Result Word LoadError)) (word : Result Word LoadError)
+      → ((after : List Word) → check_words loads text tables after (words ++ (word ∷ [])) ≡ and_then (check_words loads text tables after words) (λ last. check_word loads text tables last word))
+      → and_then r (λ after. check_words loads text tables after (words ++ (word ∷ []))) ≡ and_then (and_then r (λ after. check_words loads text tables after words)) (λ after. check_word loads text tables after word)
+  then_by (Ok after) words word more = more after
+  then_by (Err error) words word more = refl
+
+  checked_after : (before : List Word) (words : List (Result Word LoadError)) (word : Result Word LoadError)
+      → check_words loads text tables before (words ++ (word ∷ [])) ≡ and_then (check_words loads text tables before words) (λ after. check_word loads text tables after word)
+  unfolding check_words
+  checked_after before [] word = ok_last (check_word loads text tables before word)
+  checked_after before (first ∷ words) word = then_by (check_word loads text tables before first) words word (λ after. checked_after after words word)
+
+  checked_none : check_words loads text tables [] [] ≡ Ok []
+  unfolding check_words
+  checked_none = refl
+
+-- a word in the terms of an iterator over the same words
+has_word_same : {E : Type 0} {r : _} (fields : E → SymbolFields) (item : Relocated E) (objects objects' : List (DynamicObject E r)) (file file' : ElfFile) (own own' : DynamicObject E r) (of of' : ℕ) (lazy lazy' : Bool)
+    → objects' ≡ objects → file' ≡ file → own' ≡ own → of' ≡ of → lazy' ≡ lazy → HasWord fields objects' file' own' of' lazy' item → HasWord fields objects file own of lazy item
+has_word_same fields item objects objects' file file' own own' of of' lazy lazy' one two three four five has =
+    subst (λ x. HasWord fields x file own of lazy item) one
+    (subst (λ x. HasWord fields objects' x own of lazy item) two
+    (subst (λ x. HasWord fields objects' file' x of lazy item) three
+    (subst (λ x. HasWord fields objects' file' own' x lazy item) four
+    (subst (λ x. HasWord fields objects' file' own' of' x item) five has))))
+
+module _ {E : Type 0} {r : _} (fields : E → SymbolFields) (loads : List ProgramHeader64) (text : Bool) (tables : List Extent) (start : ℕ) where
+  -- the words of these items of an iterator are checked and have marks, and the others are left
+  pub record AreCheckedSoFar (all now : Words E r) (marks : List ℕ) : Type 0 where
+    pub items : List (Relocated E)
+    pub are : words_left all ≡ map relocation_of items ++ words_left now
+    pub same : IsSame all now
+    pub have_words : All (HasWord fields (words_objects all).now (words_file all) (words_own all) (words_index all) (words_lazy all)) items
+    pub before : List Word
+    pub checked : check_words loads text tables [] (words_in items) ≡ Ok before
+    pub marked : AreMarksOf start before marks
+
+  pub none_checked : (all now : Words E r) (marks : List ℕ) → now ≡ all → AreMarksOf start [] marks → AreCheckedSoFar all now marks
+  none_checked all now marks is clear = subst (λ one. AreCheckedSoFar all one marks) (sym is) (record {
+    items = [];
+    are = refl;
+    same = (refl, refl, refl, refl, refl);
+    have_words = All-nil _;
+    before = [];
+    checked = checked_none loads text tables;
+    marked = clear;
+  })
+
+  module _ (all now next : Words E r) (marks : List ℕ) (item : Relocated E) (so_far : AreCheckedSoFar all now marks)
+      (first : words_left now ≡ relocation_of item ∷ words_left next) (same : IsSame now next)
+      (has : HasWord fields (words_objects now).now (words_file now) (words_own now) (words_index now) (words_lazy now) item) where
+    more : List (Relocated E)
+    more = so_far.items ++ (item ∷ [])
+
+    are_more : words_left all ≡ map relocation_of (so_far.items ++ (item ∷ [])) ++ words_left next
+    are_more = so_far.are ∙ ap (λ rest. map relocation_of so_far.items ++ rest) first
+        ∙ sym (append_assoc (map relocation_of so_far.items) (relocation_of item ∷ []) (words_left next))
+        ∙ ap (λ front. front ++ words_left next) (sym (map-append relocation_of so_far.items (item ∷ [])))
+
+    have_more : All (HasWord fields (words_objects all).now (words_file all) (words_own all) (words_index all) (words_lazy all)) (so_far.items ++ (item ∷ []))
+    have_more =
+        let (one, two, three, four, five) = so_far.same in
+        All-push (HasWord fields (words_objects all).now (words_file all) (words_own all) (words_index all) (words_lazy all)) so_far.items item so_far.have_words (has_word_same fields item _ _ _ _ _ _ _ _ _ _ (ap (λ o. o.now) one) two three four five has)
+
+    checked_more : check_words loads text tables [] (words_in (so_far.items ++ (item ∷ []))) ≡ check_word loads text tables so_far.before item.word
+    checked_more = ap (check_words loads text tables []) (map-append (λ one. one.word) so_far.items (item ∷ []))
+        ∙ checked_after loads text tables [] (words_in so_far.items) item.word
+        ∙ ap (λ result. and_then result (λ after. check_word loads text tables after item.word)) so_far.checked
+
+    pub one_checked : (new : List ℕ) (word : Word) (after : List Word) → item.word ≡ Ok word → check_word loads text tables so_far.before (Ok word) ≡ Ok after → AreMarksOf start after new → AreCheckedSoFar all next new
+    one_checked new word after is ok marked =
+        let (one, two, three, four, five) = so_far.same in
+        let (one', two', three', four', five') = same in record {
+          items = so_far.items ++ (item ∷ []);
+          are = are_more;
+          same = (one' ∙ one, two' ∙ two, three' ∙ three, four' ∙ four, five' ∙ five);
+          have_words = have_more;
+          before = after;
+          checked = checked_more ∙ ap (check_word loads text tables so_far.before) is ∙ ok;
+          marked = marked;
+        }
+
+    pub one_stops : (word : Result Word LoadError) (error : LoadError) → item.word ≡ word → check_word loads text tables so_far.before word ≡ Err error → AreWordsFrom fields loads text tables all (Err error)
+    one_stops word error is err = record {
+      items = so_far.items ++ (item ∷ []);
+      rest = words_left next;
+      are = are_more;
+      have_words = have_more;
+      all = tt;
+      checked = ap (λ result. and_then result (λ words. Ok tt)) (sym (checked_more ∙ ap (check_word loads text tables so_far.before) is ∙ err));
+    }
+
+  pub all_checked : (all now : Words E r) (marks : List ℕ) → words_left now ≡ [] → AreCheckedSoFar all now marks → AreWordsFrom fields loads text tables all (Ok tt)
+  all_checked all now marks is so_far = record {
+    items = so_far.items;
+    rest = words_left now;
+    are = so_far.are;
+    have_words = so_far.have_words;
+    all = is;
+    checked = ap (λ result. and_then result (λ words. Ok tt)) (sym so_far.checked);
+  }
+
+-- The relocations of an object whose tables can be used.
+
+pub then_ok : {A B : Type 0} (r : Result A LoadError) (next : A → Result B LoadError) (value : B) → and_then r next ≡ Ok value → (x : A) × (r ≡ Ok x) × (next x ≡ Ok value)
+then_ok (Ok x) next value is = (x, refl, is)
+then_ok (Err error) next value is = absurd (cc)
+
+link_ok : {A : Type 0} (r : Result A LinkError) (value : A) → as_load_error r ≡ Ok value → r ≡ Ok value
+link_ok (Ok x) value is = let same : x ≡ value = cc in ap (λ v. Ok v) same
+link_ok (Err error) value is = absurd (cc)
+
+pub relocations_are : {E : Type 0} {r : _} (size : ℕ) (own : DynamicObject E r) (bits : ℕ) (relocations : List Relocation) → checked_relocations size own bits ≡ Ok relocations → words_of (Some own) ≡ Ok relocations
+relocations_are size own bits relocations is =
+    let few : List (Bool × LoadError) = (nat_lt bits (marks_count (loads_of (object_file own))), FewMarks) ∷ [] in
+    let (done, tables, more) = then_ok {A = Unit {0}} (check_tables size own) (λ done. and_then (as_load_error (words_of (Some own))) (λ all. unless few all)) relocations is in
+    let (all, found, enough) = then_ok (as_load_error (words_of (Some own))) (λ all. unless few all) relocations more in
+    let (none, same) = unless_ok few all relocations enough in
+    link_ok (words_of (Some own)) relocations (found ∙ ap (λ v. Ok v) same)
+
+-- there are enough marks
+enough_marks : {E : Type 0} {r : _} (size : ℕ) (own : DynamicObject E r) (bits : ℕ) (relocations : List Relocation) → checked_relocations size own bits ≡ Ok relocations → marks_count (loads_of (object_file own)) ≤ bits
+enough_marks size own bits relocations is =
+    let few : List (Bool × LoadError) = (nat_lt bits (marks_count (loads_of (object_file own))), FewMarks) ∷ [] in
+    let (done, tables, more) = then_ok {A = Unit {0}} (check_tables size own) (λ done. and_then (as_load_error (words_of (Some own))) (λ all. unless few all)) relocations is in
+    let (all, found, enough) = then_ok (as_load_error (words_of (Some own))) (λ all. unless few all) relocations more in
+    let (none, same) = unless_ok few all relocations enough in
+    ltb-false bits (marks_count (loads_of (object_file own))) none.0
+
+pub image_room : {E : Type 0} {r : _} (size : ℕ) (objects : Bor (List (DynamicObject E r))) (of : ℕ) (own : DynamicObject E r) (bits len : ℕ) (words : Words E r) (start : ℕ) (file : ElfFile) → IsBegun size objects of own bits words start → file ≡ object_file own → bits ≡ 8 * len → HasRoom (loads_of file) start len
+image_room size objects of own bits len words start file begun same many =
+    let enough : marks_count (loads_of (object_file own)) ≤ bits = enough_marks size own bits (words_left words) begun.relocations_are in
+    subst (λ one. HasRoom (loads_of one) start len) (sym same) (record { begins = begun.start_is; fits = omega (arith, enough, many) })
+
+-- The check of an object.
+
+-- the item of a slice that was lent
+pub lent_item : {X : Type 0} (xs : List X) (i : ℕ) (lent : Option (Bor X)) (x : Bor X) → IsItemAt xs i lent → lent ≡ Some x → slice_get xs i ≡ Some x.now
+lent_item xs i lent x item is = let at = subst (IsItemAt xs i) is item in slice_get-get_or xs i x.now at.3.0 ∙ ap (λ y. Some y) (sym at.1)
+
+module _ {E : Type 0} {r : _} (size : ℕ) (fields : E → SymbolFields) (objects : Bor (List (DynamicObject E r))) (of bits : ℕ) where
+  pub no_image : slice_get objects.now of ≡ None → IsImageCheck size fields objects.now of bits (Err (Link ObjectIndex))
+  no_image is = subst (λ own. IsCheckAt size fields objects.now of own bits (Err (Link ObjectIndex))) (sym is) refl
+
+  module _ (own : DynamicObject E r) (own_is : slice_get objects.now of ≡ Some own) where
+    pub image_refused : (error : LoadError) → checked_relocations size own bits ≡ Err error → IsImageCheck size fields objects.now of bits (Err error)
+    image_refused error is = subst (λ one. IsCheckAt size fields objects.now of one bits (Err error)) (sym own_is) (refused error is refl)
+
+    pub image_checked : (words : Words E r) (start : ℕ) (loads : List ProgramHeader64) (text : Bool) (tables : List Extent) (result : Result (Unit {0}) LoadError)
+        → IsBegun size objects of own bits words start → loads ≡ loads_of (object_file own) → text ≡ asks_for_text (view_entries (object_view own)) → tables ≡ tables_of size own
+        → AreWordsFrom fields loads text tables words result → IsImageCheck size fields objects.now of bits result
+    image_checked words start loads text tables result begun loads_are text_is tables_are from =
+        let own_same : words_own words ≡ own = same_Some _ _ (sym begun.words_are.own_is ∙ own_is) in
+        let file_same : words_file words ≡ object_file own = begun.words_are.file_is ∙ ap object_file own_same in
+        subst (λ one. IsCheckAt size fields objects.now of one bits result) (sym own_is)
+        (by_words (words_left words) from.items begun.relocations_are
+        (record {
+          rest = from.rest;
+          are = from.are;
+          have_words = All-weaker _ _ (λ item has. has_word_same fields item _ _ _ _ _ _ _ _ _ _ (ap (λ o. o.now) begun.words_are.objects_are) file_same own_same begun.words_are.index_is begun.words_are.lazy_is has) from.items from.have_words;
+          all = from.all;
+        })
+        (from.checked ∙ ap (λ l. and_then (check_words l text tables [] (words_in from.items)) (λ words. Ok tt)) loads_are
+        ∙ ap (λ t. and_then (check_words (loads_of (object_file own)) t tables [] (words_in from.items)) (λ words. Ok tt)) text_is
+        ∙ ap (λ t. and_then (check_words (loads_of (object_file own)) (asks_for_text (view_entries (object_view own))) t [] (words_in from.items)) (λ words. Ok tt)) tables_are))

@@ -1,0 +1,124 @@
+-- The byte at an address that one word has.
+use Rattle.std.proofs.Common.{◌≡◌, ℕ, ◌+◌, ◌<◌, ◌≤◌, Bool, true, false, List, [], ◌∷◌, length, map, slice_index, slice_get, Option, None, Some, Result, Ok, Err, if◌then◌else◌, cond, refl, sym, ap, ◌∙◌, arith}
+use Rattle.std.specs.Prelude.{IfOk, MatchResult}
+use Rattle.std.specs.List.{count_by, find}
+use Rattle.elf_base.specs.FileHeader.{file_order}
+use Rattle.elf_base.specs.declared.bytes.Order.{Order}
+use Rattle.elf_linking.specs.DynamicObject.{object_file, object_view}
+use Rattle.elf_linking.specs.DynamicView.{view_entries}
+use Rattle.elf_linking.specs.declared.error.LinkError.{LinkError}
+use Rattle.elf_linking.specs.declared.object.DynamicObject.{DynamicObject}
+use Rattle.elf_loading.specs.ImageWords.{as_load_error}
+use Rattle.elf_loading.specs.OneWord.{IsByOneWordAt, IsByOneWordEach, byte_by, is_of_word, is_over, plan_byte}
+use Rattle.elf_loading.specs.Plan.{plan_loads}
+use Rattle.elf_loading.specs.Relocate.{AreItemsWritten, IsRelocation, IsRelocationAt, IsWriting, all, is_wrong_size, relocated_byte, sized_relocations, some, start_at, word_byte}
+use Rattle.elf_loading.specs.Segments.{loads_of}
+use Rattle.elf_loading.specs.Spans.{first_start}
+use Rattle.elf_loading.specs.Words.{binds_lazily}
+use Rattle.elf_loading.specs.WordsLeft.{relocation_of, words_of}
+use Rattle.elf_loading.proofs.Checked.{checked_once, count_first}
+use Rattle.elf_loading.specs.declared.error.LoadError.{LoadError}
+use Rattle.elf_loading.specs.declared.error.LoadError.TheVariants as error
+use Rattle.elf_loading.specs.declared.in_order.Relocation.{Relocation}
+use Rattle.elf_loading.specs.declared.relocate.Sources.{Sources}
+use Rattle.elf_loading.specs.declared.words.Binding.{Binding}
+use Rattle.elf_loading.specs.declared.words.Relocated.{Relocated}
+use Rattle.elf_loading.specs.declared.words.Word.{Word}
+use Rattle.xmas_elf.specs.Symbol.{SymbolFields}
+
+module _ {E : Type 0} {r : _} (sources : Sources E r) (address : ℕ) where
+  missed : (word : Result Word LoadError) (old : ℕ) → is_of_word address word ≡ false → word_byte sources address word old ≡ old
+  missed (Ok word) old miss = rw miss refl
+  missed (Err e) old miss = refl
+
+  none_over : (items : List (Relocated E)) (old : ℕ) → count_by (is_over address) items ≡ 0 → relocated_byte sources address items old ≡ old
+  unfolding relocated_byte
+  none_over [] old none = refl
+  none_over (item ∷ items) old none = by_first (is_over address item) refl (λ before. none_over items before)
+    where
+      by_first : (b : Bool) → is_over address item ≡ b → ((before : ℕ) → count_by (is_over address) items ≡ 0 → relocated_byte sources address items before ≡ before)
+          → relocated_byte sources address items (word_byte sources address item.word old) ≡ old
+      by_first true hit others =
+          let count = count_first (is_over address) item items in
+          let one : ◌≡◌ {A = ℕ} (cond (is_over address item) 1 0) 1 = rw hit refl in
+          absurd (omega (arith, none, count, one))
+      by_first false miss others =
+          let count = count_first (is_over address) item items in
+          let zero : ◌≡◌ {A = ℕ} (cond (is_over address item) 1 0) 0 = rw miss refl in
+          ap (relocated_byte sources address items) (missed item.word old miss) ∙ others old (omega (arith, none, count, zero))
+
+  -- where at most one word has the byte, it is the byte of this word
+  pub relocated_once : (items : List (Relocated E)) (old : ℕ) → count_by (is_over address) items ≤ 1
+      → relocated_byte sources address items old ≡ byte_by sources address (find (is_over address) items) old
+  unfolding relocated_byte
+  relocated_once [] old once = refl
+  relocated_once (item ∷ items) old once = by_first (is_over address item) refl (λ before. relocated_once items before)
+    where
+      by_first : (b : Bool) → is_over address item ≡ b
+          → ((before : ℕ) → count_by (is_over address) items ≤ 1 → relocated_byte sources address items before ≡ byte_by sources address (find (is_over address) items) before)
+          → relocated_byte sources address items (word_byte sources address item.word old)
+          ≡ byte_by sources address (if b then Some item else find (is_over address) items) old
+      by_first true hit others =
+          let count = count_first (is_over address) item items in
+          let one : ◌≡◌ {A = ℕ} (cond (is_over address item) 1 0) 1 = rw hit refl in
+          none_over items (word_byte sources address item.word old) (omega (arith, once, count, one))
+      by_first false miss others =
+          let count = count_first (is_over address) item items in
+          let zero : ◌≡◌ {A = ℕ} (cond (is_over address item) 1 0) 0 = rw miss refl in
+          ap (relocated_byte sources address items) (missed item.word old miss) ∙ others old (omega (arith, once, count, zero))
+
+-- the relocations are those of the object
+are_words : (wrong : Bool) (said : Result (List Relocation) LinkError) (relocations : List Relocation)
+    → (if wrong then Err error.ImageSize else as_load_error said) ≡ Ok relocations → said ≡ Ok relocations
+are_words true said relocations is = absurd (cc)
+are_words false (Ok all_of) relocations is = cc
+are_words false (Err e) relocations is = absurd (cc)
+
+module _ {E : Type 0} {r : _} (size : ℕ) (fields : E → SymbolFields) (sources : Sources E r) (own : DynamicObject E r) (lazy : Bool) (before after : List ℕ) (there : slice_get sources.objects.now sources.of ≡ Some own) where
+  starts : start_at sources sources.of ≡ first_start sources.page (loads_of (object_file own))
+  starts = rw there refl
+
+  once_written : (items : List (Relocated E)) (count : ℕ) → words_of (Some own) ≡ Ok (map relocation_of items)
+      → AreItemsWritten fields sources own lazy before after items count → IsByOneWordEach size fields sources own lazy before after
+  once_written items count are written =
+      let start = start_at sources sources.of in
+      let each : (i : ℕ) → i < length before → count_by (is_over (start + i)) items ≤ 1
+      → slice_index after i ≡ byte_by sources (start + i) (find (is_over (start + i)) items) (slice_index before i)
+      = λ i below once. written.bytes i below ∙ relocated_once sources (start + i) items (slice_index before i) once in record {
+        items = items;
+        are = are;
+        have_words = written.have_words;
+        bytes = each;
+        of_plan = λ by plan image file_is page_is i below single.
+            let begins : first_start plan.page (plan_loads plan) ≡ start = rw (file_is, page_is) (sym starts) in
+            each i below single ∙ ap (byte_by sources (start + i) (find (is_over (start + i)) items))
+            (image.bytes i below ∙ ap (λ s. plan_byte plan by (s + i)) begins);
+        once = λ law address. checked_once fields sources.objects.now own sources.of size lazy address items are written.have_words law;
+      }
+
+  once_by : (result : Result ℕ LoadError) (count : ℕ) (relocations : List Relocation) → result ≡ Ok count → words_of (Some own) ≡ Ok relocations
+      → IsWriting fields sources own lazy relocations before after result → IsByOneWordEach size fields sources own lazy before after
+  once_by result count relocations ok are (all items number is written done) = once_written items number (are ∙ ap (λ rs. Ok rs) is) written
+  once_by result count relocations ok are (some items number item rest reason is written has can_not stopped) = absurd (cc)
+
+  pub once_of : (result : Result ℕ LoadError) → IsRelocation fields sources own lazy before after result
+      → IfOk result (λ count. IsByOneWordEach size fields sources own lazy before after)
+  once_of (Err reason) relocation = tt
+  once_of (Ok count) relocation = by_sizes (sized_relocations sources own (length before)) refl relocation
+    where
+      by_sizes : (sized : Result (List Relocation) LoadError) → sized_relocations sources own (length before) ≡ sized
+          → MatchResult sized (λ relocations. IsWriting fields sources own lazy relocations before after (Ok count)) (λ reason. (Ok count ≡ Err reason) × (after ≡ before))
+          → IsByOneWordEach size fields sources own lazy before after
+      by_sizes (Ok relocations) is writing =
+          once_by (Ok count) count relocations refl (are_words (is_wrong_size sources own (length before)) (words_of (Some own)) relocations is) writing
+      by_sizes (Err reason) is (refused, same) = absurd (cc)
+
+pub once_at : {E : Type 0} {r : _} (size : ℕ) (fields : E → SymbolFields) (sources : Order → Sources E r) (there : Option (DynamicObject E r)) (when : Binding) (before after : List ℕ) (result : Result ℕ LoadError)
+    → ((order : Order) → slice_get (sources order).objects.now (sources order).of ≡ there)
+    → IsRelocationAt fields sources there when before after result
+    → IfOk result (λ count. IsByOneWordAt size fields sources there when before after)
+once_at size fields sources None when before after (Ok count) there (refused, same) = absurd (cc)
+once_at size fields sources None when before after (Err reason) there relocation = tt
+once_at size fields sources (Some own) when before after result there relocation =
+    let order = file_order (object_file own).header in
+    once_of size fields (sources order) own (binds_lazily (view_entries (object_view own)) when) before after (there order) result relocation

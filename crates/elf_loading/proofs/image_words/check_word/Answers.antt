@@ -1,0 +1,46 @@
+use Rattle.std.proofs.Common.{◌∷◌, sym, ◌∙◌}
+use Rattle.std.proofs.lemmas.Bool.{ne_eqb}
+use Rattle.elf_loading.specs.Segments.{loads_of}
+use Rattle.elf_loading.proofs.ImageWord.{passed, refused_overlap, refused_table, word_room}
+use Rattle.elf_loading.proofs.Marks.{marks_with, taken_is}
+use Rattle.elf_loading.proofs.image_words.check_word.Goals as goal
+use Rattle.xmas_elf.specs.ProgramTable.{program_table_file}
+
+pub overflow_sub-word : goal.overflow_sub-word
+overflow_sub-word c = (word_room _ _ _ c.args.word.now c.in-Some.load c.requires (sym c.holder_of.ensures ∙ c.in-Some.is)).0
+
+pub mark_all-requires : goal.mark_all-requires
+mark_all-requires c = (word_room _ _ _ c.args.word.now c.in-Some.load c.requires (sym c.holder_of.ensures ∙ c.in-Some.is)).1
+
+pub returns-then-mark_all-clause-exact : goal.returns-then-mark_all-clause-exact
+returns-then-mark_all-clause-exact c = λ before marks.
+    let room = c.args.room.now in
+    let word = c.args.word.now in
+    let found = sym c.holder_of.ensures ∙ c.in-Some.is in
+    let within = word_room _ _ _ word c.in-Some.load c.requires found in
+    let taken = taken_is room.start word before c.args.marks.now within.0 marks within.1 in
+    refused_overlap (loads_of (program_table_file room.table)) room.text room.tables before word (ne_eqb word.width 0 c.if-word-eq0.false) c.in-Some.load found
+    (sym c.is_shut.ensures ∙ c.if-is_shut.false) (sym taken ∙ sym c.mark_all.ensures.was ∙ c.if-mark_all.true)
+
+pub returns-then-is_in_table-clause-exact : goal.returns-then-is_in_table-clause-exact
+returns-then-is_in_table-clause-exact c = λ before marks.
+    let room = c.args.room.now in
+    let word = c.args.word.now in
+    let found = sym c.holder_of.ensures ∙ c.in-Some.is in
+    let within = word_room _ _ _ word c.in-Some.load c.requires found in
+    let taken = taken_is room.start word before c.args.marks.now within.0 marks within.1 in
+    refused_table (loads_of (program_table_file room.table)) room.text room.tables before word (ne_eqb word.width 0 c.if-word-eq0.false) c.in-Some.load found
+    (sym c.is_shut.ensures ∙ c.if-is_shut.false) (sym taken ∙ sym c.mark_all.ensures.was ∙ c.if-mark_all.false) (sym c.is_in_table.ensures ∙ c.if-is_in_table.true)
+
+pub returns-clause-exact : goal.returns-clause-exact
+returns-clause-exact c = λ before marks.
+    let room = c.args.room.now in
+    let word = c.args.word.now in
+    let found = sym c.holder_of.ensures ∙ c.in-Some.is in
+    let within = word_room _ _ _ word c.in-Some.load c.requires found in
+    let taken = taken_is room.start word before c.args.marks.now within.0 marks within.1 in (
+      word ∷ before,
+      passed (loads_of (program_table_file room.table)) room.text room.tables before word (ne_eqb word.width 0 c.if-word-eq0.false) c.in-Some.load found
+          (sym c.is_shut.ensures ∙ c.if-is_shut.false) (sym taken ∙ sym c.mark_all.ensures.was ∙ c.if-mark_all.false) (sym c.is_in_table.ensures ∙ c.if-is_in_table.false),
+      marks_with room.start word before c.args.marks.now within.0 marks c.mark_all.new.marks c.mark_all.ensures.len c.mark_all.ensures.set,
+    )

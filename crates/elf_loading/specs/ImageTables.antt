@@ -1,0 +1,161 @@
+-- The tables that a dynamic linker reads while it relocates a file, and whether it can (gABI, "Dynamic Section"; what
+-- is asked of them as glibc 2.36 has it).
+use Rattle.std.specs.Prelude.{ℕ, ◌+◌, ◌-◌, ◌*◌, ◌%◌, ◌^◌, ◌==◌, ◌&&◌, ◌||◌, not, min, bit_and, is_none, is_some, Bool, true, false, List, [], ◌∷◌, ◌++◌, length, Option, None, Some, Result, if◌then◌else◌}
+use Rattle.std.specs.List.{list_any}
+use Rattle.elf_base.specs.FileHeader.{file_class}
+use Rattle.elf_base.specs.Refusal.{and_then, unless}
+use Rattle.elf_base.specs.Table.{table_items}
+use Rattle.elf_linking.specs.DynamicObject.{object_file, object_records, object_table, object_view}
+use Rattle.elf_linking.specs.DynamicView.{dynamic_segment_of, number_with, view_entries}
+use Rattle.elf_linking.specs.GnuHash as gnu
+use Rattle.elf_linking.specs.Loaded.{place_of, segment_at_of}
+use Rattle.elf_linking.specs.References.{file_machine}
+use Rattle.elf_linking.specs.declared.any_table.AnyTable.{AnyTable}
+use Rattle.elf_linking.specs.declared.any_table.AnyTable.TheVariants.{Gnu, Sysv}
+use Rattle.elf_linking.specs.declared.object.DynamicObject.{DynamicObject}
+use Rattle.elf_linking.specs.declared.view.tags.TheConstants.{DT_FLAGS, DT_GNU_HASH, DT_HASH, DT_JMPREL, DT_PLTREL, DT_PLTRELSZ, DT_REL, DT_RELA, DT_RELAENT, DT_RELASZ, DT_RELENT, DT_RELR, DT_RELRENT, DT_RELRSZ, DT_RELSZ, DT_STRSZ, DT_STRTAB, DT_SYMTAB, DT_TEXTREL, DT_VERSYM}
+use Rattle.elf_loading.specs.InOrder.{is_kind, record_size}
+use Rattle.elf_loading.specs.Words.{address_size, flag_in}
+use Rattle.elf_loading.specs.declared.error.LoadError.{LoadError}
+use Rattle.elf_loading.specs.declared.error.LoadError.TheVariants as error
+use Rattle.elf_loading.specs.declared.image_tables.Extent.{Extent}
+use Rattle.elf_records.specs.declared.dynamic.Dynamic.{Dynamic}
+use Rattle.xmas_elf.specs.HashTable as gabi
+use Rattle.xmas_elf.specs.ProgramHeader.{program_fields}
+use Rattle.xmas_elf.specs.Types.{ElfFile, ProgramHeader, ProgramHeader64}
+
+-- a segment is readable (PF_R, 4), or writable (PF_W, 2)
+abbrev pub has_flag : ℕ → ProgramHeader64 → Bool
+has_flag flag segment = bit_and segment.flags.0 flag == flag
+
+-- Tables by their entries.
+
+-- a table at the number of one entry, with as many bytes as the number of another
+abbrev pub table_by : List (Dynamic ℕ) → ℕ → ℕ → Extent
+table_by entries start size = record { start = number_with start entries; size = number_with size entries }
+
+-- the size of a hash table in bytes, for a file with this many symbols: words of 4 bytes, and in GNU's the Bloom words,
+-- which are addresses
+abbrev pub hash_size : ElfFile → AnyTable → ℕ → ℕ
+hash_size file (Sysv table) count = 8 + 4 * (gabi.bucket_count_of table + gabi.chain_count_of table)
+hash_size file (Gnu table) count = 16 + address_size file * gnu.bloom_count_of table
+    + 4 * (gnu.bucket_count_of table + (count - gnu.first_symbol_of table))
+
+-- the entry with the address of the hash table
+abbrev pub hash_tag : AnyTable → ℕ
+hash_tag (Sysv table) = DT_HASH
+hash_tag (Gnu table) = DT_GNU_HASH
+
+-- a table at the number of an entry, of a known size
+abbrev pub table_of_size : List (Dynamic ℕ) → ℕ → ℕ → Extent
+table_of_size entries start size = record { start = number_with start entries; size = Some size }
+
+-- the table of relocations with addends, of those without, the packed ones, and those of the procedure linkage table
+abbrev pub relocation_tables : List (Dynamic ℕ) → List Extent
+relocation_tables entries = table_by entries DT_RELA DT_RELASZ ∷ table_by entries DT_REL DT_RELSZ
+    ∷ table_by entries DT_RELR DT_RELRSZ ∷ table_by entries DT_JMPREL DT_PLTRELSZ ∷ []
+
+-- the number of symbols that an index of 32 bits can name
+abbrev pub symbol_number : {E : Type 0} → {r : _} → DynamicObject E r → ℕ
+symbol_number object = min (length (table_items (object_records object))) (2 ^ 32)
+
+-- the string table, the symbols, which have this size each, the hash table, and the version numbers of the symbols
+abbrev pub symbol_tables : {E : Type 0} → {r : _} → ℕ → DynamicObject E r → List Extent
+symbol_tables size object = let entries = view_entries (object_view object) in
+    let count = symbol_number object in
+    table_by entries DT_STRTAB DT_STRSZ ∷ table_of_size entries DT_SYMTAB (size * count)
+    ∷ table_of_size entries (hash_tag (object_table object)) (hash_size (object_file object) (object_table object) count)
+    ∷ table_of_size entries DT_VERSYM (2 * count) ∷ []
+
+-- the bytes of a segment in memory
+abbrev pub segment_extent : Option ProgramHeader → Extent
+segment_extent None = record { start = None; size = None }
+segment_extent (Some program) =
+    record { start = Some (program_fields program).virtual_addr; size = Some (program_fields program).mem_size }
+
+-- all tables that a dynamic linker reads while it relocates a file: these, and the dynamic segment
+abbrev pub tables_of : {E : Type 0} → {r : _} → ℕ → DynamicObject E r → List Extent
+tables_of size object = relocation_tables (view_entries (object_view object))
+    ++ (symbol_tables size object ++ (segment_extent (dynamic_segment_of (object_file object)) ∷ []))
+
+-- Whether they can be read.
+
+-- there is a segment, and it is readable
+abbrev pub is_readable : Option ProgramHeader → Bool
+is_readable None = false
+is_readable (Some program) = has_flag 4 (program_fields program)
+
+-- the file has not all bytes of a table for a readable load
+abbrev pub is_unreadable_at : ElfFile → ℕ → Option ℕ → Bool
+is_unreadable_at file start None = true
+is_unreadable_at file start (Some size) = not (is_readable (segment_at_of file start size))
+
+abbrev pub is_unreadable_by : ElfFile → Option ℕ → Option ℕ → Bool
+is_unreadable_by file None size = false
+is_unreadable_by file (Some start) size = is_unreadable_at file start size
+
+abbrev pub is_unreadable : ElfFile → Extent → Bool
+is_unreadable file table = is_unreadable_by file table.start table.size
+
+-- a size that is known is no multiple of another
+abbrev pub is_no_multiple : ℕ → Option ℕ → Bool
+is_no_multiple each None = false
+is_no_multiple each (Some size) = not (size % each == 0)
+
+-- why a table can't be read; a record has a size, and the number in the entry for that size
+abbrev pub relocation_rows : ElfFile → ℕ → Option ℕ → Extent → List (Bool × LoadError)
+relocation_rows file each told table =
+    (is_some table.start && not (is_kind each told), error.RelocationSize)
+    ∷ (is_some table.start && is_no_multiple each table.size, error.NotMultiple)
+    ∷ (is_unreadable file table, error.Unreadable)
+    ∷ []
+
+-- the same for the relocations of the procedure linkage table; `kind` is the number in DT_PLTREL
+abbrev pub slot_rows : ElfFile → Option ℕ → Extent → List (Bool × LoadError)
+slot_rows file kind table =
+    (is_some table.start && not (is_kind DT_RELA kind || is_kind DT_REL kind), error.SlotKind)
+    ∷ (is_some table.start && is_no_multiple (record_size file (if is_kind DT_RELA kind then DT_RELA else DT_REL)) table.size, error.NotMultiple)
+    ∷ (is_unreadable file table, error.Unreadable)
+    ∷ []
+
+-- a load has the bytes of the dynamic segment, from the same offset of the file; it is readable, and writable if the
+-- segment is
+abbrev pub holds_dynamic : ProgramHeader64 → Option ProgramHeader → Bool
+holds_dynamic dynamic None = false
+holds_dynamic dynamic (Some program) = let load = program_fields program in
+    has_flag 4 load && (not (has_flag 2 dynamic) || has_flag 2 load) && place_of load dynamic.virtual_addr == dynamic.offset
+
+-- no load has the dynamic segment
+abbrev pub is_dynamic_lost : ElfFile → Option ProgramHeader → Bool
+is_dynamic_lost file None = true
+is_dynamic_lost file (Some program) = let dynamic = program_fields program in
+    not (holds_dynamic dynamic (segment_at_of file dynamic.virtual_addr dynamic.mem_size))
+
+-- the machine and the class are not those of x86-64 (62), 386 (3) or AArch64 (183)
+abbrev pub is_other_machine : ElfFile → Bool
+is_other_machine file = let class = file_class file.header in let machine = file_machine file in
+    not (if class == 1 then machine == 3 else (class == 2 && (machine == 62 || machine == 183)))
+
+-- all relocations can be read: those of DT_RELA, DT_REL, DT_RELR and DT_JMPREL; or the first reason why not
+unfoldable pub check_all_relocations : ElfFile → List (Dynamic ℕ) → Result (Unit {0}) LoadError
+check_all_relocations file entries =
+    and_then (unless (relocation_rows file (record_size file DT_RELA) (number_with DT_RELAENT entries) (table_by entries DT_RELA DT_RELASZ)) (tt {0})) (λ rela.
+    and_then (unless (relocation_rows file (record_size file DT_REL) (number_with DT_RELENT entries) (table_by entries DT_REL DT_RELSZ)) (tt {0})) (λ rel.
+    and_then (unless (relocation_rows file (address_size file) (number_with DT_RELRENT entries) (table_by entries DT_RELR DT_RELRSZ)) (tt {0})) (λ packed.
+    unless (slot_rows file (number_with DT_PLTREL entries) (table_by entries DT_JMPREL DT_PLTRELSZ)) tt)))
+
+-- the tables can be used, or the first reason why not: the dynamic segment, missing entries, relocations, other tables,
+-- the machine
+unfoldable pub check_tables : {E : Type 0} → {r : _} → ℕ → DynamicObject E r → Result (Unit {0}) LoadError
+check_tables size object = let file = object_file object in let entries = view_entries (object_view object) in
+    and_then (unless (
+    (is_dynamic_lost file (dynamic_segment_of file), error.Dynamic)
+    ∷ (is_none (number_with DT_STRTAB entries) || is_none (number_with DT_SYMTAB entries), error.NoEntry)
+    ∷ []) (tt {0})) (λ named. and_then (check_all_relocations file entries) (λ relocated. unless (
+    (list_any (is_unreadable file) (symbol_tables size object), error.Unreadable)
+    ∷ (is_other_machine file, error.Machine)
+    ∷ []) tt))
+
+-- the file asks for writes to loads that are not writable: by an entry DT_TEXTREL, or by the flag DF_TEXTREL (4)
+abbrev pub asks_for_text : List (Dynamic ℕ) → Bool
+asks_for_text entries = is_some (number_with DT_TEXTREL entries) || flag_in (number_with DT_FLAGS entries) 4

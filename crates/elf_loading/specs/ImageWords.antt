@@ -1,0 +1,208 @@
+-- Whether the words of relocations can be written (this project's own list, by what glibc 2.36 needs).
+use Rattle.std.specs.Prelude.{◌≡◌, ℕ, zero, suc, ◌+◌, ◌-◌, ◌*◌, ◌/◌, ◌%◌, ◌^◌, ◌<◌, ◌≤◌, ◌==◌, ◌&&◌, ◌||◌, not, nat_le, nat_lt, bit_and, is_none, min, max, slice_get, slice_index, Bool, false, List, [], ◌∷◌, ◌++◌, All, map, length, Option, None, Some, Result, Ok, Err, IfOk, if◌then◌else◌}
+use Rattle.std.specs.Borrow.{Bor}
+use Rattle.std.specs.Int.{bit_at}
+use Rattle.std.specs.List.{Contains, find, list_any}
+use Rattle.elf_base.specs.Refusal.{and_then, unless}
+use Rattle.elf_linking.specs.DynamicObject.{object_file, object_view}
+use Rattle.elf_linking.specs.DynamicView.{view_entries}
+use Rattle.elf_linking.specs.declared.error.LinkError.{LinkError}
+use Rattle.elf_linking.specs.declared.error.LinkError.TheVariants.{ObjectIndex}
+use Rattle.elf_linking.specs.declared.object.DynamicObject.{DynamicObject}
+use Rattle.elf_loading.specs.ImageTables.{asks_for_text, check_tables, has_flag, tables_of}
+use Rattle.elf_loading.specs.Segments.{loads_of}
+use Rattle.elf_loading.specs.Words.{HasWord}
+use Rattle.elf_loading.specs.WordsLeft.{AreWordsOf, relocation_of, words_file, words_index, words_lazy, words_left, words_objects, words_of, words_own}
+use Rattle.elf_loading.specs.declared.error.LoadError.{LoadError}
+use Rattle.elf_loading.specs.declared.error.LoadError.TheVariants as error
+use Rattle.elf_loading.specs.declared.image_tables.Extent.{Extent}
+use Rattle.elf_loading.specs.declared.in_order.Relocation.{Relocation}
+use Rattle.elf_loading.specs.declared.words.Binding.TheVariants.{Now}
+use Rattle.elf_loading.specs.declared.words.Relocated.{Relocated}
+use Rattle.elf_loading.specs.declared.words.Word.{Word}
+use Rattle.elf_loading.specs.declared.words.Words.{Words}
+use Rattle.xmas_elf.specs.Symbol.{SymbolFields}
+use Rattle.xmas_elf.specs.Types.{ProgramHeader64}
+
+-- Ranges of addresses.
+
+-- an address is one of a word's bytes
+abbrev pub covers : ℕ → Word → Bool
+covers address word = nat_le word.address address && nat_lt address (word.address + word.width)
+
+-- a range of addresses and another have a byte in common
+abbrev pub meet : ℕ → ℕ → ℕ → ℕ → Bool
+meet start size other many = nat_lt (max start other) (min (start + size) (other + many))
+
+-- words have a byte in common
+abbrev pub overlaps : Word → Word → Bool
+overlaps one other = meet one.address one.width other.address other.width
+
+-- a word and a table have a byte in common
+abbrev pub touches_at : Word → Option ℕ → Option ℕ → Bool
+touches_at word (Some start) (Some size) = meet word.address word.width start size
+touches_at word _ _ = false
+
+abbrev pub touches : Word → Extent → Bool
+touches word table = touches_at word table.start table.size
+
+-- the memory of a load has all bytes of a word
+abbrev pub holds_word : Word → ProgramHeader64 → Bool
+holds_word word load = nat_le load.virtual_addr word.address
+    && nat_le (word.address + word.width) (load.virtual_addr + load.mem_size)
+
+-- Each word.
+
+-- there is a load, and it is not writable
+abbrev pub is_shut : Option ProgramHeader64 → Bool
+is_shut None = false
+is_shut (Some load) = not (has_flag 2 load)
+
+-- why a word can't be written, after earlier ones: by the loads, whether the file asks for writes where they are not
+-- writable, and the tables
+abbrev pub word_rows : List ProgramHeader64 → Bool → List Extent → List Word → Word → List (Bool × LoadError)
+word_rows loads text tables before word = let load = find (holds_word word) loads in
+    (is_none load, error.WordAddress)
+    ∷ (not text && is_shut load, error.ReadOnly)
+    ∷ (list_any (overlaps word) before, error.WordsOverlap)
+    ∷ (list_any (touches word) tables, error.WordInTable)
+    ∷ []
+
+-- the words with one more, or why it is not known or can't be written; a word without bytes is not written
+abbrev pub check_word : List ProgramHeader64 → Bool → List Extent → List Word → Result Word LoadError → Result (List Word) LoadError
+check_word loads text tables before (Err error) = Err error
+check_word loads text tables before (Ok word) =
+    if word.width == 0 then Ok before else unless (word_rows loads text tables before word) (word ∷ before)
+
+-- the words that are written, the last first, or the first reason why one can't be
+unfoldable pub check_words : List ProgramHeader64 → Bool → List Extent → List Word → List (Result Word LoadError) → Result (List Word) LoadError
+check_words loads text tables before [] = Ok before
+check_words loads text tables before (word ∷ words) = and_then (check_word loads text tables before word)
+    (λ after. check_words loads text tables after words)
+
+-- The words of an object.
+
+-- the words of items
+abbrev pub words_in : {E : Type 0} → List (Relocated E) → List (Result Word LoadError)
+words_in items = map (λ item. item.word) items
+
+-- these items are the first relocations of an object with the symbols that they get and the words that they write, and
+-- all of them if the result of a call is Ok
+pub record AreFirstItems {E T : Type 0} {r : _} (fields : E → SymbolFields) (objects : List (DynamicObject E r)) (of : ℕ) (own : DynamicObject E r) (lazy : Bool) (relocations : List Relocation) (result : Result T LoadError) (items : List (Relocated E)) : Type 0 where
+  pub rest : List Relocation
+  pub are : relocations ≡ map relocation_of items ++ rest
+  pub have_words : All (HasWord fields objects (object_file own) own of lazy) items
+  pub all : IfOk result (λ _. rest ≡ [])
+
+-- Marks: a bit for each byte of the memory of the loads.
+
+-- the least address of the memory of loads, and of `from`
+abbrev pub lowest : ℕ → List ProgramHeader64 → ℕ
+lowest from [] = from
+lowest from (load ∷ loads) = lowest (min from load.virtual_addr) loads
+
+-- the greatest end of the memory of loads, and of `to`
+abbrev pub highest : ℕ → List ProgramHeader64 → ℕ
+highest to [] = to
+highest to (load ∷ loads) = highest (max to (load.virtual_addr + load.mem_size)) loads
+
+-- the first address that has a mark, and the number of marks
+abbrev pub marks_start : List ProgramHeader64 → ℕ
+marks_start loads = lowest (2 ^ 64 - 1) loads
+
+abbrev pub marks_count : List ProgramHeader64 → ℕ
+marks_count loads = highest 0 loads - marks_start loads
+
+-- mark i is set
+abbrev pub is_marked : List ℕ → ℕ → Bool
+is_marked marks i = bit_at (slice_index marks (i / 8)) (i % 8) == 1
+
+-- one of as many marks from an index on is set
+abbrev pub some_marked : List ℕ → ℕ → ℕ → Bool
+some_marked marks start zero = false
+some_marked marks start (suc count) = some_marked marks start count || is_marked marks (start + count)
+
+-- each mark says whether one of these words has the byte at its address
+pub record AreMarksOf (start : ℕ) (words : List Word) (marks : List ℕ) : Type 0 where
+  pub each : (i : ℕ) → i < 8 * length marks → is_marked marks i ≡ list_any (covers (start + i)) words
+
+-- the memory of the loads begins at `start` or after it, and has no more bytes from there on than `len` bytes have bits
+pub record HasRoom (loads : List ProgramHeader64) (start len : ℕ) : Type 0 where
+  pub begins : start ≡ marks_start loads
+  pub fits : marks_count loads ≤ 8 * len
+
+-- The check.
+
+-- a result of elf_linking, with its error in `Link`
+abbrev pub as_load_error : {A : Type 0} → Result A LinkError → Result A LoadError
+as_load_error (Ok value) = Ok value
+as_load_error (Err reason) = Err (error.Link reason)
+
+-- the relocations of an object whose tables can be used, where `bits` marks are enough; or the first reason why not
+abbrev pub checked_relocations : {E : Type 0} → {r : _} → ℕ → DynamicObject E r → ℕ → Result (List Relocation) LoadError
+checked_relocations size own bits = and_then (check_tables size own) (λ done.
+    and_then (as_load_error (words_of (Some own))) (λ relocations.
+    unless ((nat_lt bits (marks_count (loads_of (object_file own))), error.FewMarks) ∷ []) relocations))
+
+-- the words of the object at an index, all of them left, where its tables can be used and `bits` marks from an address
+-- on are enough
+pub record IsBegun {E : Type 0} {r : _} (size : ℕ) (objects : Bor (List (DynamicObject E r))) (of : ℕ) (own : DynamicObject E r) (bits : ℕ) (words : Words E r) (start : ℕ) : Type 0 where
+  pub relocations_are : checked_relocations size own bits ≡ Ok (words_left words)
+  pub words_are : AreWordsOf objects of Now words
+  pub start_is : start ≡ marks_start (loads_of (object_file own))
+
+-- the result of the check of the words that are left: these items are the first, and all of them if it is Ok
+pub record AreWordsFrom {E : Type 0} {r : _} (fields : E → SymbolFields) (loads : List ProgramHeader64) (text : Bool) (tables : List Extent) (words : Words E r) (result : Result (Unit {0}) LoadError) : Type 0 where
+  pub items : List (Relocated E)
+  pub rest : List Relocation
+  pub are : words_left words ≡ map relocation_of items ++ rest
+  pub have_words : All (HasWord fields (words_objects words).now (words_file words) (words_own words) (words_index words) (words_lazy words)) items
+  pub all : IfOk result (λ _. rest ≡ [])
+  pub checked : result ≡ and_then (check_words loads text tables [] (words_in items)) (λ _. Ok tt)
+
+-- the result of the check of an object: the first reason of its tables; or that of its words, in order
+pub data IsOwnCheck {E : Type 0} {r : _} (size : ℕ) (fields : E → SymbolFields) (objects : List (DynamicObject E r)) (of : ℕ) (own : DynamicObject E r) (bits : ℕ) (result : Result (Unit {0}) LoadError) : Type 0 where
+  refused : (error : LoadError) → checked_relocations size own bits ≡ Err error → result ≡ Err error
+      → IsOwnCheck size fields objects of own bits result
+  by_words : (relocations : List Relocation) (items : List (Relocated E)) → checked_relocations size own bits ≡ Ok relocations
+      → AreFirstItems fields objects of own false relocations result items
+      → result ≡ and_then (check_words (loads_of (object_file own)) (asks_for_text (view_entries (object_view own)))
+      (tables_of size own) [] (words_in items)) (λ words. Ok tt)
+      → IsOwnCheck size fields objects of own bits result
+
+-- the result of the check of the object at an index
+abbrev pub IsCheckAt : {E : Type 0} → {r : _} → ℕ → (E → SymbolFields) → List (DynamicObject E r) → ℕ → Option (DynamicObject E r) → ℕ → Result (Unit {0}) LoadError → Type 0
+IsCheckAt size fields objects of None bits result = result ≡ Err (error.Link ObjectIndex)
+IsCheckAt size fields objects of (Some own) bits result = IsOwnCheck size fields objects of own bits result
+
+abbrev pub IsImageCheck : {E : Type 0} → {r : _} → ℕ → (E → SymbolFields) → List (DynamicObject E r) → ℕ → ℕ → Result (Unit {0}) LoadError → Type 0
+IsImageCheck size fields objects of bits result = IsCheckAt size fields objects of (slice_get objects of) bits result
+
+-- What holds of an object that passes.
+
+-- an address is one of `size` from `start` on
+abbrev pub IsIn : ℕ → ℕ → ℕ → Type 0
+IsIn start size address = (start ≤ address) × (address < start + size)
+
+-- a word is in the memory of one load, which is writable unless the file asks for writes elsewhere, and no byte of it is
+-- in one of these tables
+pub record IsWritableWord (loads : List ProgramHeader64) (text : Bool) (tables : List Extent) (word : Word) : Type 0 where
+  pub load : ProgramHeader64
+  pub is_load : Contains loads load
+  pub begins : load.virtual_addr ≤ word.address
+  pub ends : word.address + word.width ≤ load.virtual_addr + load.mem_size
+  pub writable : text ≡ false → bit_and load.flags.0 2 ≡ 2
+  pub in_no_table : (table : Extent) (start size address : ℕ) → Contains tables table → table.start ≡ Some start
+      → table.size ≡ Some size → IsIn word.address word.width address → ¬ IsIn start size address
+
+-- all relocations of an object have words; each with bytes can be written; no two have a byte in common
+pub record AreWritten {E : Type 0} {r : _} (size : ℕ) (fields : E → SymbolFields) (objects : List (DynamicObject E r)) (of : ℕ) (own : DynamicObject E r) : Type 0 where
+  pub items : List (Relocated E)
+  pub words : List Word
+  pub relocations_are : words_of (Some own) ≡ Ok (map relocation_of items)
+  pub have_words : All (HasWord fields objects (object_file own) own of false) items
+  pub words_are : words_in items ≡ map (λ word. Ok word) words
+  pub each : (word : Word) → Contains words word → 0 < word.width → IsWritableWord (loads_of (object_file own))
+      (asks_for_text (view_entries (object_view own))) (tables_of size own) word
+  pub apart : (i j : ℕ) (one other : Word) (address : ℕ) → i < j → slice_get words i ≡ Some one → slice_get words j ≡ Some other
+      → IsIn one.address one.width address → ¬ IsIn other.address other.width address

@@ -1,0 +1,322 @@
+//! The tables that a dynamic linker reads while it relocates a file, and whether it can.
+
+ghost use Rattle.std.specs.Prelude.{◌≡◌, ◌<◌, ◌≤◌, ◌*◌, ◌^◌, IfSome};
+ghost use Rattle.std.specs.List.{list_any};
+ghost use Rattle.elf_base.specs.Refusal.{unless};
+ghost use Rattle.elf_linking.specs.DynamicView.{view_entries};
+ghost use Rattle.elf_loading.specs.ImageTables.{asks_for_text, check_all_relocations};
+ghost use Rattle.elf_loading.specs.ImageTables.{check_tables, has_flag, hash_size, hash_tag};
+ghost use Rattle.elf_loading.specs.ImageTables.{holds_dynamic, is_dynamic_lost, is_no_multiple};
+ghost use Rattle.elf_loading.specs.ImageTables.{is_other_machine, is_readable, is_unreadable};
+ghost use Rattle.elf_loading.specs.ImageTables.{relocation_rows, segment_extent, slot_rows};
+ghost use Rattle.elf_loading.specs.ImageTables.{symbol_number, table_by, table_of_size, tables_of};
+ghost use Rattle.xmas_elf.specs.ProgramHeader.{program_fields};
+
+use crate::LoadError;
+use crate::in_order::{is_kind, record_size};
+use crate::segments::fields;
+use crate::words::{address_size, flag_in};
+use elf_linking::references::types::{EM_386, EM_AARCH64, EM_X86_64};
+use elf_linking::view::{
+    DT_FLAGS, DT_GNU_HASH, DT_HASH, DT_JMPREL, DT_PLTREL, DT_PLTRELSZ, DT_REL, DT_RELA, DT_RELAENT,
+    DT_RELASZ, DT_RELENT, DT_RELR, DT_RELRENT, DT_RELRSZ, DT_RELSZ, DT_STRSZ, DT_STRTAB, DT_SYMTAB,
+    DT_TEXTREL, DT_VERSYM, DynamicView, LinkedSymbol, dynamic_segment, segment_at,
+};
+use elf_linking::{AnyTable, DynamicObject};
+use xmas_elf::ElfFile;
+use xmas_elf::program::{FLAG_R, FLAG_W, ProgramHeader, ProgramHeader64};
+
+// Where a table is: its address, if it has one, and its size in bytes, if it is known.
+#[derive(Clone, Copy, Debug)]
+pub(crate) struct Extent {
+    pub(crate) start: Option<u64>,
+    pub(crate) size: Option<u64>,
+}
+
+// Whether a segment is readable.
+fn is_readable(program: &Option<ProgramHeader>) -> bool
+    ensures { result ≡ is_readable program.now }
+{
+    match program {
+        Some(program) => fields(program).flags.0 & FLAG_R == FLAG_R,
+        None => false,
+    }
+}
+
+// Whether a segment is writable.
+pub(crate) fn is_writable(segment: &ProgramHeader64) -> bool
+    ensures { result ≡ has_flag 2 segment.now }
+{
+    segment.flags.0 & FLAG_W == FLAG_W
+}
+
+// Whether the file has not all bytes of a table for a readable load.
+fn is_unreadable(file: &ElfFile<'_>, table: &Extent) -> bool
+    ensures { result ≡ is_unreadable file.now table.now }
+{
+    let Some(start) = table.start else {
+        return false;
+    };
+    match table.size {
+        Some(size) => !is_readable(&segment_at(file, start, size)),
+        None => true,
+    }
+}
+
+// A table by the entries with its address and its size.
+fn table_by(view: &DynamicView<'_>, start: u64, size: u64) -> Extent
+    ensures { result ≡ table_by (view_entries view.now) start size }
+{
+    Extent {
+        start: view.entry(start),
+        size: view.entry(size),
+    }
+}
+
+// A table of a known size, by the entry with its address.
+fn table_of_size(view: &DynamicView<'_>, start: u64, size: u64) -> Extent
+    ensures { result ≡ table_of_size (view_entries view.now) start size }
+{
+    Extent {
+        start: view.entry(start),
+        size: Some(size),
+    }
+}
+
+// Whether a size that is known is no multiple of another.
+fn is_no_multiple(each: u64, size: Option<u64>) -> bool
+    requires { 0 < each }
+    ensures { result ≡ is_no_multiple each size }
+{
+    match size {
+        Some(size) => size % each != 0,
+        None => false,
+    }
+}
+
+// Whether relocations can be read; each has a size, and `told` is the number in the entry for it.
+fn check_relocations(
+    file: &ElfFile<'_>,
+    each: u64,
+    told: Option<u64>,
+    table: &Extent,
+) -> Result<(), LoadError>
+    requires { 0 < each }
+    ensures { result ≡ unless (relocation_rows file.now each told table.now) tt }
+{
+    let is_there = table.start.is_some();
+    if is_there && !is_kind(each, told) {
+        return Err(LoadError::RelocationSize);
+    }
+    if is_there && is_no_multiple(each, table.size) {
+        return Err(LoadError::NotMultiple);
+    }
+    if is_unreadable(file, table) {
+        return Err(LoadError::Unreadable);
+    }
+    Ok(())
+}
+
+// Whether the relocations of the procedure linkage table can be read, by the number in the entry
+// for their kind.
+fn check_slots(file: &ElfFile<'_>, kind: Option<u64>, table: &Extent) -> Result<(), LoadError>
+    ensures { result ≡ unless (slot_rows file.now kind table.now) tt }
+{
+    let is_there = table.start.is_some();
+    let with_addends = is_kind(DT_RELA, kind);
+    if is_there && !with_addends && !is_kind(DT_REL, kind) {
+        return Err(LoadError::SlotKind);
+    }
+    let each = record_size(file, if with_addends { DT_RELA } else { DT_REL });
+    if is_there && is_no_multiple(each, table.size) {
+        return Err(LoadError::NotMultiple);
+    }
+    if is_unreadable(file, table) {
+        return Err(LoadError::Unreadable);
+    }
+    Ok(())
+}
+
+// Whether a load has the bytes of the dynamic segment, from the same offset of the file, and their
+// permissions.
+fn holds_dynamic(dynamic: &ProgramHeader64, holder: &Option<ProgramHeader>) -> bool
+    requires { IfSome holder.now (λ program.
+        (program_fields program).virtual_addr ≤ dynamic.now.virtual_addr) }
+    ensures { result ≡ holds_dynamic dynamic.now holder.now }
+{
+    let Some(program) = holder else {
+        return false;
+    };
+    let load = fields(program);
+    let offset = u128::from(load.offset) + u128::from(dynamic.virtual_addr - load.virtual_addr);
+    load.flags.0 & FLAG_R == FLAG_R
+        && (!is_writable(dynamic) || is_writable(&load))
+        && offset == u128::from(dynamic.offset)
+}
+
+// Whether no load has the dynamic segment.
+#[tactic(auto, using(crate::proofs::ImageTables::holder_begins))]
+fn is_dynamic_lost(file: &ElfFile<'_>, dynamic: &Option<ProgramHeader>) -> bool
+    ensures { result ≡ is_dynamic_lost file.now dynamic.now }
+{
+    let Some(program) = dynamic else {
+        return true;
+    };
+    let dynamic = fields(program);
+    let holder = segment_at(file, dynamic.virtual_addr, dynamic.mem_size);
+    !holds_dynamic(&dynamic, &holder)
+}
+
+// Whether the machine and the class are not supported.
+fn is_other_machine(file: &ElfFile<'_>) -> bool
+    ensures { result ≡ is_other_machine file.now }
+{
+    let machine = file.header.pt2.machine().raw();
+    match file.header.pt1.class.raw() {
+        1 => machine != EM_386,
+        2 => machine != EM_X86_64 && machine != EM_AARCH64,
+        _ => true,
+    }
+}
+
+// The number of symbols that an index of 32 bits can name.
+fn symbol_number<E: LinkedSymbol>(object: &DynamicObject<'_, E>) -> u64
+    ensures exact { result ≡ symbol_number object.now }
+    ensures most { result ≤ 2 ^ 32 }
+{
+    (object.symbol_count() as u64).min(1 << 32)
+}
+
+// The size of a hash table in bytes, for a file with this many symbols.
+fn hash_size(file: &ElfFile<'_>, table: &AnyTable<'_>, count: u64) -> u64
+    requires { count ≤ 2 ^ 32 }
+    ensures { result ≡ hash_size file.now table.now count }
+{
+    match table {
+        AnyTable::Sysv(table) => {
+            8 + 4 * (u64::from(table.bucket_count()) + u64::from(table.chain_count()))
+        }
+        AnyTable::Gnu(table) => {
+            let bloom = address_size(file) * u64::from(table.bloom_count());
+            let chains = count.saturating_sub(u64::from(table.first_symbol()));
+            16 + bloom + 4 * (u64::from(table.bucket_count()) + chains)
+        }
+    }
+}
+
+// The entry with the address of a hash table.
+fn hash_tag(table: &AnyTable<'_>) -> u64
+    ensures { result ≡ hash_tag table.now }
+{
+    match table {
+        AnyTable::Sysv(_) => DT_HASH,
+        AnyTable::Gnu(_) => DT_GNU_HASH,
+    }
+}
+
+// The bytes of a segment in memory.
+fn segment_extent(program: &Option<ProgramHeader>) -> Extent
+    ensures { result ≡ segment_extent program.now }
+{
+    match program {
+        Some(program) => {
+            let segment = fields(program);
+            Extent {
+                start: Some(segment.virtual_addr),
+                size: Some(segment.mem_size),
+            }
+        }
+        None => Extent {
+            start: None,
+            size: None,
+        },
+    }
+}
+
+// The size of the symbols in bytes, of which there are this many.
+fn symbols_size<E: LinkedSymbol>(count: u64) -> u64
+    requires { count ≤ 2 ^ 32 }
+    ensures { result ≡ E.SIZE * count }
+{
+    E::SIZE as u64 * count
+}
+
+// All tables that a dynamic linker reads while it relocates an object: four of relocations, four of
+// symbols, and the dynamic segment.
+pub(crate) fn tables_of<E: LinkedSymbol>(object: &DynamicObject<'_, E>) -> [Extent; 9]
+    ensures { result ≡ tables_of E.SIZE object.now }
+{
+    let (view, file, table) = (object.view(), object.file(), object.table());
+    let count = symbol_number(object);
+    [
+        table_by(&view, DT_RELA, DT_RELASZ),
+        table_by(&view, DT_REL, DT_RELSZ),
+        table_by(&view, DT_RELR, DT_RELRSZ),
+        table_by(&view, DT_JMPREL, DT_PLTRELSZ),
+        table_by(&view, DT_STRTAB, DT_STRSZ),
+        table_of_size(&view, DT_SYMTAB, symbols_size::<E>(count)),
+        table_of_size(&view, hash_tag(&table), hash_size(&file, &table, count)),
+        table_of_size(&view, DT_VERSYM, 2 * count),
+        segment_extent(&dynamic_segment(&file)),
+    ]
+}
+
+// Whether all relocations can be read.
+#[tactic(auto, unfolding(crate::specs::ImageTables::check_all_relocations))]
+fn check_all_relocations(file: &ElfFile<'_>, view: &DynamicView<'_>) -> Result<(), LoadError>
+    ensures { result ≡ check_all_relocations file.now (view_entries view.now) }
+{
+    let rela = table_by(view, DT_RELA, DT_RELASZ);
+    check_relocations(
+        file,
+        record_size(file, DT_RELA),
+        view.entry(DT_RELAENT),
+        &rela,
+    )?;
+    let rel = table_by(view, DT_REL, DT_RELSZ);
+    check_relocations(file, record_size(file, DT_REL), view.entry(DT_RELENT), &rel)?;
+    let packed = table_by(view, DT_RELR, DT_RELRSZ);
+    check_relocations(file, address_size(file), view.entry(DT_RELRENT), &packed)?;
+    let slots = table_by(view, DT_JMPREL, DT_PLTRELSZ);
+    check_slots(file, view.entry(DT_PLTREL), &slots)
+}
+
+// Whether one of these tables can't be read.
+fn are_unreadable(file: &ElfFile<'_>, tables: &[Extent]) -> bool
+    ensures { result ≡ list_any (is_unreadable file.now) tables.now }
+{
+    tables.iter().any(|table| is_unreadable(file, table))
+}
+
+// Whether the tables of an object can be used.
+#[tactic(auto, unfolding(crate::specs::ImageTables::check_tables))]
+pub(crate) fn check_tables<E: LinkedSymbol>(
+    object: &DynamicObject<'_, E>,
+    tables: &[Extent; 9],
+) -> Result<(), LoadError>
+    requires { tables.now ≡ tables_of E.SIZE object.now }
+    ensures { result ≡ check_tables E.SIZE object.now }
+{
+    let (view, file) = (object.view(), object.file());
+    if is_dynamic_lost(&file, &dynamic_segment(&file)) {
+        return Err(LoadError::Dynamic);
+    }
+    if view.entry(DT_STRTAB).is_none() || view.entry(DT_SYMTAB).is_none() {
+        return Err(LoadError::NoEntry);
+    }
+    check_all_relocations(&file, &view)?;
+    if are_unreadable(&file, &tables[4..8]) {
+        return Err(LoadError::Unreadable);
+    }
+    if is_other_machine(&file) {
+        return Err(LoadError::Machine);
+    }
+    Ok(())
+}
+
+// Whether the file asks for writes to loads that are not writable.
+pub(crate) fn asks_for_text(view: &DynamicView<'_>) -> bool
+    ensures { result ≡ asks_for_text (view_entries view.now) }
+{
+    view.entry(DT_TEXTREL).is_some() || flag_in(view.entry(DT_FLAGS), 4)
+}

@@ -1,0 +1,472 @@
+//! The bytes that relocations write to the image of an object.
+
+ghost use Rattle.std.specs.Prelude.{◌≡◌, ◌<◌, ◌≤◌, ◌+◌, ◌-◌, ◌&&◌, ◌*◌, ◌/◌, ◌%◌, ◌^◌, length};
+ghost use Rattle.std.specs.Prelude.{false, if◌then◌else◌, min, nat_le, nat_lt, slice_get};
+ghost use Rattle.std.specs.Prelude.{slice_index, true, Err, IfErr, IfOk, MatchOption, Ok, Some, ℕ};
+ghost use Rattle.elf_base.specs.Table.{table_items};
+ghost use Rattle.elf_linking.specs.DynamicObject.{object_records, object_view};
+ghost use Rattle.elf_linking.specs.DynamicView.{view_entries};
+ghost use Rattle.elf_linking.specs.Scope.{scope_objects};
+ghost use Rattle.elf_loading.specs.Pages.{up};
+ghost use Rattle.elf_loading.specs.Relocate.{AreWordsFor, IsRelocation, IsRelocationIn, IsWriting};
+ghost use Rattle.elf_loading.specs.Relocate.{byte_of_number, has_no_number, image_at};
+ghost use Rattle.elf_loading.specs.Relocate.{is_copy_outside, is_outside, is_unresolved, is_weak};
+ghost use Rattle.elf_loading.specs.Relocate.{is_wrong_size};
+ghost use Rattle.elf_loading.specs.Relocate.{origin_sum, place_at, start_at, value_byte};
+ghost use Rattle.elf_loading.specs.Relocate.{value_number, word_byte, write_item, write_word};
+ghost use Rattle.elf_loading.specs.Segments.{loads_of};
+ghost use Rattle.elf_loading.specs.Spans.{first_start, last_end};
+ghost use Rattle.elf_loading.specs.Words.{binds_lazily};
+ghost use Rattle.elf_loading.specs.WordsLeft.{words_left};
+ghost use Rattle.elf_loading.specs.declared.error.LoadError.TheVariants.{CopySource};
+ghost use Rattle.xmas_elf.specs.ProgramTable.{program_table_file};
+
+use crate::LoadError;
+use crate::pages::{down, end_down};
+use crate::segments::loads_of;
+use crate::value::{Origin, Value};
+use crate::words::{Binding, Relocated, Word, Words, binds_lazily, needs_symbol};
+use elf_base::bytes::Record;
+use elf_linking::scope::Scope;
+use elf_linking::view::LinkedSymbol;
+use elf_linking::{DynamicObject, LinkError};
+use xmas_elf::bytes::Order;
+use xmas_elf::program::ProgramTable;
+
+/// Where an object is loaded.
+#[derive(Clone, Copy, Debug, PartialEq, Eq)]
+pub struct Place {
+    /// The number that is added to its addresses.
+    pub base: u64,
+    /// The number of its module of thread-local storage.
+    pub module: u64,
+    /// The offset of its thread-local storage from the thread pointer, modulo 2^64.
+    pub thread: u64,
+}
+
+// What the words of an object are written by.
+#[derive(Drop)]
+pub(crate) struct Sources<'b, 's, 'a, E: Record> {
+    objects: &'s [DynamicObject<'a, E>],
+    page: u64,
+    // The index of the own object.
+    of: usize,
+    // The byte order of the own object.
+    order: Order,
+    // Where each object is loaded.
+    places: &'b [Place],
+    // The bytes of each object from which bytes are copied.
+    images: &'b [&'b [u8]],
+}
+
+// The place of an object.
+fn place_at(places: &[Place], object: usize) -> Place
+    ensures { result ≡ place_at places.now object }
+{
+    match places.get(object) {
+        Some(place) => *place,
+        None => Place {
+            base: 0,
+            module: 0,
+            thread: 0,
+        },
+    }
+}
+
+// An origin plus a number.
+fn origin_sum(places: &[Place], origin: Origin, offset: u64) -> Option<u64>
+    ensures { result ≡ origin_sum places.now origin offset }
+{
+    match origin {
+        Origin::Zero => Some(offset),
+        Origin::Base(object) => Some(place_at(places, object).base.wrapping_add(offset)),
+        Origin::Call { .. } => None,
+    }
+}
+
+// The number of a value.
+fn value_number(places: &[Place], own: usize, value: &Value) -> Option<u64>
+    ensures { result ≡ value_number places.now own value.now }
+{
+    match *value {
+        Value::Sum { origin, offset } => origin_sum(places, origin, offset),
+        Value::Distance { origin, offset } => match origin_sum(places, origin, offset) {
+            Some(number) => Some(number.wrapping_sub(place_at(places, own).base)),
+            None => None,
+        },
+        Value::Module(object) => Some(place_at(places, object).module),
+        Value::Thread { object, offset } => {
+            Some(place_at(places, object).thread.wrapping_add(offset))
+        }
+        Value::ThreadNegated { object, offset } => {
+            Some(offset.wrapping_sub(place_at(places, object).thread))
+        }
+        _ => None,
+    }
+}
+
+// The byte of a number after its lowest `skipped` bytes.
+#[tactic(auto, using(crate::proofs::NumberBytes::no_byte))]
+fn byte_after(number: u64, skipped: usize) -> u8
+    ensures { result ≡ number / 2 ^ (8 * skipped) % 256 }
+{
+    if skipped >= 8 {
+        return 0;
+    }
+    ((number >> (8 * skipped)) % 256) as u8
+}
+
+// A byte of a number in `width` bytes.
+fn byte_of_number(order: Order, width: usize, number: u64, place: usize) -> u8
+    requires { place < width }
+    ensures { result ≡ byte_of_number order width number place }
+{
+    match order {
+        Order::Little => byte_after(number, place),
+        Order::Big => byte_after(number, width - 1 - place),
+    }
+}
+
+// Writes a number in `width` bytes to an image from an index on.
+fn write_number(order: Order, image: &mut [u8], index: usize, width: usize, number: u64)
+    requires { index + width ≤ length image.old }
+    ensures len { length image.new ≡ length image.old }
+    ensures bytes { (i : ℕ) → slice_index image.new i
+        ≡ (if nat_le index i && nat_lt i (index + width)
+        then byte_of_number order width number (i - index) else slice_index image.old i) }
+{
+    for place in 0..width {
+        image[index + place] = byte_of_number(order, width, number, place);
+    }
+}
+
+// Writes bytes to an image from an index on.
+fn write_bytes(image: &mut [u8], index: usize, bytes: &[u8])
+    requires { index + length bytes.now ≤ length image.old }
+    ensures len { length image.new ≡ length image.old }
+    ensures bytes { (i : ℕ) → slice_index image.new i
+        ≡ (if nat_le index i && nat_lt i (index + length bytes.now)
+        then slice_index bytes.now (i - index) else slice_index image.old i) }
+{
+    image[index..index + bytes.len()].copy_from_slice(bytes);
+}
+
+// Whether the symbol at an index of an object is weak.
+fn is_weak<E: LinkedSymbol>(object: &DynamicObject<'_, E>, index: u32) -> bool
+    ensures { result ≡ is_weak E.fields (slice_get (table_items (object_records object.now)) index) }
+{
+    match object.symbol(index) {
+        Some(symbol) => symbol.info() / 16 == 2,
+        None => false,
+    }
+}
+
+// Whether a value that is written has no number.
+fn has_no_number(value: &Value) -> bool
+    ensures { result ≡ has_no_number value.now }
+{
+    match value {
+        Value::Sum { origin, .. } | Value::Distance { origin, .. } => {
+            matches!(origin, Origin::Call { .. })
+        }
+        Value::Descriptor { .. } => true,
+        _ => false,
+    }
+}
+
+// A number of words, with one more that may lack a number.
+fn counted(count: u64, lacks: bool) -> u64
+    ensures { result ≡ min (count + (if lacks then 1 else 0)) (2 ^ 64 - 1) }
+{
+    if lacks {
+        count.saturating_add(1)
+    } else {
+        count
+    }
+}
+
+// The first address of the pages of the first load, or 0 if there is none.
+fn first_start(page: u64, table: ProgramTable<'_, '_>) -> u64
+    requires { 0 < page }
+    ensures { result ≡ first_start page (loads_of (program_table_file table.entry)) }
+{
+    match loads_of(table).next() {
+        Some(load) => down(page, load.virtual_addr),
+        None => 0,
+    }
+}
+
+// The first address from `start + size` on at which a page begins.
+#[tactic(auto, using(crate::proofs::NumberBytes::up_all, crate::proofs::NumberBytes::up_over, crate::proofs::Rounded::down_le))]
+fn end_up(page: u64, start: u64, size: u64) -> u128
+    requires { 0 < page }
+    ensures value { result ≡ up page (start + size) }
+{
+    let end = end_down(page, start, size);
+    let sum = u128::from(start) + u128::from(size);
+    if end == sum {
+        return end;
+    }
+    end + u128::from(page)
+}
+
+// The end of the pages of the last load, or 0 if there is none.
+fn last_end(page: u64, table: ProgramTable<'_, '_>) -> u128
+    requires { 0 < page }
+    ensures { result ≡ last_end page 0 (loads_of (program_table_file table.entry)) }
+{
+    let mut end = 0;
+    for load in loads_of(table) {
+        end = end_up(page, load.virtual_addr, load.mem_size);
+    }
+    end
+}
+
+// The index of the first of some bytes in an image of `len` bytes that begins at `start`, if they are
+// all in it.
+fn index_in(start: u64, len: usize, address: u64, width: u64) -> Option<usize>
+    requires { 0 < width }
+    ensures { MatchOption result (is_outside start len address width ≡ true)
+        (λ index. (is_outside start len address width ≡ false) × (start + index ≡ address)
+        × (index + width ≤ len)) }
+{
+    if address < start {
+        return None;
+    }
+    let (index, len) = (address - start, len as u64);
+    if index > len || width > len - index {
+        return None;
+    }
+    Some(index as usize)
+}
+
+impl<'b, 's, 'a, E: LinkedSymbol> Sources<'b, 's, 'a, E> {
+    // The first address of the image of an object.
+    fn start_at(&self, object: usize) -> u64
+        requires { 0 < self.now.page }
+        ensures { result ≡ start_at self.now object }
+    {
+        match self.objects.get(object) {
+            Some(object) => first_start(self.page, object.file().program_table()),
+            None => 0,
+        }
+    }
+
+    // The bytes of the image of an object.
+    fn image_at(&self, object: usize) -> &'b [u8]
+        ensures { result.now ≡ image_at self.now object }
+    {
+        match self.images.get(object) {
+            Some(image) => image,
+            None => &[],
+        }
+    }
+
+    // Writes `width` bytes of an object to an image from an index on.
+    fn copy(
+        &self,
+        image: &mut [u8],
+        index: usize,
+        width: usize,
+        object: usize,
+        offset: u64,
+    ) -> Result<(), LoadError>
+        requires page { 0 < self.now.page }
+        requires some { 0 < width }
+        requires within { index + width ≤ length image.old }
+        ensures len { length image.new ≡ length image.old }
+        ensures result { result ≡ (if is_outside (start_at self.now object)
+            (length (image_at self.now object)) offset width then Err CopySource else Ok tt) }
+        ensures bytes { IfOk result (λ done. (i : ℕ) → slice_index image.new i
+            ≡ (if nat_le index i && nat_lt i (index + width)
+            then slice_index (image_at self.now object) (offset - start_at self.now object + (i - index))
+            else slice_index image.old i)) }
+        ensures same { IfErr result (λ error. image.new ≡ image.old) }
+    {
+        let bytes = self.image_at(object);
+        match index_in(self.start_at(object), bytes.len(), offset, width as u64) {
+            Some(first) => write_bytes(image, index, &bytes[first..first + width]),
+            None => return Err(LoadError::CopySource),
+        }
+        Ok(())
+    }
+
+    // Writes a value of `width` bytes to an image from an index on.
+    fn write_value(
+        &self,
+        image: &mut [u8],
+        index: usize,
+        width: usize,
+        value: &Value,
+    ) -> Result<(), LoadError>
+        requires page { 0 < self.now.page }
+        requires some { 0 < width }
+        requires within { index + width ≤ length image.old }
+        ensures len { length image.new ≡ length image.old }
+        ensures result { result ≡ (if is_copy_outside self.now width value.now then Err CopySource
+            else Ok tt) }
+        ensures bytes { IfOk result (λ done. (i : ℕ) → slice_index image.new i
+            ≡ (if nat_le index i && nat_lt i (index + width)
+            then value_byte self.now width value.now (i - index) (slice_index image.old i)
+            else slice_index image.old i)) }
+        ensures same { IfErr result (λ error. image.new ≡ image.old) }
+    {
+        if let Value::Copy { object, offset, .. } = *value {
+            return self.copy(image, index, width, object, offset);
+        }
+        if let Some(number) = value_number(self.places, self.of, value) {
+            write_number(self.order, image, index, width, number);
+        }
+        Ok(())
+    }
+
+    // Writes a word to an image that begins at `start`, and returns whether it has no number.
+    fn write_word(&self, start: u64, image: &mut [u8], word: &Word) -> Result<bool, LoadError>
+        requires page { 0 < self.now.page }
+        requires start { start ≡ start_at self.now self.now.of }
+        ensures len { length image.new ≡ length image.old }
+        ensures result { result ≡ write_word self.now (length image.old) word.now }
+        ensures bytes { IfOk result (λ lacks. (i : ℕ) → slice_index image.new i
+            ≡ word_byte self.now (start + i) (Ok word.now) (slice_index image.old i)) }
+        ensures same { IfErr result (λ error. image.new ≡ image.old) }
+    {
+        if word.width == 0 {
+            return Ok(has_no_number(&word.value));
+        }
+        let Some(index) = index_in(start, image.len(), word.address, word.width) else {
+            return Err(LoadError::WordAddress);
+        };
+        match self.write_value(image, index, word.width as usize, &word.value) {
+            Ok(()) => Ok(has_no_number(&word.value)),
+            Err(error) => Err(error),
+        }
+    }
+
+    // Writes the word of a relocation, and returns whether it has no number.
+    fn write_item(
+        &self,
+        own: &DynamicObject<'a, E>,
+        lazy: bool,
+        start: u64,
+        image: &mut [u8],
+        item: &Relocated<E>,
+    ) -> Result<bool, LoadError>
+        requires page { 0 < self.now.page }
+        requires start { start ≡ start_at self.now self.now.of }
+        ensures len { length image.new ≡ length image.old }
+        ensures result { result ≡ write_item E.fields self.now own.now lazy (length image.old) item.now }
+        ensures bytes { IfOk result (λ lacks. (i : ℕ) → slice_index image.new i
+            ≡ word_byte self.now (start + i) item.now.word (slice_index image.old i)) }
+        ensures same { IfErr result (λ error. image.new ≡ image.old) }
+    {
+        let word = item.word?;
+        if is_unresolved(own, lazy, item) {
+            return Err(LoadError::Unresolved);
+        }
+        self.write_word(start, image, &word)
+    }
+
+    // Writes words, and returns how many have no number.
+    fn write_words(
+        &self,
+        own: &DynamicObject<'a, E>,
+        lazy: bool,
+        words: Words<'s, 'a, E>,
+        image: &mut [u8],
+    ) -> Result<u64, LoadError>
+        requires page { 0 < self.now.page }
+        requires words { AreWordsFor self.now.objects.now own.now self.now.of lazy words }
+        ensures { IsWriting E.fields self.now own.now lazy (words_left words.entry) image.old
+            image.new result }
+    {
+        let start = self.start_at(self.of);
+        let mut count = 0u64;
+        for item in words {
+            match self.write_item(own, lazy, start, image, &item) {
+                Ok(lacks) => count = counted(count, lacks),
+                Err(error) => return Err(error),
+            }
+        }
+        Ok(count)
+    }
+
+    // Whether an image of this size is not that of an object, or there are not as many places or
+    // images as objects.
+    fn is_wrong_size(&self, own: &DynamicObject<'a, E>, len: usize) -> bool
+        requires { 0 < self.now.page }
+        ensures { result ≡ is_wrong_size self.now own.now len }
+    {
+        let file = own.file();
+        let table = file.program_table();
+        let start = u128::from(first_start(self.page, table));
+        let size = last_end(self.page, table).saturating_sub(start);
+        let count = self.objects.len();
+        len as u128 != size || self.places.len() != count || self.images.len() != count
+    }
+
+    // Writes the words of the own object to its image.
+    fn relocate(
+        &self,
+        scope: Scope<'s, 'a, E>,
+        own: &DynamicObject<'a, E>,
+        when: Binding,
+        image: &mut [u8],
+    ) -> Result<u64, LoadError>
+        requires page { 0 < self.now.page }
+        requires scope { scope_objects scope ≡ self.now.objects }
+        requires own { slice_get self.now.objects.now self.now.of ≡ Some own.now }
+        ensures { IsRelocation E.fields self.now own.now
+            (binds_lazily (view_entries (object_view own.now)) when) image.old image.new result }
+    {
+        if self.is_wrong_size(own, image.len()) {
+            return Err(LoadError::ImageSize);
+        }
+        match Words::new(scope, self.of, when) {
+            Ok(words) => self.write_words(own, binds_lazily(&own.view(), when), words, image),
+            Err(error) => Err(LoadError::Link(error)),
+        }
+    }
+}
+
+// Whether a relocation needs a symbol that no object has, and that is not weak.
+fn is_unresolved<E: LinkedSymbol>(
+    own: &DynamicObject<'_, E>,
+    lazy: bool,
+    item: &Relocated<E>,
+) -> bool
+    ensures { result ≡ is_unresolved E.fields own.now lazy item.now }
+{
+    let machine = own.file().header.pt2.machine().raw();
+    needs_symbol(machine, lazy, &item.relocation)
+        && matches!(item.bound, Ok(None))
+        && !is_weak(own, item.relocation.reference.symbol)
+}
+
+// Writes the words of the object at an index of a scope to its image.
+pub(crate) fn relocate<E: LinkedSymbol>(
+    scope: Scope<'_, '_, E>,
+    of: usize,
+    when: Binding,
+    page: u64,
+    places: &[Place],
+    others: &[&[u8]],
+    image: &mut [u8],
+) -> Result<u64, LoadError>
+    requires { 0 < page }
+    ensures { IsRelocationIn E.fields (scope_objects scope.entry) of when page places.entry others.entry
+        image.old image.new result }
+{
+    let objects = scope.objects();
+    let Some(own) = objects.get(of) else {
+        return Err(LoadError::Link(LinkError::ObjectIndex));
+    };
+    let sources = Sources {
+        objects,
+        page,
+        of,
+        order: own.file().byte_order(),
+        places,
+        images: others,
+    };
+    sources.relocate(scope, own, when, image)
+}
