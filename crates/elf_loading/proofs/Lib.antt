@@ -30,3 +30,4 @@ pub mod Marks
 pub mod ImageWord
 pub mod ImageChecks
 pub mod ImagePasses
+pub mod FileLoads

@@ -23,3 +23,4 @@ pub mod ImageTables
 pub mod ImageWords
 pub mod Relocate
 pub mod OneWord
+pub mod FileLoads

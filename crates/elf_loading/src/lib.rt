@@ -9,6 +9,7 @@
 mod bytes;
 mod error;
 mod file_check;
+mod file_loads;
 mod formulas;
 mod image_tables;
 mod image_words;
