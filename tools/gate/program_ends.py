@@ -242,7 +242,8 @@ LOAD.add("a refused file between others", "counter zeros.elf library.so", 1, PLA
 
 SIZE_USAGE = "elfsize [--segments | --symbols] <binary_path>.."
 SIZE_HELP = f"""usage: {SIZE_USAGE}
-Prints how many bytes of each file belong to which part, the largest first.
+Prints how many bytes of each file belong to which part, the largest first;
+after more than one file the bytes of all by kind of part.
 --segments  as if the file had no sections
 --symbols   bytes in sections by symbol; the line of a section is for the bytes in no symbol
 """

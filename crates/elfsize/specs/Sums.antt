@@ -49,3 +49,8 @@ with_sums one other = record {
   between = added one.between other.between;
   after = added one.after other.after;
 }
+
+-- the bytes of all kinds
+abbrev pub all_of : Sums → ℕ
+all_of sums = added (added (added (added (added (added sums.sections sums.segments) sums.elf_headers) sums.program_headers)
+    sums.section_headers) sums.between) sums.after

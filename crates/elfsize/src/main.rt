@@ -2,8 +2,9 @@
 //!
 //! `elfsize FILE..` writes for each file a line for each part that has bytes, the largest first: the
 //! number of bytes, their share, and the part. The last line is their sum, which is the size of the
-//! file. `--segments` before the files lists the parts of each file without its section header table.
-//! `--symbols` lists the bytes of sections by the symbol of `.symtab` that owns them.
+//! file. After more than one file it writes their bytes by kind of part. `--segments` before the
+//! files lists the parts of each file without its section header table. `--symbols` lists the bytes
+//! of sections by the symbol of `.symtab` that owns them.
 #![tactic(auto)]
 
 ghost use Rattle.std.specs.Prelude.{◌≡◌, ◌≤◌, IfErr, IfOk, Result};
@@ -38,7 +39,8 @@ mod view;
 
 const USAGE: &str = "usage: elfsize [--segments | --symbols] <binary_path>..";
 
-const HELP: &str = "Prints how many bytes of each file belong to which part, the largest first.
+const HELP: &str = "Prints how many bytes of each file belong to which part, the largest first;
+after more than one file the bytes of all by kind of part.
 --segments  as if the file had no sections
 --symbols   bytes in sections by symbol; the line of a section is for the bytes in no symbol";
 

@@ -1,7 +1,8 @@
 //! The bytes of files by kind of part.
 
 ghost use Rattle.std.specs.Prelude.{◌≡◌, IfOk, map, slice_index};
-ghost use Rattle.elfsize.specs.Sums.{AreInputSums, AreSums, kind_of, kind_run, sums_of, with_sums};
+ghost use Rattle.elfsize.specs.Sums.{AreInputSums, AreSums, all_of, kind_of, kind_run, sums_of};
+ghost use Rattle.elfsize.specs.Sums.{with_sums};
 
 use crate::parts::file_runs;
 use crate::totals::{Run, part_totals};
@@ -44,7 +45,9 @@ impl Sums {
     };
 
     // The bytes of all kinds.
-    fn all(&self) -> u128 {
+    fn all(&self) -> u128
+        ensures { result ≡ all_of self.now }
+    {
         self.sections
             .saturating_add(self.segments)
             .saturating_add(self.elf_headers)
