@@ -129,14 +129,15 @@ fn print_lines<'a, R: Read + Drop, W: Write + Drop>(
     let Some(input) = read_shown(alloc, view, file) else {
         return Err(Fault::Read { path });
     };
-    let Ok(sums) = input_sums(alloc, &input) else {
+    let bytes: &[u8] = &input;
+    let Ok(sums) = input_sums(alloc, bytes) else {
         return Err(Fault::Memory);
     };
     let lines = Lines {
         alloc,
         view,
         path,
-        input: &input,
+        input: bytes,
     };
     match write_buffered(alloc, &lines, out) {
         Ok(out) => Ok((out, sums)),

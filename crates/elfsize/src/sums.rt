@@ -1,8 +1,9 @@
 //! The bytes of files by kind of part.
 
-ghost use Rattle.std.specs.Prelude.{◌≡◌, IfOk, map, slice_index};
+ghost use Rattle.std.specs.Prelude.{◌≡◌, ◌<◌, ◌^◌, IfOk, map, slice_index};
 ghost use Rattle.elfsize.specs.Sums.{AreInputSums, AreSums, all_of, kind_of, kind_run, sums_of};
 ghost use Rattle.elfsize.specs.Sums.{with_sums};
+ghost use Rattle.elfsize.specs.Totals.{AreTotals, all_bytes};
 
 use crate::parts::file_runs;
 use crate::totals::{Run, part_totals};
@@ -88,8 +89,9 @@ impl Display for Sums {
 }
 
 /// The sums of the file that these bytes are; any, if they are none.
+#[tactic(auto, using(crate::proofs::KindRuns::input_sums_are, crate::proofs::KindRuns::no_input_sums))]
 pub fn input_sums(alloc: Global, input: &[u8]) -> Result<Sums, AllocError>
-    ensures { IfOk result (λ sums. AreInputSums input sums) }
+    ensures { IfOk result (λ sums. AreInputSums input.entry sums) }
 {
     match ElfFile::new(input) {
         Ok(file) => file_sums(alloc, &file),
@@ -98,16 +100,25 @@ pub fn input_sums(alloc: Global, input: &[u8]) -> Result<Sums, AllocError>
 }
 
 // The sums of a file.
-#[tactic(auto, using(crate::proofs::KindRuns::kinds_small, crate::proofs::KindRuns::kinds_bytes))]
+#[tactic(auto, using(crate::proofs::KindRuns::sums_are))]
 fn file_sums(alloc: Global, file: &ElfFile<'_>) -> Result<Sums, AllocError>
     ensures { IfOk result (λ sums. AreSums file.now sums) }
 {
     // This tells the proof that the length is a number of 64 bits.
     let _len = file.input.len();
     let runs = file_runs(alloc, file)?;
-    let kinds = kind_runs(alloc, &runs)?;
-    let totals = part_totals(alloc, &kinds, KINDS)?;
+    let totals = kind_totals(alloc, &runs)?;
     Ok(sums_of(&totals))
+}
+
+// The number of bytes of each kind in runs.
+#[tactic(auto, using(crate::proofs::KindRuns::kinds_small, crate::proofs::KindRuns::kinds_bytes))]
+fn kind_totals(alloc: Global, runs: &[Run]) -> Result<Vec<u64>, AllocError>
+    requires { all_bytes runs.now < 2 ^ 64 }
+    ensures { IfOk result (λ totals. AreTotals (map kind_run runs.now) totals.items) }
+{
+    let kinds = kind_runs(alloc, runs)?;
+    part_totals(alloc, &kinds, KINDS)
 }
 
 // The runs with the kinds of their parts.
