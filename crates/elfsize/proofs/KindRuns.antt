@@ -4,6 +4,7 @@ use Rattle.std.specs.List.{All}
 use Rattle.std.proofs.Math.Nat.{min-le_right}
 use Rattle.std.proofs.lemmas.List.{map_more}
 use Rattle.std.proofs.lemmas.List.Elements.{All-map}
+use Rattle.std.proofs.lemmas.List.Sums.{sum_by-cons}
 use Rattle.std.specs.Borrow.{Bor}
 use Rattle.std.specs.Prelude.{IfOk}
 use Rattle.elf_base.specs.FileHeader.{header_of}
@@ -28,7 +29,9 @@ kinds_small runs =
 -- the bytes are the same
 pub kinds_bytes : (runs : List Run) → all_bytes (map kind_run runs) ≡ all_bytes runs
 kinds_bytes [] = refl
-kinds_bytes (run ∷ runs) = ap (λ n. run.size + n) (kinds_bytes runs)
+kinds_bytes (run ∷ runs) =
+    sum_by-cons (λ (one : Run). one.size) (kind_run run) (map kind_run runs)
+    ∙ (ap (λ n. run.size + n) (kinds_bytes runs) ∙ sym (sum_by-cons (λ (one : Run). one.size) run runs))
 
 pub one_more_kind : (runs : List Run) (index : ℕ) (item : Run) → index < length runs → item ≡ get_or runs index item → map kind_run (take index runs) ++ (kind_run item ∷ []) ≡ map kind_run (take (index + 1) runs)
 one_more_kind runs index item below is =

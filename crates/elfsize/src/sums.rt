@@ -112,7 +112,6 @@ fn file_sums(alloc: Global, file: &ElfFile<'_>) -> Result<Sums, AllocError>
 }
 
 // The number of bytes of each kind in runs.
-#[tactic(auto, using(crate::proofs::KindRuns::kinds_small, crate::proofs::KindRuns::kinds_bytes))]
 fn kind_totals(alloc: Global, runs: &[Run]) -> Result<Vec<u64>, AllocError>
     requires { all_bytes runs.now < 2 ^ 64 }
     ensures { IfOk result (λ totals. AreTotals (map kind_run runs.now) totals.items) }
