@@ -1,5 +1,5 @@
 -- The runs of a file by the kinds of their parts.
-use Rattle.std.proofs.Common.{◌≡◌, ℕ, ◌+◌, ◌<◌, ◌≤◌, ◌/◌, ◌%◌, ◌==◌, Bool, true, false, List, [], ◌∷◌, ◌++◌, length, get_or, take, map, min, if◌then◌else◌, Result, Ok, Err, refl, ap, subst, sym, ◌∙◌, arith}
+use Rattle.std.proofs.Common.{◌≡◌, ℕ, ◌+◌, ◌<◌, ◌/◌, ◌%◌, ◌==◌, Bool, true, false, List, [], ◌∷◌, ◌++◌, length, get_or, take, map, min, if◌then◌else◌, Result, Ok, Err, refl, ap, subst, sym, ◌∙◌, arith}
 use Rattle.std.specs.List.{All}
 use Rattle.std.proofs.Math.Nat.{min-le_right}
 use Rattle.std.proofs.lemmas.List.{map_more}
@@ -9,7 +9,7 @@ use Rattle.std.specs.Borrow.{Bor}
 use Rattle.std.specs.Prelude.{IfOk}
 use Rattle.elf_base.specs.FileHeader.{header_of}
 use Rattle.elfsize.specs.Parts.{AreRuns}
-use Rattle.elfsize.specs.Sums.{AreInputSums, AreSums, kind_of, kind_run, sums_of}
+use Rattle.elfsize.specs.Sums.{AreInputSums, AreSums, kind_run, sums_of}
 use Rattle.elfsize.specs.Totals.{AreTotals, all_bytes}
 use Rattle.elfsize.specs.declared.sums.Sums.{Sums}
 use Rattle.elfsize.specs.declared.totals.Run.{Run}

@@ -1,5 +1,5 @@
 -- The bytes of files by kind of part (this project's own).
-use Rattle.std.specs.Prelude.{◌≡◌, ℕ, ◌+◌, ◌-◌, ◌/◌, ◌%◌, ◌==◌, ◌^◌, List, Result, Ok, Err, IfOk, if◌then◌else◌, map, min, slice_index}
+use Rattle.std.specs.Prelude.{◌≡◌, ℕ, ◌+◌, ◌-◌, ◌/◌, ◌%◌, ◌==◌, ◌^◌, List, IfOk, if◌then◌else◌, map, min, slice_index}
 use Rattle.std.specs.Borrow.{Bor}
 use Rattle.elf_base.specs.FileHeader.{header_of}
 use Rattle.elfsize.specs.Parts.{AreRuns}
