@@ -65,6 +65,8 @@ ORACLES = {
         (built("elfbind"), "llvm-readelf")),
     "loads": Oracle(["/usr/bin", "/usr/sbin", "--damaged", "4000"], ["/usr/bin/readelf", "/usr/bin/python3", "--damaged", "60"],
         (built("elfload"), "readelf", "llvm-readelf")),
+    "memory": Oracle(["/usr/bin", "/usr/sbin"], ["/usr/bin/readelf", "/usr/bin/python3"],
+        (built("elfload"), "readelf", "llvm-readelf")),
     "fuzz_bindings": Oracle(["--seed", "1", "--count", "2500"], ["--seed", "1", "--count", "100"],
         (built("elfbind"), built("elfsym"), "gcc")),
     "rust": Oracle([*FROM, "--damaged", "1", "--worked", "2000", "/usr/bin", "/usr/lib"], [*FROM, "--worked", "40", *LIBRARIES[:1]],

@@ -46,9 +46,9 @@ LONGEST = 2.0
 LINE = re.compile(r"^([0-9a-f]+)-([0-9a-f]+) (...)p ([0-9a-f]+) (file|zero|none)$")
 MAPPED = re.compile(r"^([0-9a-f]+)-([0-9a-f]+) (...). ([0-9a-f]+) \S+ \d+ *(.*)$")
 
-# Requests of ptrace, and the call mprotect of x86-64 with PROT_READ.
+# Requests of ptrace, and the call mprotect of x86-64 and of 386 with PROT_READ.
 TRACE_ME, WRITE_WORD, CONTINUE, REGISTERS, STEP_TO_CALL = 0, 5, 7, 12, 24
-MPROTECT, READ_ALONE = 10, 1
+MPROTECT, NARROW_MPROTECT, READ_ALONE = 10, 125, 1
 # The places of registers in user_regs_struct of x86-64.
 THIRD, NUMBER = 12, 15
 
@@ -92,6 +92,8 @@ def plan_of(text: str) -> Plan:
     """Takes what elfload prints of a file apart."""
     heads, by, lines = {}, {}, None
     for line in text.split("\n")[1:-1]:
+        if line.startswith("words "):
+            break
         if line in ("kernel", "glibc"):
             lines = by.setdefault(line, [])
         elif lines is None:
@@ -109,6 +111,12 @@ def said_of(elfload: str, path: str) -> Tuple[Finished, Optional[Plan]]:
     return done, plan_of(done.output) if done.status == 0 else None
 
 
+def is_narrow(path: str) -> bool:
+    """Whether a file is of class 32."""
+    with open(path, "rb") as file:
+        return file.read(5)[4:] == b"\x01"
+
+
 class Stopped:
     """A process that is stopped at exec."""
 
@@ -116,6 +124,7 @@ class Stopped:
         self.libc = ctypes.CDLL(None, use_errno=True)
         self.libc.ptrace.restype, self.libc.ptrace.argtypes = ctypes.c_long, [ctypes.c_long, ctypes.c_long, ctypes.c_void_p, ctypes.c_void_p]
         reader, writer = os.pipe()
+        self.is_narrow = is_narrow(path)
         self.pid = os.fork()
         if not self.pid:
             os.dup2(writer, 2)
@@ -158,7 +167,7 @@ class Stopped:
             if self.signal() != signal.SIGTRAP:
                 return False
             held = self.registers()
-            if held[NUMBER] == MPROTECT and held[THIRD] == READ_ALONE:
+            if held[NUMBER] == (NARROW_MPROTECT if self.is_narrow else MPROTECT) and held[THIRD] == READ_ALONE:
                 return True
         return False
 
@@ -193,7 +202,7 @@ class Stopped:
     def auxiliary(self, kind: int) -> int:
         """An entry of the auxiliary vector, as 7, AT_BASE."""
         held = Path(f"/proc/{self.pid}/auxv").read_bytes()
-        return dict(struct.iter_unpack("<QQ", held)).get(kind, 0)
+        return dict(struct.iter_unpack("<II" if self.is_narrow else "<QQ", held)).get(kind, 0)
 
     def end(self) -> str:
         """Ends the process, and returns what it has said."""

@@ -3,7 +3,7 @@
 
 Over some files and each build of a program, until a run makes no more such calls. With memory refused it says that it cannot read
 its arguments, then that it cannot read the file, then that memory is short; with a read failed that it cannot read the file;
-each with status 1 and without output. With a write failed it ends with 1, and what was written before is the front of the
+each with status 1 and without output, but for what elfload has written before it asks for more memory. With a write failed it ends with 1, and what was written before is the front of the
 output, whether the next write works again or all fail. The last run is as if nothing failed. The runs make as few reads and
 writes as they like, or a few bytes each. A library made by gcc stands before the C library's calls. Run it at the top of the
 repository, once the programs are built: tools/gate/little_memory.py [PROGRAM..]
@@ -17,7 +17,8 @@ import sys
 import tempfile
 
 import program_ends
-from program_ends import ASKED, COUNTER, COUNTER_PLAN, LINKED, PLACES, PLACES_SIZES, PLACES_SYMBOLS, REPORT, STRTAB, SYMBOLS, builds_of, data
+from program_ends import (
+    ASKED, COUNTER, COUNTER_ALONE, COUNTER_PLAN, LINKED, PLACES, PLACES_SIZES, PLACES_SYMBOLS, REPORT, STRTAB, SYMBOLS, builds_of, data)
 
 FIRST = data("elfbind/data/libfirst.so")
 # What this library alone is bound to, as `readelf -rsW` says of it before its section headers are cut off.
@@ -26,9 +27,9 @@ FIRST_LINES = "".join(f"a.elf {line}\n" for line in (
     "own@V1 -> a.elf 0x4e3", "own@V1 -> a.elf 0x4e3", "choose@V1 -> a.elf 0x4f5"))
 
 
-class Program(collections.namedtuple("Program", "name words files first few options", defaults=[()])):
+class Program(collections.namedtuple("Program", "name words files first few options begun", defaults=[(), (b"",)])):
     """A program: its words behind the path of the file, the files, the output that is wanted of the first, how many bytes a
-    read and a write takes where it takes few, and its options."""
+    read and a write takes where it takes few, its options, and what it may have written where memory is short."""
 
     def texts(self) -> list:
         """What it says where it can't read its arguments, can't read the file, lacks memory, and can't write."""
@@ -39,6 +40,7 @@ class Program(collections.namedtuple("Program", "name words files first few opti
 SYMBOLS_SIZES = PLACES_SYMBOLS.replace("places.so", "a.elf").encode()
 FILES = {"a string table": STRTAB, "links": data("elfanswers/data/notes-64.elf"),
     "a hash table": data("elfanswers/data/dynamic-64.elf"), "three bytes": STRTAB[:3]}
+OWN_PLAN = COUNTER_PLAN.replace(b"counter", b"a.elf")
 PROGRAMS = [
     Program("elfinfo", [], FILES, REPORT, (20, 300)),
     Program("elfsym", ASKED, {"a hash table": LINKED, "three bytes": LINKED[:3]}, SYMBOLS, (20, 16)),
@@ -46,7 +48,9 @@ PROGRAMS = [
     Program("elfbind", [], {"a library": FIRST, "three bytes": FIRST[:3]}, FIRST_LINES.encode(), (40, 4)),
     Program("elfsize", [], {"symbols": PLACES, "three bytes": PLACES[:3]}, PLACES_SIZES.replace(b"places.so", b"a.elf"), (60, 16)),
     Program("elfsize", [], {"symbols of sections": PLACES, "three bytes": PLACES[:3]}, SYMBOLS_SIZES, (60, 16), ("--symbols",)),
-    Program("elfload", [], {"a program": COUNTER, "three bytes": COUNTER[:3]}, COUNTER_PLAN.replace(b"counter", b"a.elf"), (60, 16)),
+    # It writes a plan before it asks for memory for the words; the size of its writes divides that of the plan, 275.
+    Program("elfload", [], {"a program": COUNTER, "three bytes": COUNTER[:3]}, COUNTER_ALONE.replace(b"counter", b"a.elf"),
+        (60, 25), (), (b"", OWN_PLAN)),
 ]
 
 # More calls of a kind than the program makes.
@@ -104,15 +108,16 @@ def run(built, program, room, **failing):
     return tuple(program_ends.run(built, words, room, env={"LD_PRELOAD": f"{room}/failing.so", **failed}))
 
 
-def is_well(kind, end, whole, texts, before):
+def is_well(kind, end, whole, texts, before, begun):
     """Whether a run with such a call failed may end so, where the whole one ends with `whole`.
 
-    `before` is how much was written before a write that failed, if each takes so few bytes.
+    `before` is how much was written before a write that failed, if each takes so few bytes, and `begun` what may have been
+    written where memory is short.
     """
     status, output, said = end
     _, read, _, write = texts
     if kind == "FAIL_MEMORY":
-        return status == 1 and output == b"" and said in texts[:3]
+        return status == 1 and output in begun and said in texts[:3]
     if kind == "FAIL_READ":
         return end == (1, b"", read)
     if whole[0] == 0:
@@ -131,7 +136,7 @@ def unlike(built, program, room, name) -> int:
         runs = (run(built, program, room, **{kind: number}, **few) for number in range(1, MOST))
         ends = list(itertools.takewhile(lambda end: end != whole, runs))
         before = lambda at: at * program.few[1] if is_few else None
-        wrong = [end for at, end in enumerate(ends) if not is_well(kind, end, whole, texts, before(at))]
+        wrong = [end for at, end in enumerate(ends) if not is_well(kind, end, whole, texts, before(at), program.begun)]
         said = [texts.index(it[2]) for it in ends if it not in wrong and kind == "FAIL_MEMORY"]
         # A refused file has no output that could fail.
         is_tried = ends or (kind == "FAIL_OUTPUT" and whole[0])

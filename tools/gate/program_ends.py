@@ -38,6 +38,8 @@ PLACES_SIZES = SIZES[: SIZES.index(b"counter\n")]
 COUNTER_SIZES = SIZES[len(PLACES_SIZES) : SIZES.index(b"all files\n")]
 COUNTER, PLANS = data("elfload/data/counter"), data("elfload/stdout")
 COUNTER_PLAN = PLANS[: PLANS.index(b"library.so\n")]
+# The symbol of its slot is in the library.
+COUNTER_ALONE = COUNTER_PLAN + b"words counter\nword 0x1ff8 8 JUMP_SLOT = 0x0\n"
 
 # A program as LLVM builds it, and as Rattle's own compiler does.
 BUILDS = ("", ".by-rattle")
@@ -88,7 +90,8 @@ FILES = {
     "counter": COUNTER, "library.so": data("elfload/data/library.so"),
     "arm.elf": with_number(COUNTER, 18, 2, 40), "aarch64.elf": with_number(COUNTER, 18, 2, 183),
     "type.elf": with_number(COUNTER, 16, 2, 1), "interpreter.elf": with_number(COUNTER, 64 + 56 + 32, 8, 5000),
-    "shut.elf": with_number(COUNTER, 64 + 3 * 56 + 4, 4, 4)}
+    "shut.elf": with_number(COUNTER, 64 + 3 * 56 + 4, 4, 4), "static.elf": with_number(COUNTER, 64 + 4 * 56, 4, 0),
+    "word.elf": with_number(COUNTER, 0x288, 8, 0x200)}
 
 # What is said of an argument that can't be read, whatever the program, and of two files that are refused.
 UNREAD = {
@@ -214,31 +217,97 @@ BIND.add("references that get no symbol", "libsecond.so", 1, "libsecond.so only 
 BIND.add("such a table to check", f"--check {CHAINED} caller", 1, f"{CHAINED}: Chain index is out of range\ncaller: ok\n")
 BIND.add("such definitions to check", "--check cut.so", 1, "cut.so: Version record is cut off\n")
 
-LOAD_USAGE = "elfload [--page <size>] <binary_path>.."
+LOAD_USAGE = "elfload [--lazy] [--page <size>] <binary_path>.."
+PLANS_ALONE = PLANS[: PLANS.index(b"words ")]
 # In pages of 16 KB the library takes more room, and its parts lie in others.
 LIBRARY_HEAD = PLANS[PLANS.index(b"library.so\n") : PLANS.rindex(b"kernel\n")]
 PAGES_HEAD = LIBRARY_HEAD.replace(b"span 0-a000", b"span 0-c000").replace(b"relro 7000-8000", b"relro 4000-8000")
 PAGES_MAPS = b"0-4000 r-xp 0 file\n4000-c000 rw-p 0 file\n"
+LIBRARY_WORDS = PLANS[PLANS.index(b"words library.so\n") :].replace(b"base(1)", b"base(0)")
+
+
+def plan_text(path: str, width: int, kind: int, machine: int, entry: str, span: str, tls: str, interpreter: str, maps: str) -> str:
+    """The plan of a file without relro, whose pages are the same for both loaders."""
+    head = f"{path}\nclass {width}\ntype {kind}\nmachine {machine}\nentry {entry}\nspan {span}\nrelro none\ntls {tls}\nstack rw-\n"
+    return f"{head}interpreter {interpreter}\nkernel\n{maps}glibc\n{maps}"
+
+
+# The program and its libraries in crates/elfbind/data, by what `readelf -hlW` shows; the words are by `readelf -rDW` and `-sDW`,
+# and by the symbols in crates/elfbind/stdout. Lazy slots hold the word in the file.
+CALLER_PLAN = plan_text("caller", 64, 2, 62, "400406", "400000-402000", "none", "/lib64/ld-linux-x86-64.so.2",
+    "400000-401000 r-xp 0 file\n401000-402000 rw-p 0 file\n")
+LIBRARY_MAPS = "0-1000 r-xp 0 file\n1000-2000 rw-p 0 file\n"
+BOUND_PLANS = (CALLER_PLAN + plan_text("libfirst.so", 64, 3, 62, "0", "0-2000", "1528 8 8 4", "none", LIBRARY_MAPS)
+    + plan_text("libsecond.so", 64, 3, 62, "0", "0-2000", "14f8 0 4 4", "none", LIBRARY_MAPS))
+NARROW_PLAN = plan_text("caller_32", 32, 2, 3, "80482c6", "8048000-804a000", "none", "/lib/ld-linux.so.2",
+    "8048000-8049000 r-xp 0 file\n8049000-804a000 rw-p 0 file\n")
+BOUND_WORDS = """words caller
+word 0x401608 4 COPY = copy(1, 0x16d4, 4)
+word 0x4015e8 8 JUMP_SLOT = base(1) + 0x4e9
+word 0x4015f0 8 JUMP_SLOT = base(1) + 0x4fb
+word 0x4015f8 8 JUMP_SLOT = base(1) + 0x4ef
+word 0x401600 8 JUMP_SLOT = base(1) + 0x4f5
+words libfirst.so
+word 0x16e8 8 RELATIVE = base(1) + 0x4dd
+word 0x1690 8 DTPMOD64 = module(1)
+word 0x1698 8 DTPOFF64 = 0x4
+word 0x16a0 8 GLOB_DAT = base(0) + 0x401608
+word 0x16e0 8 64 = base(1) + 0x4d7
+word 0x16f0 8 64 = base(0) + 0x400400
+word 0x16c0 8 JUMP_SLOT = base(0) + 0x400400
+word 0x16c8 8 JUMP_SLOT = base(1) + 0x4f5
+words libsecond.so
+word 0x1668 8 GLOB_DAT = base(2) + 0x16d0
+word 0x1670 8 TPOFF64 = thread(1) + 0x0
+word 0x1678 8 GLOB_DAT = 0x0
+word 0x16e0 8 64 = base(0) + 0x4003d0
+word 0x16f0 8 64 = base(0) + 0x40160c
+word 0x16f8 8 64 = base(0) + 0x401604
+word 0x16a0 8 JUMP_SLOT = base(1) + 0x4e9
+word 0x16a8 8 JUMP_SLOT = base(1) + 0x4fb
+word 0x16b0 16 TLSDESC = descriptor(2, 0x0)
+word 0x16c0 16 TLSDESC = descriptor(1, 0x4)
+"""
+LAZY_WORDS = BOUND_WORDS
+for place, now, lazy in (
+        ("4015e8", "1) + 0x4e9", "0) + 0x4003c6"), ("4015f0", "1) + 0x4fb", "0) + 0x4003d6"),
+        ("4015f8", "1) + 0x4ef", "0) + 0x4003e6"), ("401600", "1) + 0x4f5", "0) + 0x4003f6"),
+        ("16c0", "0) + 0x400400", "1) + 0x4b6"), ("16c8", "1) + 0x4f5", "1) + 0x4c6"),
+        ("16a0", "1) + 0x4e9", "2) + 0x456"), ("16a8", "1) + 0x4fb", "2) + 0x466")):
+    LAZY_WORDS = LAZY_WORDS.replace(f"{place} 8 JUMP_SLOT = base({now}\n", f"{place} 8 JUMP_SLOT = base({lazy}\n")
 LOAD_HELP = f"""usage: {LOAD_USAGE}
-Prints the header of each file, what else a loader asks for, and what Linux (kernel) and glibc map.
+Prints the header of each file, what else a loader asks for, and what Linux (kernel) and glibc map;
+then, if each has a dynamic segment, what relocations write, for a program and its libraries in the order in which they are loaded.
+--lazy         jump slots get their symbols when they are called first
 --page <size>  the size of a page in bytes, a power of two; 4096 without it
 """
-LOAD = Program("elfload", LOAD_USAGE, [], ["counter"], COUNTER_PLAN, COUNTER)
+LOAD = Program("elfload", LOAD_USAGE, [], ["counter"], COUNTER_ALONE, COUNTER)
 LOAD.misused({
     "no size of a page": "--page", "no file after a size": "--page 4096", "a size that is zero": "--page 0 counter",
+    "no file after a word": "--lazy",
     "a size that is no power of two": "--page 4097 counter", "a size that is no number": "--page 0x1000 counter"})
 LOAD.prints({
     "help": ("--help", LOAD_HELP), "two files": ("counter library.so", PLANS),
-    "pages of 16 kb": ("--page 16384 library.so", PAGES_HEAD + b"kernel\n" + PAGES_MAPS + b"glibc\n" + PAGES_MAPS),
-    "a file for aarch64": ("aarch64.elf", COUNTER_PLAN.replace(b"counter", b"aarch64.elf").replace(b"machine 62", b"machine 183"))})
+    "words of a program and its libraries": (WIDE_BOUND, BOUND_PLANS + BOUND_WORDS),
+    "words with lazy slots": (f"--lazy {WIDE_BOUND}", BOUND_PLANS + LAZY_WORDS),
+    "slots of files that ask for their symbols at once": ("--lazy --page 4096 counter library.so", PLANS),
+    "a file without a dynamic segment": ("counter static.elf", COUNTER_PLAN + COUNTER_PLAN.replace(b"counter", b"static.elf")),
+    "pages of 16 kb": ("--page 16384 library.so", PAGES_HEAD + b"kernel\n" + PAGES_MAPS + b"glibc\n" + PAGES_MAPS + LIBRARY_WORDS)})
 LOAD.fails({
+    "a missing second file": ("counter missing.so", "cannot read missing.so"),
     "pages larger than a file is linked for": (
         "--page 16384 counter", "counter: Address and offset of a load segment differ modulo the page size"),
     "a machine without a limit": ("arm.elf", "arm.elf: Limit of addresses is not known for this machine"),
     "a file that is no program": ("type.elf", "type.elf: Type is neither executable nor shared object"),
     "a long path of an interpreter": ("interpreter.elf", "interpreter.elf: Path of the interpreter is not valid"),
     "zeros that cannot be written": ("shut.elf", "shut.elf: Load segment has zeros but is not readable and writable")})
-LOAD.add("a refused file between others", "counter zeros.elf library.so", 1, PLANS, f"elfload: zeros.elf: {NO_MAGIC}\n")
+LOAD.add("a refused file between others", "counter zeros.elf library.so", 1, PLANS_ALONE, f"elfload: zeros.elf: {NO_MAGIC}\n")
+LOAD.add("files of both classes", "caller caller_32", 1, CALLER_PLAN + NARROW_PLAN, "elfload: caller_32: Class is neither 1 nor 2\n")
+# Its slot has a type that AArch64 does not have.
+LOAD.add("a file for aarch64", "aarch64.elf", 1, COUNTER_PLAN.replace(b"counter", b"aarch64.elf").replace(b"machine 62", b"machine 183"),
+    "elfload: aarch64.elf: Type of a relocation is not supported\n")
+LOAD.add("a word in pages that cannot be written", "word.elf", 1, COUNTER_PLAN.replace(b"counter", b"word.elf"),
+    "elfload: word.elf: Word is in a load segment that is not writable\n")
 
 SIZE_USAGE = "elfsize [--segments | --symbols] <binary_path>.."
 SIZE_HELP = f"""usage: {SIZE_USAGE}

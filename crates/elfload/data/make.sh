@@ -1,5 +1,6 @@
 # Makes a program and its library of class 64 by gcc 12.2 and GNU ld 2.40. What is loaded of them is in ../stdout, worked out
-# by hand from what `readelf -hlW` shows: both ends of a load segment in whole pages, and the bytes from its offset.
+# by hand from what `readelf -hlW` shows: both ends of a load segment in whole pages, and the bytes from its offset. The words
+# are from what `readelf -rDW` and `-sDW` show.
 set -e
 common="-Os -fcf-protection=none -fno-asynchronous-unwind-tables -fno-ident -nostdlib -s
     -Wl,--build-id=none,-z,noseparate-code,--hash-style=gnu"

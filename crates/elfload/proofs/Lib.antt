@@ -2,3 +2,11 @@ mod Inputs
 mod MappingLines
 mod Written
 mod Loaded
+pub mod Objects
+pub mod Stops
+pub mod Steps
+pub mod WordLines
+pub mod ObjectWords
+pub mod Checks
+pub mod WordsEnds
+pub mod Prefixes

@@ -1,9 +1,9 @@
 -- The program ends without a fault only for a file that would be loaded.
-use Rattle.std.proofs.Common.{◌≡◌, ℕ, List, Option, Some, None, Result, Ok, Err}
+use Rattle.std.proofs.Common.{◌≡◌, ℕ, List, Result, Ok, Err}
 use Rattle.std.specs.Borrow.{Bor}
 use Rattle.std.specs.Prelude.{IsOkAnd}
 use Rattle.elf_base.specs.FileHeader.{header_of}
-use Rattle.elfload.specs.Ends.{IsEnd, OfFile, status_of}
+use Rattle.elfload.specs.Ends.{IsEnd, status_of}
 use Rattle.elfload.specs.Plans.{IsFilePlan, IsInputLoaded, IsInputPlan, IsLoaded}
 use Rattle.elfload.specs.declared.Fault as faults
 use Rattle.xmas_elf.specs.Types.{ElfError, Header}
@@ -16,12 +16,7 @@ by_header page path input text (Err error) never = never
 input_loaded : (page : ℕ) (path input : Bor (List ℕ)) (text : List ℕ) → IsInputPlan page path input text → IsInputLoaded page input
 input_loaded page path input text planned = by_header page path input text (header_of input.now) planned
 
-file_loaded : {R : Type 0} (page : ℕ) (path : Bor (List ℕ)) (remaining : R → Option (List ℕ)) (file : Option R)
-    → OfFile remaining file (λ input. (text : List ℕ) × IsInputPlan page path input text) → OfFile remaining file (IsInputLoaded page)
-file_loaded page path remaining (Some reader) (input, known, (text, planned)) = (input, known, input_loaded page path input text planned)
-file_loaded page path remaining None never = never
-
-pub ended_loaded : {R : Type 0} (page : ℕ) (path : Bor (List ℕ)) (remaining : R → Option (List ℕ)) (file : Option R) (end : Result (Unit {0}) faults.Fault)
-    → IsEnd page path remaining file end → status_of end ≡ 0 → OfFile remaining file (IsInputLoaded page)
-ended_loaded page path remaining file (Ok done) is zero_is = file_loaded page path remaining file is
-ended_loaded page path remaining file (Err fault) is zero_is = absurd (cc)
+pub ended_loaded : (page : ℕ) (path input : Bor (List ℕ)) (end : Result (Unit {0}) faults.Fault)
+    → IsEnd page path input end → status_of end ≡ 0 → IsInputLoaded page input
+ended_loaded page path input (Ok done) is zero_is = input_loaded page path input is.0 is.1
+ended_loaded page path input (Err fault) is zero_is = absurd (cc)

@@ -1,32 +1,56 @@
 //! Prints what memory holds once files are loaded, as Linux maps programs and glibc libraries.
 //!
-//! `elfload FILE..` writes for each file its header, what else a loader asks for, and its mappings by
-//! both loaders, as they are in /proc/PID/maps, relative to the base. `--page SIZE` before the files
+//! `elfload FILE..` takes a program and its libraries, in the order in which they are loaded. It writes
+//! for each file its header, what else a loader asks for, and its mappings by both loaders, as they are
+//! in /proc/PID/maps, relative to the base. If each file has a dynamic segment, then it writes for
+//! each file the words that its relocations write, as `word 0xADDRESS WIDTH TYPE = VALUE`. `--lazy`
+//! before the files: jump slots get their symbols when they are called first. `--page SIZE` after this
 //! is the size of a page, 4096 without it.
 #![tactic(auto)]
 
-ghost use Rattle.std.specs.Prelude.{◌≡◌, ◌<◌, ◌≤◌, IfErr, IfOk, IfSome, Result};
-ghost use Rattle.elfload.specs.Ends.{IsBegun, IsEnd, IsFault, OfFile, fault_of, status_of};
+ghost use Rattle.std.specs.Prelude.{◌≡◌, ◌<◌, ◌≤◌, ◌⊎◌, [], Err, IfErr, IfOk, IfSome, List, MatchResult, Ok};
+ghost use Rattle.std.specs.Prelude.{OnOk, Result, length, ⊤};
+ghost use Rattle.std.specs.Io.Buffered.{writer_buffer, writer_inner};
+ghost use Rattle.elf_linking.specs.declared.object.DynamicObject.{DynamicObject};
+ghost use Rattle.elfload.specs.Ends.{AreRefused, IsBegun, IsEnd, IsFault, IsWordsEnd, fault_of};
+ghost use Rattle.elfload.specs.Ends.{status_of, words_fault_of};
+ghost use Rattle.elfload.specs.Files.{AreLoaded, AreObjectsOf, HasStatic, is_first_narrow};
+ghost use Rattle.elfload.specs.Images.{AreImagesGood, AreInputsChecked};
 ghost use Rattle.elfload.specs.Plans.{IsInputLoaded, IsInputPlan, IsInputRefused};
+ghost use Rattle.elfload.specs.Words.{AreWordsWritten, IsTextRefused};
 ghost use Rattle.elfload.specs.declared.Fault.{Fault};
 ghost use Rattle.program_ends.specs.Appended.{AppendsSome};
+ghost use Rattle.program_ends.specs.Stops.{IsStop};
 
+use crate::files::{Input, Refused, all_dynamic, is_first_narrow, read_objects};
+use crate::images::check_images;
 use crate::plans::{Plan, Refusal};
+use crate::words::write_words;
+use elf_base::bytes::Record;
+use elf_linking::DynamicObject;
+use elf_linking::view::LinkedSymbol;
+use elf_loading::Binding;
 use program_ends::{Stop, read_whole, say, write_buffered};
 use std::alloc::Global;
 use std::convert::AsStr;
 use std::fs::File;
-use std::io::{Read, Write};
+use std::io::{BufWriter, Write};
 use std::process::ExitCode;
 use std::{env, io};
 use thiserror::Error;
+use xmas_elf::symbol_table::{DynEntry32, DynEntry64};
 
+mod files;
+mod images;
 mod plans;
+mod words;
 
-const USAGE: &str = "usage: elfload [--page <size>] <binary_path>..";
+const USAGE: &str = "usage: elfload [--lazy] [--page <size>] <binary_path>..";
 
 const HELP: &str =
-    "Prints the header of each file, what else a loader asks for, and what Linux (kernel) and glibc map.
+    "Prints the header of each file, what else a loader asks for, and what Linux (kernel) and glibc map;
+then, if each has a dynamic segment, what relocations write, for a program and its libraries in the order in which they are loaded.
+--lazy         jump slots get their symbols when they are called first
 --page <size>  the size of a page in bytes, a power of two; 4096 without it";
 
 /// Why the program ends with status 1, and what it says then.
@@ -34,7 +58,7 @@ const HELP: &str =
 enum Fault<'a> {
     #[error("elfload: cannot read the arguments")]
     Arguments,
-    #[error("usage: elfload [--page <size>] <binary_path>..")]
+    #[error("usage: elfload [--lazy] [--page <size>] <binary_path>..")]
     Usage,
     #[error("elfload: cannot read {path}")]
     Read { path: &'a str },
@@ -46,75 +70,134 @@ enum Fault<'a> {
     Memory,
 }
 
-/// Writes the plan of a file to `out`, with pages of a size, or the reason why it can't to `err`,
-/// and returns the exit status.
+/// What is asked for.
+#[derive(Clone, Copy, Drop)]
+pub struct Options {
+    /// The size of a page.
+    pub page: u64,
+    /// When jump slots get their symbols.
+    pub when: Binding,
+}
+
+/// Writes the plan of each file to `out` and, if each has a dynamic segment, the words of each, or
+/// the reasons why it can't to `err`, and returns the exit status.
 ///
-/// `file` is `None` where the path does not open. The status is 0 once all is written and flushed,
-/// and 1 otherwise. By the contract it is 0 only for a file that Linux and glibc would load. The
-/// contract says which fault there can be otherwise: the reason why the file has no plan; a write
-/// that failed, if it has one; that the file can't be read; or that memory is short. It says nothing
-/// of what `out` and `err` hold.
-#[tactic(auto, using(crate::proofs::Loaded::ended_loaded))]
-pub fn run<R: Read + Drop, W: Write, E: Write>(
+/// The status is 0 once all is written and flushed, and 1 otherwise. By the contract it is 0 only if
+/// Linux and glibc would load each file, and if, where each has a dynamic segment, the checks of the
+/// symbols and of the images of all files pass. The contracts of `run_plan` and `run_words` say which
+/// fault there can be otherwise. None says what `out` and `err` hold.
+pub fn run<W: Write, E: Write>(
+    alloc: Global,
+    asked: Options,
+    inputs: &[Input<'_>],
+    out: &mut W,
+    err: &mut E,
+) -> u8
+    requires { 0 < asked.page }
+    ensures bound { result ≤ 1 }
+    ensures loaded { result ≡ 0 → AreLoaded asked.page inputs.now }
+    ensures checked { result ≡ 0 → HasStatic inputs.now
+        ⊎ AreImagesGood ⟦<DynEntry32 as Record>⟧ ⟦<DynEntry64 as Record>⟧ inputs.now }
+{
+    let status = run_plans(alloc, asked.page, inputs, out, err);
+    if status != 0 {
+        return status;
+    }
+    if !all_dynamic(inputs) {
+        return 0;
+    }
+    run_words(alloc, asked, inputs, out, err)
+}
+
+// The plans of all files, and the status: 1 if that of one is.
+fn run_plans<W: Write, E: Write>(
     alloc: Global,
     page: u64,
-    path: &str,
-    file: Option<R>,
+    inputs: &[Input<'_>],
     out: &mut W,
     err: &mut E,
 ) -> u8
     requires { 0 < page }
     ensures bound { result ≤ 1 }
-    ensures loaded { result ≡ 0 → OfFile R.remaining file (IsInputLoaded page) }
-    ensures ends { (end : Result (Unit {0}) Fault)
-        × IsEnd page path.entry R.remaining file end × (result ≡ status_of end) }
+    ensures loaded { result ≡ 0 → AreLoaded page inputs.now }
 {
-    match answer(alloc, page, path, file, out) {
+    let mut status = 0;
+    for input in inputs {
+        let own = run_plan(alloc, page, input.path, &input.bytes, out, err);
+        status = worse(own, status);
+    }
+    status
+}
+
+// The greater of two statuses.
+fn worse(one: u8, other: u8) -> u8
+    ensures one { one ≤ result }
+    ensures other { other ≤ result }
+    ensures bound { one ≤ 1 → other ≤ 1 → result ≤ 1 }
+{
+    one.max(other)
+}
+
+/// Writes the plan of a file to `out`, with pages of a size, or the reason why it can't to `err`,
+/// and returns the exit status.
+///
+/// The status is 0 once all is written and flushed, and 1 otherwise. By the contract it is 0 only for
+/// a file that Linux and glibc would load. The contract says which fault there can be otherwise: the
+/// reason why the file has no plan; a write that failed, if it has one; or that memory is short. It
+/// says nothing of what `out` and `err` hold.
+#[tactic(auto, using(crate::proofs::Loaded::ended_loaded))]
+pub fn run_plan<W: Write, E: Write>(
+    alloc: Global,
+    page: u64,
+    path: &str,
+    input: &[u8],
+    out: &mut W,
+    err: &mut E,
+) -> u8
+    requires { 0 < page }
+    ensures bound { result ≤ 1 }
+    ensures loaded { result ≡ 0 → IsInputLoaded page input.entry }
+    ensures ends { (end : Result (Unit {0}) Fault)
+        × IsEnd page path.entry input.entry end × (result ≡ status_of end) }
+{
+    match answer(alloc, page, path, input, out) {
         Ok(()) => 0,
         Err(fault) => say(&fault, err),
     }
 }
 
-// Reads the file whole, and writes its plan.
-fn answer<'a, R: Read + Drop, W: Write>(
+// Writes the plan of a file.
+fn answer<'a, W: Write>(
     alloc: Global,
     page: u64,
     path: &'a str,
-    file: Option<R>,
+    input: &[u8],
     out: &mut W,
 ) -> Result<(), Fault<'a>>
     requires { 0 < page }
-    ensures { IsEnd page path.entry R.remaining file result }
+    ensures { IsEnd page path.entry input.entry result }
 {
-    match print_plan(alloc, page, path, file, &mut *out) {
+    match print_plan(alloc, page, path, input, &mut *out) {
         Ok(_) => Ok(()),
         Err(fault) => Err(fault),
     }
 }
 
-// Writes the plan of the file that is all that the reader has left, and gives the writer back.
-fn print_plan<'a, R: Read + Drop, W: Write + Drop>(
+// Writes the plan of the file that these bytes are, and gives the writer back.
+fn print_plan<'a, W: Write + Drop>(
     alloc: Global,
     page: u64,
     path: &'a str,
-    file: Option<R>,
+    input: &[u8],
     out: W,
 ) -> Result<W, Fault<'a>>
     requires { 0 < page }
-    ensures written { IfOk result (λ back. OfFile R.remaining file (λ input.
-        AppendsSome (IsInputPlan page path.entry input) (W.contents out) (W.contents back))) }
-    ensures fault { IfErr result (IsFault path.entry
-        (λ refusal. OfFile R.remaining file (λ input. IsInputRefused page input refusal))
-        (OfFile R.remaining file (λ input. IsBegun page path.entry input))) }
+    ensures written { IfOk result (λ back. AppendsSome (IsInputPlan page path.entry input.entry)
+        (W.contents out) (W.contents back)) }
+    ensures fault { IfErr result (IsFault path.entry (IsInputRefused page input.entry)
+        (IsBegun page path.entry input.entry)) }
 {
-    let Some(input) = read_whole(alloc, file) else {
-        return Err(Fault::Read { path });
-    };
-    let plan = Plan {
-        path,
-        input: &input,
-        page,
-    };
+    let plan = Plan { path, input, page };
     match write_buffered(alloc, &plan, out) {
         Ok(out) => Ok(out),
         Err(stop) => Err(fault_of(stop, path)),
@@ -130,6 +213,154 @@ fn fault_of(stop: Stop<Refusal>, path: &str) -> Fault<'_>
         Stop::Write => Fault::Write,
         Stop::Memory => Fault::Memory,
     }
+}
+
+/// Writes the words of each file to `out`, or the reason why it can't to `err`, and returns the exit
+/// status.
+///
+/// The status is 0 once all is written and flushed, and 1 otherwise. By the contract it is 0 only if
+/// the checks of the symbols and of the images of all files pass. The contract says which fault there
+/// can be otherwise: a file has an error, which file and which error; a write failed, if all checks
+/// pass; or memory is short. It says nothing of what `out` and `err` hold.
+#[tactic(auto, using(crate::proofs::WordsEnds::ended_good))]
+pub fn run_words<W: Write, E: Write>(
+    alloc: Global,
+    asked: Options,
+    inputs: &[Input<'_>],
+    out: &mut W,
+    err: &mut E,
+) -> u8
+    requires { 0 < asked.page }
+    ensures bound { result ≤ 1 }
+    ensures checked { result ≡ 0
+        → AreImagesGood ⟦<DynEntry32 as Record>⟧ ⟦<DynEntry64 as Record>⟧ inputs.now }
+    ensures ends { (end : Result (Unit {0}) Fault)
+        × IsWordsEnd ⟦<DynEntry32 as Record>⟧ ⟦<DynEntry64 as Record>⟧ asked inputs.now end
+        × (result ≡ status_of end) }
+{
+    match print_words(alloc, asked, inputs, out) {
+        Ok(()) => 0,
+        Err(fault) => say(&fault, err),
+    }
+}
+
+// Writes the words of the files, by the class of the first.
+fn print_words<'a, W: Write>(
+    alloc: Global,
+    asked: Options,
+    inputs: &'a [Input<'_>],
+    out: &mut W,
+) -> Result<(), Fault<'a>>
+    requires { 0 < asked.page }
+    ensures { IsWordsEnd ⟦<DynEntry32 as Record>⟧ ⟦<DynEntry64 as Record>⟧ asked inputs.now result }
+{
+    if is_first_narrow(inputs) {
+        ended(print::<DynEntry32, _>(alloc, asked, inputs, &mut *out))
+    } else {
+        // A file of another class than 64 has an error there.
+        ended(print::<DynEntry64, _>(alloc, asked, inputs, &mut *out))
+    }
+}
+
+// What the program says, by how the output ended.
+fn ended<W: Drop>(written: Result<W, Stop<Refused<'_>>>) -> Result<(), Fault<'_>>
+    ensures { MatchResult written.entry (λ _. result ≡ Ok tt)
+        (λ stop. result ≡ Err (words_fault_of stop)) }
+{
+    match written {
+        Ok(_) => Ok(()),
+        Err(stop) => Err(words_fault_of(stop)),
+    }
+}
+
+// What the program says where the words aren't written to their end.
+fn words_fault_of(stop: Stop<Refused<'_>>) -> Fault<'_>
+    ensures { result ≡ words_fault_of stop.entry }
+{
+    match stop {
+        Stop::Refused(refused) => Fault::Refused {
+            path: refused.path,
+            refusal: Refusal::Load(refused.error),
+        },
+        Stop::Write => Fault::Write,
+        Stop::Memory => Fault::Memory,
+    }
+}
+
+// Writes the words of files of a class, and gives the writer back.
+fn print<'a, E: LinkedSymbol, W: Write + Drop>(
+    alloc: Global,
+    asked: Options,
+    inputs: &'a [Input<'_>],
+    out: W,
+) -> Result<W, Stop<Refused<'a>>>
+    requires { 0 < asked.page }
+    ensures checked { OnOk result
+        (AreInputsChecked {E = E} E.Record E.fields E.CLASS E.SIZE inputs.now) }
+    ensures written { IfOk result (λ back. (objects : List (DynamicObject E E.Record))
+        × AreObjectsOf E.CLASS E.SIZE inputs.now objects
+        × AppendsSome (AreWordsWritten E.fields asked.when inputs.now objects)
+        (W.contents out) (W.contents back)) }
+    ensures stopped { IfErr result
+        (IsStop (AreRefused {E = E} E.Record E.fields E.CLASS E.SIZE asked inputs.now)
+        (AreInputsChecked {E = E} E.Record E.fields E.CLASS E.SIZE inputs.now) ⊤) }
+{
+    let objects = match read_objects::<E>(alloc, inputs) {
+        Ok(objects) => objects,
+        Err(stop) => return Err(stop),
+    };
+    match check_images(alloc, asked.page, inputs, &objects) {
+        Ok(()) => print_objects(alloc, asked.when, inputs, &objects, out),
+        Err(stop) => Err(stop),
+    }
+}
+
+// Writes the words of the files, of which these are the objects, and gives the writer back.
+fn print_objects<'a, E: LinkedSymbol, W: Write + Drop>(
+    alloc: Global,
+    when: Binding,
+    inputs: &'a [Input<'_>],
+    objects: &[DynamicObject<'_, E>],
+    out: W,
+) -> Result<W, Stop<Refused<'a>>>
+    requires same { length objects.now ≡ length inputs.now }
+    ensures { MatchResult result (λ back. AppendsSome
+        (AreWordsWritten E.fields when inputs.now objects.now) (W.contents out) (W.contents back))
+        (IsStop (IsTextRefused E.fields when inputs.now objects.now) ⊤ ⊤) }
+{
+    let mut buffered = match BufWriter::new(alloc, out) {
+        Ok(buffered) => buffered,
+        Err(_) => return Err(Stop::Memory),
+    };
+    let written = write_flushed(when, inputs, objects, &mut buffered);
+    // Unlike a drop, this writes nothing more after a fault.
+    let (out, _) = buffered.into_parts();
+    match written {
+        Ok(()) => Ok(out),
+        Err(stop) => Err(stop),
+    }
+}
+
+// Writes the words of the files, and flushes them.
+fn write_flushed<'s, E: LinkedSymbol, W: Write + Drop>(
+    when: Binding,
+    inputs: &'s [Input<'_>],
+    objects: &[DynamicObject<'_, E>],
+    buffered: &mut BufWriter<W>,
+) -> Result<(), Stop<Refused<'s>>>
+    requires same { length objects.now ≡ length inputs.now }
+    requires empty { writer_buffer buffered.old ≡ [] }
+    ensures { MatchResult result (λ _. AppendsSome
+        (AreWordsWritten E.fields when inputs.now objects.now)
+        (W.contents (writer_inner buffered.old)) (W.contents (writer_inner buffered.new)))
+        (IsStop (IsTextRefused E.fields when inputs.now objects.now) ⊤ ⊥) }
+{
+    match write_words(when, inputs, objects, buffered) {
+        Ok(()) => {}
+        Err(stop) => return Err(stop),
+    }
+    buffered.flush()?;
+    Ok(())
 }
 
 fn main(rt: HostRuntime) -> ExitCode {
@@ -148,34 +379,53 @@ fn run_on_arguments(rt: &HostRuntime) -> io::Result<u8> {
     for argument in arguments {
         words.push(argument)?;
     }
+    let (mut out, mut err) = (rt.stdout(), rt.stderr());
     if words.first().is_some_and(|word| word.as_str() == "--help") {
-        writeln!(rt.stdout(), "{}\n{}", USAGE, HELP)?;
+        writeln!(out, "{}\n{}", USAGE, HELP)?;
         return Ok(0);
     }
-    let Some((page, paths)) = asked(&words) else {
-        return Ok(say(&Fault::Usage, &mut rt.stdout()));
+    let Some((asked, paths)) = asked(&words) else {
+        return Ok(say(&Fault::Usage, &mut out));
     };
-    Ok(run_on_paths(rt, page, paths))
+    match read_inputs(rt, paths) {
+        Ok(inputs) => Ok(run(rt.alloc(), asked, &inputs, &mut out, &mut err)),
+        Err(fault) => Ok(say(&fault, &mut err)),
+    }
 }
 
-// The status for all files: 1 if that of one is.
-fn run_on_paths<S: AsStr>(rt: &HostRuntime, page: u64, paths: &[S]) -> u8
-    requires { 0 < page }
-    ensures { result ≤ 1 }
-{
-    let (mut out, mut err) = (rt.stdout(), rt.stderr());
-    let mut status = 0;
+// The files at these paths.
+fn read_inputs<'a, S: AsStr>(
+    rt: &HostRuntime,
+    paths: &'a [S],
+) -> Result<Vec<Input<'a>>, Fault<'a>> {
+    let mut inputs = Vec::new(rt.alloc());
     for path in paths {
         let path = path.as_str();
         let file = File::open(rt, path).ok();
-        let own = run(rt.alloc(), page, path, file, &mut out, &mut err);
-        status = own.max(status);
+        let bytes = read_whole(rt.alloc(), file).ok_or(Fault::Read { path })?;
+        if inputs.push(Input { path, bytes }).is_err() {
+            return Err(Fault::Read { path });
+        }
     }
-    status
+    Ok(inputs)
+}
+
+// What the arguments ask for, and the files, if they are as they should be.
+fn asked<S: AsStr>(arguments: &[S]) -> Option<(Options, &[S])>
+    ensures { IfSome result (λ asked. 0 < asked.0.page) }
+{
+    let (first, others) = arguments.split_first()?;
+    let (when, rest) = if first.as_str() == "--lazy" {
+        (Binding::Lazy, others)
+    } else {
+        (Binding::Now, arguments)
+    };
+    let (page, paths) = page_of(rest)?;
+    Some((Options { page, when }, paths))
 }
 
 // The size of a page and the files that the arguments ask for, if they are as they should be.
-fn asked<S: AsStr>(arguments: &[S]) -> Option<(u64, &[S])>
+fn page_of<S: AsStr>(arguments: &[S]) -> Option<(u64, &[S])>
     ensures { IfSome result (λ asked. 0 < asked.0) }
 {
     let (first, others) = arguments.split_first()?;

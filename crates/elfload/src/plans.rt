@@ -69,7 +69,7 @@ impl Output for Plan<'_> {
 }
 
 // The end of the addresses that Linux gives a program, by its class and its machine.
-fn limit_of(header: &Header) -> Option<u64>
+pub(crate) fn limit_of(header: &Header) -> Option<u64>
     ensures { result ≡ header_limit header.now }
 {
     let class = header.pt1.class.raw();

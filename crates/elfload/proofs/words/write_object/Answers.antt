@@ -1,0 +1,35 @@
+use Rattle.std.proofs.Common.{◌≡◌, ◌<◌, get_or, length, refl, sym, subst, arith, Ok, Err, ap, ◌∙◌}
+use Rattle.std.specs.Prelude.{slice_get, ⊤}
+use Rattle.std.proofs.lemmas.Option.{slice_get_read}
+use Rattle.elf_base.specs.FileHeader.{machine_number}
+use Rattle.elf_linking.specs.References.{file_machine}
+use Rattle.elf_loading.specs.WordsLeft.{AreWordsOf, words_left, words_of}
+use Rattle.elf_loading.specs.declared.error.LoadError.TheVariants.{Link}
+use Rattle.elfload.specs.Words.{IsTextError, by_relocations}
+use Rattle.elfload.specs.declared.files.Input.{Input}
+use Rattle.elfload.proofs.ObjectWords.{object_ends}
+use Rattle.elfload.proofs.Objects.{at_index}
+use Rattle.elfload.proofs.Stops.{error_stops}
+use Rattle.elfload.proofs.words.write_object.Goals as goal
+
+pub returns-in-Ok : goal.returns-in-Ok
+returns-in-Ok g c =
+    let objects = c.args.objects.now in
+    let inputs = c.args.inputs.now in
+    let of = c.args.of in
+    let object = c.index-objects-of.result in
+    let path = (get_or inputs of c.index-inputs-of.result).path in
+    let there = slice_get_read objects (length objects) of object refl c.requires.below c.index-objects-of.is in
+    let below : of < length inputs = omega (arith, c.requires.below, c.requires.same) in
+    object_ends g.E.Entry.fields c.args.when inputs objects c.args.objects refl of c.raw-machine.result object c.in-Ok.words path _ _ there
+    (c.raw-machine.ensures ∙ ap machine_number c.machine.ensures ∙ ap file_machine c.file.ensures)
+    (subst (λ lent. AreWordsOf lent of c.args.when c.in-Ok.words) c.new.ensures c.in-Ok.ensures.begun)
+    (subst (λ lent. words_of (slice_get lent.now of) ≡ Ok (words_left c.in-Ok.words)) c.new.ensures c.in-Ok.ensures.exact)
+    (at_index (λ (input : Input). path ≡ input.path) inputs of c.index-inputs-of.result below c.index-inputs-of.is (ap (λ (input : Input). input.path) (sym c.index-inputs-of.is)))
+    c.in_ok-write.ensures.bytes _ c.write_items.result c.write_items.ensures
+
+pub returns-in-Err : goal.returns-in-Err
+returns-in-Err g c =
+    let of = c.args.of in
+    error_stops c.args.inputs.now of (IsTextError g.E.Entry.fields c.args.when c.args.objects.now of) ⊤ ⊥ (Link c.in-Err.error) c.refusal_at.result
+    (by_relocations c.in-Err.error (subst (λ lent. words_of (slice_get lent.now of) ≡ Err c.in-Err.error) c.new.ensures c.in-Err.ensures.exact)) c.refusal_at.ensures

@@ -1,0 +1,160 @@
+-- What the program writes of words (this project's own): a line for each that is written, free of bases.
+use Rattle.std.specs.Prelude.{◌≡◌, ℕ, ◌++◌, ◌==◌, nat_eq, Bool, true, false, [], ◌∷◌, List, Option, Some, None, Result, Ok, Err, All, map, codes, decimal, drop, length, slice_get, IsOk, IsSomeAnd, if◌then◌else◌}
+use Rattle.std.specs.Borrow.{Bor}
+use Rattle.std.specs.List.{flat_map, starts_with}
+use Rattle.elf_linking.specs.DynamicObject.{object_file}
+use Rattle.elf_linking.specs.References.{file_machine}
+use Rattle.elf_linking.specs.RelocationNames.{relocation_name}
+use Rattle.elf_linking.specs.declared.error.LinkError.{LinkError}
+use Rattle.elf_linking.specs.declared.object.DynamicObject.{DynamicObject}
+use Rattle.elf_loading.specs.Words.{HasWord}
+use Rattle.elf_loading.specs.WordsLeft.{AreWordsOf, relocation_of, words_file, words_index, words_lazy, words_left, words_objects, words_of, words_own}
+use Rattle.elf_loading.specs.declared.error.LoadError.{LoadError}
+use Rattle.elf_loading.specs.declared.error.LoadError.TheVariants.{Link}
+use Rattle.elf_loading.specs.declared.in_order.Relocation.{Relocation}
+use Rattle.elf_loading.specs.declared.value.Origin.{Origin}
+use Rattle.elf_loading.specs.declared.value.Origin.TheVariants.{Base, Call, Zero}
+use Rattle.elf_loading.specs.declared.value.Value.{Value}
+use Rattle.elf_loading.specs.declared.value.Value.TheVariants as values
+use Rattle.elf_loading.specs.declared.words.Binding.{Binding}
+use Rattle.elf_loading.specs.declared.words.Relocated.{Relocated}
+use Rattle.elf_loading.specs.declared.words.Word.{Word}
+use Rattle.elf_loading.specs.declared.words.Words.{Words}
+use Rattle.elfload.specs.Files.{IsOfInput}
+use Rattle.elfload.specs.Texts.{hex}
+use Rattle.elfload.specs.declared.files.Input.{Input}
+use Rattle.elfload.specs.declared.files.Refused.{Refused}
+use Rattle.xmas_elf.specs.Symbol.{SymbolFields}
+
+-- The text of a word.
+
+-- what a sum begins with: nothing, the base of an object, or the result of a function
+abbrev pub start_text : Origin → List ℕ
+start_text Zero = []
+start_text (Base object) = codes "base(" ++ (decimal object ++ codes ") + ")
+start_text (Call (Some object) offset) = codes "call(base(" ++ (decimal object ++ (codes ") + 0x" ++ (hex offset ++ codes ") + ")))
+start_text (Call None offset) = codes "call(0x" ++ (hex offset ++ codes ") + ")
+
+-- what is written to a word of the object at an index
+abbrev pub value_text : ℕ → Value → List ℕ
+value_text of values.Unchanged = []
+value_text of (values.Sum origin offset) = start_text origin ++ (codes "0x" ++ hex offset)
+value_text of (values.Distance origin offset) =
+    start_text origin ++ (codes "0x" ++ (hex offset ++ (codes " - base(" ++ (decimal of ++ codes ")"))))
+value_text of (values.Module object) = codes "module(" ++ (decimal object ++ codes ")")
+value_text of (values.Thread object offset) = codes "thread(" ++ (decimal object ++ (codes ") + 0x" ++ hex offset))
+value_text of (values.ThreadNegated object offset) =
+    codes "0x" ++ (hex offset ++ (codes " - thread(" ++ (decimal object ++ codes ")")))
+value_text of (values.Descriptor (Some object) offset) =
+    codes "descriptor(" ++ (decimal object ++ (codes ", 0x" ++ (hex offset ++ codes ")")))
+value_text of (values.Descriptor None offset) = codes "descriptor(0x" ++ (hex offset ++ codes ")")
+value_text of (values.Copy object offset size) =
+    codes "copy(" ++ (decimal object ++ (codes ", 0x" ++ (hex offset ++ (codes ", " ++ (decimal size ++ codes ")")))))
+
+-- what the names of relocation types of a machine begin with
+abbrev pub prefix_of : ℕ → List ℕ
+prefix_of machine = if machine == 3 then codes "R_386_" else (if machine == 62 then codes "R_X86_64_" else codes "R_AARCH64_")
+
+-- a text without what it begins with
+abbrev pub without : List ℕ → List ℕ → List ℕ
+without prefix text = if starts_with nat_eq text prefix then drop (length prefix) text else text
+
+-- a name without the prefix of its machine, or the number where there is no name
+abbrev pub name_text_of : ℕ → ℕ → Option (List ℕ) → List ℕ
+name_text_of machine kind None = decimal kind
+name_text_of machine kind (Some name) = without (prefix_of machine) name
+
+-- the name of a relocation type of a machine, without what all of them begin with, or else its number
+abbrev pub name_text : ℕ → ℕ → List ℕ
+name_text machine kind = name_text_of machine kind (relocation_name machine kind)
+
+-- the line of a word of the object at an index, in a file for a machine
+abbrev pub line_text : ℕ → ℕ → ℕ → Word → List ℕ
+line_text machine kind of word =
+    codes "word 0x" ++ (hex word.address ++ (codes " " ++ (decimal word.width ++ (codes " " ++ (name_text machine kind
+    ++ (codes " = " ++ (value_text of word.value ++ codes "\n")))))))
+
+-- nothing is written
+abbrev pub is_unchanged : Value → Bool
+is_unchanged values.Unchanged = true
+is_unchanged _ = false
+
+-- the text of a relocation: none if its word is not known
+abbrev pub result_text : ℕ → ℕ → ℕ → Result Word LoadError → List ℕ
+result_text machine kind of (Ok word) = if is_unchanged word.value then [] else line_text machine kind of word
+result_text machine kind of (Err error) = []
+
+-- the same of an item
+abbrev pub item_text : {E : Type 0} → ℕ → ℕ → Relocated E → List ℕ
+item_text machine of item = result_text machine item.relocation.reference.kind of item.word
+
+-- the line with the path of a file, before its words
+abbrev pub path_text : List ℕ → List ℕ
+path_text path = codes "words " ++ (path ++ codes "\n")
+
+-- What is written of the relocations of an object.
+
+-- an item has the symbol that its relocation gets, and the word that it writes
+abbrev pub IsItemOf : {E : Type 0} → {r : _} → (E → SymbolFields) → Words E r → Relocated E → Type 0
+IsItemOf fields words item = HasWord fields (words_objects words).now (words_file words) (words_own words) (words_index words) (words_lazy words) item
+
+-- the word of an item is known
+abbrev pub HasKnownWord : {E : Type 0} → Relocated E → Type 0
+HasKnownWord item = IsOk item.word
+
+-- these are the items of the relocations that are left, and each has its word
+pub record AreItemsOf {E : Type 0} {r : _} (fields : E → SymbolFields) (words : Words E r) (items : List (Relocated E)) : Type 0 where
+  pub are : map relocation_of items ≡ words_left words
+  pub have_words : All (IsItemOf fields words) items
+  pub known : All HasKnownWord items
+
+-- the text of the relocations that are left, of the object at index `of` in a file for a machine
+pub record IsItemsText {E : Type 0} {r : _} (fields : E → SymbolFields) (machine of : ℕ) (words : Words E r) (text : List ℕ) : Type 0 where
+  pub items : List (Relocated E)
+  pub items_are : AreItemsOf fields words items
+  pub text_is : text ≡ flat_map (item_text machine of) items
+
+-- the first relocation that is left whose word is not known, and why
+pub record IsWordError {E : Type 0} {r : _} (fields : E → SymbolFields) (words : Words E r) (error : LoadError) : Type 0 where
+  pub earlier : List (Relocated E)
+  pub item : Relocated E
+  pub later : List Relocation
+  pub are : words_left words ≡ map relocation_of earlier ++ (relocation_of item ∷ later)
+  pub known : All HasKnownWord earlier
+  pub has_word : IsItemOf fields words item
+  pub word_is : item.word ≡ Err error
+
+-- the text of the object at an index: the path of its file, and its words
+pub record IsObjectText {E : Type 0} {r : _} (fields : E → SymbolFields) (when : Binding) (inputs : List Input) (objects : List (DynamicObject E r)) (of : ℕ) (object : DynamicObject E r) (text : List ℕ) : Type 0 where
+  pub lent : Bor (List (DynamicObject E r))
+  pub lent_is : lent.now ≡ objects
+  pub words : Words E r
+  pub words_are : AreWordsOf lent of when words
+  pub left : words_of (Some object) ≡ Ok (words_left words)
+  pub items : List ℕ
+  pub items_are : IsItemsText fields (file_machine (object_file object)) of words items
+  pub text_is : IsSomeAnd (slice_get inputs of) (λ input. text ≡ path_text input.path.now ++ items)
+
+-- what is written of some items in order: for each, by its index, a text
+pub data AreTexts {A : Type 0} (Is : ℕ → A → List ℕ → Type 0) : List A → List ℕ → Type 0 where
+  nothing : AreTexts Is [] []
+  further : (items : List A) (item : A) (text own : List ℕ) → AreTexts Is items text
+      → Is (length items) item own → AreTexts Is (items ++ (item ∷ [])) (text ++ own)
+
+-- the text of all objects, which are those of the inputs
+abbrev pub AreWordsWritten : {E : Type 0} → {r : _} → (E → SymbolFields) → Binding → List Input → List (DynamicObject E r) → List ℕ → Type 0
+AreWordsWritten fields when inputs objects = AreTexts (IsObjectText fields when inputs objects) objects
+
+-- why the text ends before the last word: the relocations of the object at an index can't be read, or one of them has a
+-- word that is not known
+pub data IsTextError {E : Type 0} {r : _} (fields : E → SymbolFields) (when : Binding) (objects : List (DynamicObject E r)) (of : ℕ) : LoadError → Type 0 where
+  by_relocations : (error : LinkError) → words_of (slice_get objects of) ≡ Err error → IsTextError fields when objects of (Link error)
+  by_word : (lent : Bor (List (DynamicObject E r))) (words : Words E r) (error : LoadError) → lent.now ≡ objects
+      → AreWordsOf lent of when words → IsWordError fields words error
+      → IsTextError fields when objects of error
+
+-- the error of the input at an index is such an error of its object
+pub record IsTextRefused {E : Type 0} {r : _} (fields : E → SymbolFields) (when : Binding) (inputs : List Input) (objects : List (DynamicObject E r)) (refused : Refused) : Type 0 where
+  pub of : ℕ
+  pub path_is : IsOfInput inputs of refused
+  pub error_is : IsTextError fields when objects of refused.error

@@ -1,0 +1,259 @@
+//! The words that relocations write, free of bases.
+
+ghost use Rattle.std.specs.Prelude.{◌≡◌, ◌<◌, Err, IsOk, IsSomeAnd, MatchResult, Some, length, slice_get};
+ghost use Rattle.std.specs.Prelude.{⊤};
+ghost use Rattle.elfload.specs.Words.{AreWordsWritten, IsItemsText, IsObjectText, IsTextError};
+ghost use Rattle.elfload.specs.Words.{IsTextRefused, IsWordError, is_unchanged, item_text, line_text, name_text};
+ghost use Rattle.elfload.specs.Words.{path_text, prefix_of, start_text, value_text, without};
+ghost use Rattle.elfload.specs.Files.{IsOfInput};
+ghost use Rattle.program_ends.specs.Appended.{AppendsSome};
+ghost use Rattle.program_ends.specs.Stops.{IsStop};
+
+use crate::files::{Input, Refused, refusal, refusal_at};
+use elf_linking::DynamicObject;
+use elf_linking::references::relocation_name;
+use elf_linking::scope::Scope;
+use elf_linking::view::LinkedSymbol;
+use elf_loading::{Binding, LoadError, LoadScope, Origin, Relocated, Value, Word, Words};
+use program_ends::Stop;
+use std::fmt;
+use std::fmt::Display;
+use std::io::Write;
+
+// The words of all objects, which are those of the inputs.
+pub(crate) fn write_words<'s, E: LinkedSymbol, W: Write>(
+    when: Binding,
+    inputs: &'s [Input<'_>],
+    objects: &[DynamicObject<'_, E>],
+    out: &mut W,
+) -> Result<(), Stop<Refused<'s>>>
+    requires same { length objects.now ≡ length inputs.now }
+    ensures { MatchResult result
+        (λ _. AppendsSome (AreWordsWritten E.fields when inputs.now objects.now)
+        (W.contents out.old) (W.contents out.new))
+        (IsStop (IsTextRefused E.fields when inputs.now objects.now) ⊤ ⊥) }
+{
+    for of in 0..objects.len() {
+        match write_object(when, inputs, objects, of, out) {
+            Ok(()) => {}
+            Err(stop) => return Err(stop),
+        }
+    }
+    Ok(())
+}
+
+// The words of the object at an index, after a line with the path of its file.
+fn write_object<'s, E: LinkedSymbol, W: Write>(
+    when: Binding,
+    inputs: &'s [Input<'_>],
+    objects: &[DynamicObject<'_, E>],
+    of: usize,
+    out: &mut W,
+) -> Result<(), Stop<Refused<'s>>>
+    requires same { length objects.now ≡ length inputs.now }
+    requires below { of < length objects.now }
+    ensures { MatchResult result
+        (λ _. IsSomeAnd (slice_get objects.now of) (λ object.
+        AppendsSome (IsObjectText E.fields when inputs.now objects.now of object)
+        (W.contents out.old) (W.contents out.new)))
+        (IsStop (λ refused. IsOfInput inputs.now of refused
+        × IsTextError E.fields when objects.now of refused.error) ⊤ ⊥) }
+{
+    let path = inputs[of].path;
+    write!(out, "{}", Heading(path))?;
+    let machine = objects[of].file().header.pt2.machine().raw();
+    match Scope::new(objects).words(of, when) {
+        Ok(words) => write_items(path, machine, of, words, out),
+        Err(error) => Err(refusal_at(inputs, of, LoadError::Link(error))),
+    }
+}
+
+// The lines of the relocations that are left.
+fn write_items<'s, E: LinkedSymbol, W: Write>(
+    path: &'s str,
+    machine: u16,
+    of: usize,
+    words: Words<'_, '_, E>,
+    out: &mut W,
+) -> Result<(), Stop<Refused<'s>>>
+    ensures { MatchResult result
+        (λ _. AppendsSome (IsItemsText E.fields machine of words.entry)
+        (W.contents out.old) (W.contents out.new))
+        (IsStop (λ refused. (refused.path ≡ path.entry)
+        × IsWordError E.fields words.entry refused.error) ⊤ ⊥) }
+{
+    for item in words {
+        match write_item(path, machine, of, &item, out) {
+            Ok(()) => {}
+            Err(stop) => return Err(stop),
+        }
+    }
+    Ok(())
+}
+
+// The line of a relocation, if it writes something.
+fn write_item<'s, E: LinkedSymbol, W: Write>(
+    path: &'s str,
+    machine: u16,
+    of: usize,
+    item: &Relocated<E>,
+    out: &mut W,
+) -> Result<(), Stop<Refused<'s>>>
+    ensures { MatchResult result
+        (λ _. IsOk item.now.word × AppendsSome (λ text. text ≡ item_text machine of item.now)
+        (W.contents out.old) (W.contents out.new))
+        (IsStop (λ refused. (refused.path ≡ path.entry) × (item.now.word ≡ Err refused.error)) ⊤ ⊥) }
+{
+    let word = match item.word {
+        Ok(word) => word,
+        Err(error) => return Err(refusal(path, error)),
+    };
+    if is_unchanged(&word.value) {
+        return Ok(());
+    }
+    let line = Line {
+        word,
+        name: Name(machine, item.relocation.reference.kind),
+        of,
+    };
+    write!(out, "{}", line)?;
+    Ok(())
+}
+
+// Whether nothing is written.
+fn is_unchanged(value: &Value) -> bool
+    ensures { result ≡ is_unchanged value.now }
+{
+    matches!(value, Value::Unchanged)
+}
+
+// The line before the words of a file.
+#[derive(Clone, Copy)]
+struct Heading<'a>(&'a str);
+
+impl Display for Heading<'_> {
+    ghost output = { λ heading. Some (path_text heading.0.now) };
+
+    fn fmt<W: fmt::Write>(&self, f: &mut fmt::Formatter<W>) -> fmt::Result {
+        writeln!(f, "words {}", self.0)
+    }
+}
+
+// The line of a word.
+#[derive(Clone, Copy)]
+struct Line {
+    word: Word,
+    name: Name,
+    of: usize,
+}
+
+impl Display for Line {
+    ghost output = { λ line. Some (line_text line.name.0 line.name.1 line.of line.word) };
+
+    fn fmt<W: fmt::Write>(&self, f: &mut fmt::Formatter<W>) -> fmt::Result {
+        writeln!(
+            f,
+            "word 0x{:x} {} {} = {}",
+            self.word.address,
+            self.word.width,
+            self.name,
+            Written(self.of, self.word.value)
+        )
+    }
+}
+
+// The name of a relocation type of a machine, without what all of them begin with; or its number.
+#[derive(Clone, Copy)]
+struct Name(u16, u32);
+
+impl Display for Name {
+    ghost output = { λ name. Some (name_text name.0 name.1) };
+
+    fn fmt<W: fmt::Write>(&self, f: &mut fmt::Formatter<W>) -> fmt::Result {
+        match relocation_name(self.0, self.1) {
+            Some(name) => write!(f, "{}", without(prefix_of(self.0), name)),
+            None => write!(f, "{}", self.1),
+        }
+    }
+}
+
+// What the names of relocation types of a machine begin with.
+fn prefix_of(machine: u16) -> &'static str
+    ensures { result.now ≡ prefix_of machine }
+{
+    match machine {
+        3 => "R_386_",
+        62 => "R_X86_64_",
+        _ => "R_AARCH64_",
+    }
+}
+
+// A text without what it begins with.
+fn without(prefix: &'static str, text: &'static str) -> &'static str
+    ensures { result.now ≡ without prefix.now text.now }
+{
+    match text.strip_prefix(prefix) {
+        Some(rest) => rest,
+        None => text,
+    }
+}
+
+// What is written to a word of the object at an index.
+#[derive(Clone, Copy)]
+struct Written(usize, Value);
+
+impl Display for Written {
+    ghost output = { λ written. Some (value_text written.0 written.1) };
+
+    fn fmt<W: fmt::Write>(&self, f: &mut fmt::Formatter<W>) -> fmt::Result {
+        let of = self.0;
+        match self.1 {
+            Value::Unchanged => Ok(()),
+            Value::Sum { origin, offset } => write!(f, "{}0x{:x}", Start(origin), offset),
+            Value::Distance { origin, offset } => {
+                write!(f, "{}0x{:x} - base({})", Start(origin), offset, of)
+            }
+            Value::Module(object) => write!(f, "module({})", object),
+            Value::Thread { object, offset } => write!(f, "thread({}) + 0x{:x}", object, offset),
+            Value::ThreadNegated { object, offset } => {
+                write!(f, "0x{:x} - thread({})", offset, object)
+            }
+            Value::Descriptor {
+                object: Some(object),
+                offset,
+            } => write!(f, "descriptor({}, 0x{:x})", object, offset),
+            Value::Descriptor {
+                object: None,
+                offset,
+            } => write!(f, "descriptor(0x{:x})", offset),
+            Value::Copy {
+                object,
+                offset,
+                size,
+            } => write!(f, "copy({}, 0x{:x}, {})", object, offset, size),
+        }
+    }
+}
+
+// What a sum begins with.
+#[derive(Clone, Copy)]
+struct Start(Origin);
+
+impl Display for Start {
+    ghost output = { λ start. Some (start_text start.0) };
+
+    fn fmt<W: fmt::Write>(&self, f: &mut fmt::Formatter<W>) -> fmt::Result {
+        match self.0 {
+            Origin::Zero => Ok(()),
+            Origin::Base(object) => write!(f, "base({}) + ", object),
+            Origin::Call {
+                object: Some(object),
+                offset,
+            } => write!(f, "call(base({}) + 0x{:x}) + ", object, offset),
+            Origin::Call {
+                object: None,
+                offset,
+            } => write!(f, "call(0x{:x}) + ", offset),
+        }
+    }
+}

@@ -1,0 +1,364 @@
+#!/usr/bin/env python3
+"""Compare what elfload says of memory with that of programs that Linux and the dynamic linker have loaded.
+
+    tools/compare/memory.py [--elfload PATH] [--lazy 1] PROGRAM..
+
+The programs are the dynamically linked ones among the files, and in the folders among them. Each is run in a process that
+ptrace stops before the first constructor (`to_relocated`). Its files are those of the linker's list, in that order, without
+linux-vdso. Two things are compared:
+
+- each word that elfload prints of these files, with the bases of the list, and with the numbers of thread-local storage that
+  glibc chooses (`thread_offsets`). A word with a function that the linker calls, and a descriptor, has no number;
+- each byte of memory: that of a word, otherwise that of the file, or zero (`image_of`, which reads the program headers itself).
+
+Jump slots get their symbols at once (LD_BIND_NOW), or with --lazy 1 when they are called first (elfload --lazy).
+
+Each difference is counted by its cause: `unique`, since glibc merges symbols of type STB_GNU_UNIQUE by name; `linker`, the
+data of the linker itself; `early libc`, what the C library writes before the first constructor; `dynamic`, where the linker adds
+the base to an entry of a dynamic segment, or writes DT_DEBUG. With --lazy 1 also `lazy`, the two words at DT_PLTGOT that are
+the linker's, and `bound`, slots that have their symbols: those of the linker, and those that the C library has called. Another
+difference is a line, and the exit status is then 1. It needs ptrace on x86-64: where that is not allowed or the machine is
+another, the script says so, and passes.
+"""
+import functools
+import os
+import re
+import struct
+import sys
+from typing import Dict, Iterator, List, NamedTuple, Optional, Set, Tuple
+
+from bindings import programs_in, real
+from comparing import LOAD, UNIQUE, Tally, dynamic_symbols, parser_of, run
+from loads import PAGE, Stopped, can_trace, content_of, value_of
+
+WORD = re.compile(r"word 0x([0-9a-f]+) (\d+) (\w+) = (.*)")
+NUMBER = re.compile(r"(?:(base|thread)\((\d+)\) \+ )?0x([0-9a-f]+)(?: - (base|thread)\((\d+)\))?")
+MODULE = re.compile(r"module\((\d+)\)")
+COPY = re.compile(r"copy\((\d+), 0x([0-9a-f]+), (\d+)\)")
+NO_NUMBER = re.compile(r"call\((?:base\(\d+\) \+ )?0x[0-9a-f]+\) \+ 0x[0-9a-f]+|descriptor\((?:\d+, )?0x[0-9a-f]+\)")
+
+# The base of the linker in the auxiliary vector, types of segments, and tags of entries of a dynamic segment.
+LINKER_BASE = 7
+DYNAMIC, THREAD_LOCAL, RELRO = 2, 7, 0x6474E552
+PLT_GOT, DEBUG = 3, 21
+WRITABLE = 2
+
+
+class Shape(NamedTuple):
+    """How a class is laid out: the format and the size of an address, the places of e_phoff and e_phnum, and the format of a
+    program header with the indices of its fields in `Segment`."""
+
+    word: str
+    size: int
+    table: int
+    count: int
+    header: str
+    fields: Tuple[int, ...]
+
+
+WIDE = Shape("Q", 8, 32, 56, "<IIQQQQQQ", (0, 1, 2, 3, 5, 6, 7))
+NARROW = Shape("I", 4, 28, 44, "<IIIIIIII", (0, 6, 1, 2, 4, 5, 7))
+
+
+class Segment(NamedTuple):
+    """A program header."""
+
+    kind: int
+    flags: int
+    offset: int
+    address: int
+    file_size: int
+    size: int
+    align: int
+
+
+def shape_of(path: str) -> Shape:
+    return NARROW if content_of(path)[4] == 1 else WIDE
+
+
+@functools.lru_cache(maxsize=None)
+def segments_of(path: str) -> Tuple[Segment, ...]:
+    content, shape = content_of(path), shape_of(path)
+    (start,), (count,) = struct.unpack_from("<" + shape.word, content, shape.table), struct.unpack_from("<H", content, shape.count)
+    rows = (struct.unpack_from(shape.header, content, start + struct.calcsize(shape.header) * it) for it in range(count))
+    return tuple(Segment(*(row[it] for it in shape.fields)) for row in rows)
+
+
+def last_of(path: str, kind: int) -> Optional[Segment]:
+    return next((it for it in reversed(segments_of(path)) if it.kind == kind and it.size), None)
+
+
+@functools.lru_cache(maxsize=None)
+def entries_of(path: str) -> Tuple[Tuple[int, int], ...]:
+    """The tags and values of the dynamic segment."""
+    segment = last_of(path, DYNAMIC)
+    return tuple(struct.iter_unpack("<" + 2 * shape_of(path).word, content_of(path)[segment.offset :][: segment.file_size])) if segment else ()
+
+
+class File(NamedTuple):
+    """A file in a process: its path, its base, and whether Linux has mapped it."""
+
+    path: str
+    base: int
+    is_by_kernel: bool
+
+
+class Word(NamedTuple):
+    """A word that elfload prints."""
+
+    address: int
+    width: int
+    kind: str
+    value: str
+
+
+def down(address: int) -> int:
+    return address // PAGE * PAGE
+
+
+def up(address: int) -> int:
+    return -(-address // PAGE) * PAGE
+
+
+def image_of(file: File, load: Segment) -> bytearray:
+    """What a load segment has in memory, in whole pages, before relocation."""
+    start, inside = down(load.address), load.address % PAGE
+    held = bytearray(up(load.address + load.size) - start)
+    if load.file_size:
+        part = content_of(file.path)[down(load.offset) :][: up(load.address + load.file_size) - start]
+        held[: len(part)] = part
+    # Behind the zeros, glibc leaves the bytes of the file, and Linux none.
+    end = len(held) if file.is_by_kernel and load.size > load.file_size else inside + load.size
+    held[inside + load.file_size : end] = bytes(end - inside - load.file_size)
+    return held
+
+
+def thread_offsets(files: List[File]) -> Dict[int, int]:
+    """How far below the thread pointer glibc puts thread-local storage, by the index of its file (_dl_determine_tlsoffset)."""
+    found, end, free, free_end = {}, 0, 0, 0
+    for index, file in enumerate(files):
+        storage = last_of(file.path, THREAD_LOCAL)
+        if storage is None:
+            continue
+        align, first = max(storage.align, 1), -storage.address % max(storage.align, 1)
+        place = lambda after: -(-(after + storage.size - first) // align) * align + first
+        if free_end - free >= storage.size and place(free) <= free_end:
+            found[index] = free = place(free)
+            continue
+        at = place(end)
+        if at > end + storage.size + free_end - free:
+            free, free_end = end, at - storage.size
+        found[index] = end = at
+    return found
+
+
+class Numbers:
+    """The numbers of words by the files of a process."""
+
+    def __init__(self, files: List[File]) -> None:
+        threads = thread_offsets(files)
+        self.files, self.modules = files, {index: number for number, index in enumerate(threads, 1)}
+        self.terms = {"base": [it.base for it in files], "thread": {index: -it for index, it in threads.items()}}
+
+    def of(self, word: Word) -> Optional[int]:
+        """The number of a word, if it has one."""
+        if found := NUMBER.fullmatch(word.value):
+            plus, minus = ((self.terms[name][int(index)] if name else 0) for name, index in (found.group(1, 2), found.group(4, 5)))
+            return (plus + int(found[3], 16) - minus) % 2 ** (8 * word.width)
+        if found := MODULE.fullmatch(word.value):
+            return self.modules[int(found[1])]
+        if not NO_NUMBER.fullmatch(word.value):
+            raise ValueError(word.value)
+        return None
+
+    def bytes_of(self, process: Stopped, word: Word) -> Optional[bytes]:
+        """The bytes of a word, if they are known; of a copy those that the process has at its source."""
+        if copied := COPY.fullmatch(word.value):
+            return process.memory(self.terms["base"][int(copied[1])] + int(copied[2], 16), int(copied[3]))
+        number = self.of(word)
+        return None if number is None else number.to_bytes(word.width, "little")
+
+
+def words_of(text: str) -> List[List[Word]]:
+    """The words of each file that elfload prints."""
+    found: List[List[Word]] = []
+    for line in text.split("\n"):
+        if line.startswith("words "):
+            found.append([])
+        elif word := WORD.fullmatch(line):
+            found[-1].append(Word(int(word[1], 16), int(word[2]), *word.group(3, 4)))
+    return found
+
+
+def to_relocated(process: Stopped) -> Optional[Tuple[str, int]]:
+    """Runs up to where relocation is done and no constructor has run; the linker and its base, if the process gets there."""
+    if not process.is_stopped() or not process.to_read_only():
+        return None
+    base = process.auxiliary(LINKER_BASE)
+    linker = next(it.holds for it in process.maps() if it.start <= base < it.end)
+    # The linker calls it before it maps libraries, and once relocation is done.
+    state = value_of(linker, "_dl_debug_state")
+    return (linker, base) if state is not None and process.to_address(base + state) else None
+
+
+def text_at(process: Stopped, address: int) -> str:
+    return process.memory(address, PAGE).split(b"\0")[0].decode("utf-8", "surrogateescape")
+
+
+def files_of(process: Stopped, program: str, linker: str, base: int) -> Iterator[File]:
+    """The files in the linker's list (`struct link_map`)."""
+    shape = shape_of(linker)
+    (at,) = struct.unpack("<" + shape.word, process.memory(base + value_of(linker, "_r_debug") + shape.size, shape.size))
+    while at:
+        moved, name, _, at = struct.unpack("<4" + shape.word, process.memory(at, 4 * shape.size))
+        path = real(text_at(process, name) or program)
+        if os.path.isfile(path):
+            yield File(path, moved, path in (program, linker))
+
+
+def is_early(file: File) -> bool:
+    """Whether __libc_early_init of the C library writes data of a file."""
+    return os.path.basename(file.path).startswith("libc.so")
+
+
+def cause_of_word(files: List[File], of: int, word: Word, linker: str) -> Optional[str]:
+    """Why the memory of a word is another."""
+    found = NUMBER.fullmatch(word.value)
+    if found and found[1] == "base":
+        symbols = dynamic_symbols(files[int(found[2])].path)
+        if any(it.binding == UNIQUE and it.value <= int(found[3], 16) < it.value + max(it.size, 1) for it in symbols):
+            return "unique"
+    if files[of].path == linker:
+        return "linker"
+    return "early libc" if is_early(files[of]) else None
+
+
+def cause_of_byte(file: File, address: int, is_writable: bool, held: bytes, linker: str) -> Optional[str]:
+    """Why a byte that is of no word is another; `held` are the bytes of the address in whose middle it may be."""
+    entries, dynamic, size = dict(entries_of(file.path)), last_of(file.path, DYNAMIC), len(held)
+    if dynamic and dynamic.address <= address < dynamic.address + dynamic.size:
+        tag, value = entries_of(file.path)[(address - dynamic.address) // (2 * size)]
+        return "dynamic" if tag == DEBUG or int.from_bytes(held, "little") == (value + file.base) % 256**size else None
+    got = entries.get(PLT_GOT)
+    if got is not None and got + size <= address < got + 3 * size:
+        return "lazy"
+    if file.path == linker:
+        return "linker"
+    return "early libc" if is_writable and is_early(file) else None
+
+
+class Process(NamedTuple):
+    """A process that is stopped where relocation is done, and the words of its files if all slots get their symbols at once."""
+
+    program: str
+    process: Stopped
+    files: List[File]
+    linker: str
+    numbers: Numbers
+    at_once: List[List[Word]]
+
+
+def compare_words(of: Process, index: int, words: List[Word], tally: Tally) -> Dict[int, bytes]:
+    """Compares the words of a file, and returns the bytes that memory has for each, by its address."""
+    file, found = of.files[index], {}
+    at_once = {it.address: it for it in of.at_once[index]} if of.at_once else {}
+    for word in words:
+        held = of.process.memory(file.base + word.address, word.width)
+        wanted = of.numbers.bytes_of(of.process, word)
+        found[word.address] = held
+        tally["words"] += 1
+        if wanted is None:
+            tally["without a number"] += 1
+        elif held == wanted:
+            tally["equal"] += 1
+        elif word.address in at_once and held == of.numbers.bytes_of(of.process, at_once[word.address]):
+            tally["words bound"] += 1
+        elif cause := cause_of_word(of.files, index, word, of.linker):
+            tally[f"words {cause}"] += 1
+        else:
+            tally.fault(f"{of.program}: {file.path}: {word}: elfload says {wanted.hex()}, memory has {held.hex()}")
+    return found
+
+
+def differing(one: bytes, other: bytes) -> Iterator[int]:
+    """The places at which bytes differ."""
+    for start in range(0, len(one), PAGE):
+        parts = one[start : start + PAGE], other[start : start + PAGE]
+        if parts[0] != parts[1]:
+            yield from (start + place for place, (left, right) in enumerate(zip(*parts)) if left != right)
+
+
+def compare_load(of: Process, file: File, load: Segment, words: Dict[int, bytes], compared: Set[Tuple[str, int]], tally: Tally) -> None:
+    """Compares the bytes of a load segment; of one without words that can't be written once for all processes."""
+    start, wanted, size = down(load.address), image_of(file, load), shape_of(file.path).size
+    is_writable = bool(load.flags & WRITABLE)
+    inside = {at: held for at, held in words.items() if load.address <= at < load.address + load.size}
+    if not inside and not is_writable and (file.path, start) in compared:
+        return
+    compared.add((file.path, start))
+    for at, held in inside.items():
+        wanted[at - start : at - start + len(held)] = held
+    memory = of.process.memory(file.base + start, len(wanted))
+    # Of pages of a file past its end there are no bytes.
+    tally["bytes"] += len(memory)
+    if len(memory) != len(wanted):
+        tally.fault(f"{of.program}: {file.path}: of {load} memory has {len(memory)} bytes")
+    for place in differing(memory, bytes(wanted)):
+        relro = last_of(file.path, RELRO)
+        is_open = is_writable and not (relro and down(relro.address) <= start + place < down(relro.address + relro.size))
+        first = (start + place) // size * size - start
+        cause = cause_of_byte(file, start + place, is_open, memory[first : first + size], of.linker)
+        if cause:
+            tally[f"bytes {cause}"] += 1
+        else:
+            tally.fault(f"{of.program}: {file.path}: byte at {start + place:x}: {wanted[place]:02x} is wanted, memory has {memory[place]:02x}")
+
+
+def compare_memory(of: Process, text: str, compared: Set[Tuple[str, int]], tally: Tally) -> None:
+    words = words_of(text)
+    if len(words) != len(of.files):
+        tally.fault(f"{of.program}: {len(of.files)} files, elfload says words of {len(words)}")
+        return
+    for index, file in enumerate(of.files):
+        found = compare_words(of, index, words[index], tally)
+        for load in segments_of(file.path):
+            if load.kind == LOAD:
+                compare_load(of, file, load, found, compared, tally)
+    tally["programs"] += 1
+    tally["files"] += len(of.files)
+
+
+def compare(program: str, is_lazy: bool, compared: Set[Tuple[str, int]], tally: Tally) -> None:
+    """Compares the memory of a program and its libraries."""
+    process = Stopped(program, **({} if is_lazy else {"LD_BIND_NOW": "1"}))
+    try:
+        linker = to_relocated(process)
+        if linker is None:
+            tally["not loaded"] += 1
+            return
+        files = list(files_of(process, program, *linker))
+        paths = [it.path for it in files]
+        said = run([tally.program, *(["--lazy"] if is_lazy else []), *paths])
+        if said.status != 0:
+            tally.fault(f"{program}: elfload: status {said.status}: {said.errors.strip()}")
+            return
+        at_once = words_of(run([tally.program, *paths]).output) if is_lazy else []
+        compare_memory(Process(program, process, files, linker[0], Numbers(files), at_once), said.output, compared, tally)
+    finally:
+        process.end()
+
+
+def main() -> int:
+    given = parser_of(__doc__, "elfload", files="+", lazy=0).parse_args()
+    if not can_trace():
+        print("0 programs, 0 differences: no process can be stopped by ptrace here")
+        return 0
+    tally = Tally(given.elfload, "programs", "not loaded", "files", "words", "equal", "without a number", "bytes")
+    compared: Set[Tuple[str, int]] = set()
+    for program in programs_in(given.files):
+        compare(program, bool(given.lazy), compared, tally)
+    return tally.ended()
+
+
+if __name__ == "__main__":
+    sys.exit(main())
