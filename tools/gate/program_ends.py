@@ -34,6 +34,8 @@ LINKED, SYMBOLS = data("elfsym/data/versions.so"), data("elfsym/stdout")
 NEEDS = data("elfsym/data/needs.so")
 PLACES, SIZES = data("elfaddr/data/places.so"), data("elfsize/stdout")
 PLACES_SIZES = SIZES[: SIZES.index(b"counter\n")]
+# The same of counter alone, before the sums over both.
+COUNTER_SIZES = SIZES[len(PLACES_SIZES) : SIZES.index(b"all files\n")]
 COUNTER, PLANS = data("elfload/data/counter"), data("elfload/stdout")
 COUNTER_PLAN = PLANS[: PLANS.index(b"library.so\n")]
 # The symbol of its slot is in the library.
@@ -309,7 +311,8 @@ LOAD.add("a word in pages that cannot be written", "word.elf", 1, COUNTER_PLAN.r
 
 SIZE_USAGE = "elfsize [--segments | --symbols] <binary_path>.."
 SIZE_HELP = f"""usage: {SIZE_USAGE}
-Prints how many bytes of each file belong to which part, the largest first.
+Prints how many bytes of each file belong to which part, the largest first;
+after more than one file the bytes of all by kind of part.
 --segments  as if the file had no sections
 --symbols   bytes in sections by symbol; the line of a section is for the bytes in no symbol
 """
@@ -350,7 +353,7 @@ SIZE.misused({"segments of no file": "--segments", "symbols of no file": "--symb
 SIZE.prints({
     "help": ("--help", SIZE_HELP), "two files": ("places.so counter", SIZES), "segments": ("--segments places.so", PLACES_SEGMENTS),
     "symbols": ("--symbols places.so", PLACES_SYMBOLS),
-    "symbols of a file without them": ("--symbols counter", SIZES[len(PLACES_SIZES) :]),
+    "symbols of a file without them": ("--symbols counter", COUNTER_SIZES),
     "segments of class 32": (
         "--segments strtab.elf", "strtab.elf\n92 63.88% after all parts\n52 36.11% ELF header\n144 100.00% sum\n"),
     "a file of class 32": (

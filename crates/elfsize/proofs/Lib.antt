@@ -1,5 +1,6 @@
 mod NoSections
 mod Inputs
+mod KindRuns
 mod LineLists
 mod Runs
 mod Sizes

@@ -4,7 +4,9 @@ use Rattle.std.specs.Borrow.{Bor}
 use Rattle.elfsize.specs.Lines.{IsInputRefused, IsInputText, IsInputThere}
 use Rattle.elfsize.specs.declared.Fault as faults
 use Rattle.elfsize.specs.declared.Fault.TheVariants as faults_are
+use Rattle.elfsize.specs.Sums.{AreInputSums, with_sums}
 use Rattle.elfsize.specs.View.{shown}
+use Rattle.elfsize.specs.declared.sums.Sums.{Sums}
 use Rattle.elfsize.specs.declared.lines.Refusal as refusals
 use Rattle.elfsize.specs.declared.lines.Refusal.TheVariants as refusals_are
 use Rattle.elfsize.specs.declared.view.View.{View}
@@ -41,15 +43,21 @@ OfFile view remaining file P = IsSomeAnd file (λ reader. (input : Bor (List ℕ
 abbrev pub IsBegun : View → Bor (List ℕ) → Bor (List ℕ) → Type 0
 IsBegun view path input = HasBegun (IsInputThere view input) (AppendsSome (IsInputText view path.now input))
 
--- how the program ends for a view of the file at a path: there is a text of its sizes, or the fault
-abbrev pub IsEnd : {R : Type 0} → View → Bor (List ℕ) → (R → Option (List ℕ)) → Option R → Result (Unit {0}) faults.Fault → Type 0
-IsEnd view path remaining file (Ok done) =
-    OfFile view remaining file (λ input. (text : List ℕ) × IsInputText view path.now input text)
+-- how the program ends for a view of the file at a path: there is a text of its sizes, and these are its bytes by kind;
+-- or the fault
+abbrev pub IsEnd : {R : Type 0} → View → Bor (List ℕ) → (R → Option (List ℕ)) → Option R → Result Sums faults.Fault → Type 0
+IsEnd view path remaining file (Ok sums) = OfFile view remaining file (λ input.
+    ((text : List ℕ) × IsInputText view path.now input text) × AreInputSums input sums)
 IsEnd view path remaining file (Err fault) = IsFault path
     (λ refusal. OfFile view remaining file (λ input. IsInputRefused view input refusal))
     (OfFile view remaining file (λ input. IsBegun view path input)) fault
 
 -- the exit status: 0 without a fault, otherwise 1
-abbrev pub status_of : Result (Unit {0}) faults.Fault → ℕ
-status_of (Ok done) = 0
+abbrev pub status_of : Result Sums faults.Fault → ℕ
+status_of (Ok sums) = 0
 status_of (Err fault) = 1
+
+-- the sums after a file: with its bytes, if it was printed
+abbrev pub sums_after : Sums → Result Sums faults.Fault → Sums
+sums_after before (Ok sums) = with_sums before sums
+sums_after before (Err fault) = before

@@ -2,17 +2,21 @@
 //!
 //! `elfsize FILE..` writes for each file a line for each part that has bytes, the largest first: the
 //! number of bytes, their share, and the part. The last line is their sum, which is the size of the
-//! file. `--segments` before the files lists the parts of each file without its section header table.
-//! `--symbols` lists the bytes of sections by the symbol of `.symtab` that owns them.
+//! file. After more than one file it writes their bytes by kind of part. `--segments` before the
+//! files lists the parts of each file without its section header table. `--symbols` lists the bytes
+//! of sections by the symbol of `.symtab` that owns them.
 #![tactic(auto)]
 
 ghost use Rattle.std.specs.Prelude.{◌≡◌, ◌≤◌, IfErr, IfOk, Result};
-ghost use Rattle.elfsize.specs.Ends.{IsBegun, IsEnd, IsFault, OfFile, fault_of, status_of};
+ghost use Rattle.elfsize.specs.Ends.{IsBegun, IsEnd, IsFault, OfFile, fault_of, status_of, sums_after};
 ghost use Rattle.elfsize.specs.Lines.{IsInputRefused, IsInputText};
+ghost use Rattle.elfsize.specs.Sums.{AreInputSums};
+ghost use Rattle.elfsize.specs.declared.sums.Sums.{Sums};
 ghost use Rattle.elfsize.specs.declared.Fault.{Fault};
 ghost use Rattle.program_ends.specs.Appended.{AppendsSome};
 
 use crate::lines::{Lines, Refusal};
+use crate::sums::{Sums, input_sums};
 use crate::view::{View, read_shown};
 use program_ends::{Stop, say, write_buffered};
 use std::alloc::Global;
@@ -28,13 +32,15 @@ use xmas_elf::ElfError;
 mod lines;
 mod parts;
 mod split;
+mod sums;
 mod symbols;
 mod totals;
 mod view;
 
 const USAGE: &str = "usage: elfsize [--segments | --symbols] <binary_path>..";
 
-const HELP: &str = "Prints how many bytes of each file belong to which part, the largest first.
+const HELP: &str = "Prints how many bytes of each file belong to which part, the largest first;
+after more than one file the bytes of all by kind of part.
 --segments  as if the file had no sections
 --symbols   bytes in sections by symbol; the line of a section is for the bytes in no symbol";
 
@@ -63,7 +69,8 @@ enum Fault<'a> {
 /// `file` is `None` where the path does not open. The status is 0 once all is written and flushed,
 /// and 1 otherwise. The contract says which fault there can be then: the error of the file's header or
 /// of the symbols that are asked for; a write that failed, if they have none; that the file can't be read; or that memory is short.
-/// It says nothing of what `out` and `err` hold.
+/// It says nothing of what `out` and `err` hold. The bytes of the file by kind of part are added to
+/// `sums`, if the status is 0.
 pub fn run<R: Read + Drop, W: Write, E: Write>(
     alloc: Global,
     view: View,
@@ -71,44 +78,50 @@ pub fn run<R: Read + Drop, W: Write, E: Write>(
     file: Option<R>,
     out: &mut W,
     err: &mut E,
+    sums: &mut Sums,
 ) -> u8
     ensures bound { result ≤ 1 }
-    ensures ends { (end : Result (Unit {0}) Fault)
-        × IsEnd view path.entry R.remaining file end × (result ≡ status_of end) }
+    ensures ends { (end : Result Sums Fault)
+        × IsEnd view path.entry R.remaining file end × (result ≡ status_of end)
+        × (sums.new ≡ sums_after sums.old end) }
 {
     match answer(alloc, view, path, file, out) {
-        Ok(()) => 0,
+        Ok(own) => {
+            *sums = sums.with(&own);
+            0
+        }
         Err(fault) => say(&fault, err),
     }
 }
 
-// Reads the file whole, and writes the sizes of its parts.
+// Reads the file whole, writes the sizes of its parts, and returns those by kind.
 fn answer<'a, R: Read + Drop, W: Write>(
     alloc: Global,
     view: View,
     path: &'a str,
     file: Option<R>,
     out: &mut W,
-) -> Result<(), Fault<'a>>
+) -> Result<Sums, Fault<'a>>
     ensures { IsEnd view path.entry R.remaining file result }
 {
     match print_lines(alloc, view, path, file, &mut *out) {
-        Ok(_) => Ok(()),
+        Ok((_, sums)) => Ok(sums),
         Err(fault) => Err(fault),
     }
 }
 
 // Writes the sizes of the parts of the file that is all that the reader has left, and gives the
-// writer back.
+// writer back, and the sizes by kind.
 fn print_lines<'a, R: Read + Drop, W: Write + Drop>(
     alloc: Global,
     view: View,
     path: &'a str,
     file: Option<R>,
     out: W,
-) -> Result<W, Fault<'a>>
+) -> Result<(W, Sums), Fault<'a>>
     ensures written { IfOk result (λ back. OfFile view R.remaining file (λ input.
-        AppendsSome (IsInputText view path.entry.now input) (W.contents out) (W.contents back))) }
+        AppendsSome (IsInputText view path.entry.now input) (W.contents out) (W.contents back.0)
+        × AreInputSums input back.1)) }
     ensures fault { IfErr result (IsFault path.entry
         (λ refusal. OfFile view R.remaining file (λ input. IsInputRefused view input refusal))
         (OfFile view R.remaining file (λ input. IsBegun view path.entry input))) }
@@ -116,14 +129,18 @@ fn print_lines<'a, R: Read + Drop, W: Write + Drop>(
     let Some(input) = read_shown(alloc, view, file) else {
         return Err(Fault::Read { path });
     };
+    let bytes: &[u8] = &input;
+    let Ok(sums) = input_sums(alloc, bytes) else {
+        return Err(Fault::Memory);
+    };
     let lines = Lines {
         alloc,
         view,
         path,
-        input: &input,
+        input: bytes,
     };
     match write_buffered(alloc, &lines, out) {
-        Ok(out) => Ok(out),
+        Ok(out) => Ok((out, sums)),
         Err(stop) => Err(fault_of(stop, path)),
     }
 }
@@ -182,14 +199,17 @@ fn run_on_paths<S: AsStr>(rt: &HostRuntime, view: View, paths: &[S]) -> u8
     ensures { result ≤ 1 }
 {
     let (mut out, mut err) = (rt.stdout(), rt.stderr());
-    let mut status = 0;
+    let (mut status, mut sums) = (0, Sums::NONE);
     for path in paths {
         let path = path.as_str();
         let began = Instant::now(rt);
         let file = File::open(rt, path).ok();
-        let own = run(rt.alloc(), view, path, file, &mut out, &mut err);
+        let own = run(rt.alloc(), view, path, file, &mut out, &mut err, &mut sums);
         status = own.max(status);
         tell_progress(rt, began, path);
+    }
+    if paths.len() > 1 && writeln!(out, "{}", sums).is_err() {
+        return say(&Fault::Write, &mut err);
     }
     status
 }

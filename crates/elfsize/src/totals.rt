@@ -57,7 +57,7 @@ fn count_with(count: usize, part: usize) -> usize
 }
 
 // The number of bytes of each part, by its number.
-fn part_totals(alloc: Global, runs: &[Run], count: usize) -> Result<Vec<u64>, AllocError>
+pub(crate) fn part_totals(alloc: Global, runs: &[Run], count: usize) -> Result<Vec<u64>, AllocError>
     requires numbers { All (λ run. run.part < count) runs.now }
     requires fits { all_bytes runs.now < 2 ^ 64 }
     ensures { IfOk result (λ totals. AreTotals runs.now totals.items) }

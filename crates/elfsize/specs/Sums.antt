@@ -1,0 +1,56 @@
+-- The bytes of files by kind of part (this project's own).
+use Rattle.std.specs.Prelude.{◌≡◌, ℕ, ◌+◌, ◌-◌, ◌/◌, ◌%◌, ◌==◌, ◌^◌, List, IfOk, if◌then◌else◌, map, min, slice_index}
+use Rattle.std.specs.Borrow.{Bor}
+use Rattle.elf_base.specs.FileHeader.{header_of}
+use Rattle.elfsize.specs.Parts.{AreRuns}
+use Rattle.elfsize.specs.Totals.{AreTotals}
+use Rattle.elfsize.specs.declared.sums.Sums.{Sums}
+use Rattle.elfsize.specs.declared.totals.Run.{Run}
+use Rattle.xmas_elf.specs.Types.{ElfFile}
+
+-- the number of the kind of a part: sections, segments, and then those without an index
+abbrev pub kind_of : ℕ → ℕ
+kind_of part = if part % 4 == 1 then 1 else (if part % 4 == 3 then 2 + min (part / 4) 4 else 0)
+
+abbrev pub kind_run : Run → Run
+kind_run run = record { part = kind_of run.part; size = run.size }
+
+-- the totals of the kinds
+abbrev pub sums_of : List ℕ → Sums
+sums_of totals = record {
+  sections = slice_index totals 0;
+  segments = slice_index totals 1;
+  elf_headers = slice_index totals 2;
+  program_headers = slice_index totals 3;
+  section_headers = slice_index totals 4;
+  between = slice_index totals 5;
+  after = slice_index totals 6;
+}
+
+-- the sums of a file are the bytes of its runs by kind
+abbrev pub AreSums : ElfFile → Sums → Type 0
+AreSums file sums = (runs : List Run) × (totals : List ℕ) × AreRuns file runs × AreTotals (map kind_run runs) totals × (sums ≡ sums_of totals)
+
+-- the sums of an input that has a header are those of its file
+abbrev pub AreInputSums : Bor (List ℕ) → Sums → Type 0
+AreInputSums input sums = IfOk (header_of input.now) (λ header. AreSums (record { input = input; header = header }) sums)
+
+-- sums of two; none is more than 2 to the 128 minus 1
+abbrev pub added : ℕ → ℕ → ℕ
+added one other = min (one + other) (2 ^ 128 - 1)
+
+abbrev pub with_sums : Sums → Sums → Sums
+with_sums one other = record {
+  sections = added one.sections other.sections;
+  segments = added one.segments other.segments;
+  elf_headers = added one.elf_headers other.elf_headers;
+  program_headers = added one.program_headers other.program_headers;
+  section_headers = added one.section_headers other.section_headers;
+  between = added one.between other.between;
+  after = added one.after other.after;
+}
+
+-- the bytes of all kinds
+abbrev pub all_of : Sums → ℕ
+all_of sums = added (added (added (added (added (added sums.sections sums.segments) sums.elf_headers) sums.program_headers)
+    sums.section_headers) sums.between) sums.after
