@@ -73,6 +73,16 @@ fn file_32(order: Order, row: (u64, u64, u64)) -> [u8; SIZE] {
     file
 }
 
+// A copy of a file, for an image.
+fn copy_of(bytes: &[u8; SIZE]) -> [u8; SIZE] {
+    *bytes
+}
+
+// The first items, as many as are asked for.
+fn first<T>(items: &[T], count: usize) -> &[T] {
+    &items[..count.min(items.len())]
+}
+
 // Relocates the second of two objects of one file, whose bytes are those of its span, and returns the
 // 16 bytes from the word on.
 fn relocate_second<E: LinkedSymbol>(
@@ -84,23 +94,19 @@ fn relocate_second<E: LinkedSymbol>(
     let one = DynamicObject::<E>::read(&file).expect(rt, "an object");
     let two = DynamicObject::<E>::read(&file).expect(rt, "an object");
     let objects = [one, two];
-    let mut image = *bytes;
+    let mut image = copy_of(bytes);
     let others: [&[u8]; 2] = [&[], &[]];
     let result = Scope::new(&objects).relocate(1, when, PAGE, PLACES, &others, &mut image);
-    want_at(
-        rt,
-        "before the word",
-        &image[..WORD] == &bytes[..WORD],
-        true,
-    );
-    want_at(
-        rt,
-        "after the word",
-        &image[WORD + 16..] == &bytes[WORD + 16..],
-        true,
-    );
+    let before = image.get(..WORD) == bytes.get(..WORD);
+    want_at(rt, "before the word", before, true);
+    let after = image.get(WORD + 16..) == bytes.get(WORD + 16..);
+    want_at(rt, "after the word", after, true);
     let mut word = [0; 16];
-    word.copy_from_slice(&image[WORD..WORD + 16]);
+    put(
+        &mut word,
+        0,
+        image.get(WORD..WORD + 16).expect(rt, "a word"),
+    );
     (result, word)
 }
 
@@ -280,8 +286,8 @@ fn words_are_in_the_image(rt: HostRuntime) {
         let file = open(&rt, &bytes);
         let one = DynamicObject::<DynEntry64>::read(&file).expect(&rt, "an object");
         let objects = [one];
-        let mut image = bytes;
-        let (places, others): (_, [&[u8]; 1]) = (&PLACES[..1], [&[]]);
+        let mut image = copy_of(&bytes);
+        let (places, others): (_, [&[u8]; 1]) = (first(PLACES, 1), [&[]]);
         let found = Scope::new(&objects).relocate(
             0,
             Binding::Now,
@@ -314,9 +320,10 @@ fn sizes_are_those_of_the_scope(rt: HostRuntime) {
     let scope = Scope::new(&objects);
     let all: [&[u8]; 2] = [&[], &[]];
     for &(of, places, images, size, error) in SIZES {
-        let mut image = bytes;
-        let (places, others) = (&PLACES[..places], &all[..images]);
-        let found = scope.relocate(of, Binding::Now, PAGE, places, others, &mut image[..size]);
+        let mut image = copy_of(&bytes);
+        let (places, others) = (first(PLACES, places), first(&all, images));
+        let image_part = &mut image[..size.min(SIZE)];
+        let found = scope.relocate(of, Binding::Now, PAGE, places, others, image_part);
         want_at(&rt, (of, size), found, Err(error));
         want_at(&rt, (of, size), image == bytes, true);
     }
@@ -341,21 +348,26 @@ const COPIED: &[(usize, Result<u64, LoadError>, &[u8])] = &[
 #[test]
 fn copies_are_of_relocated_words(rt: HostRuntime) {
     let (program, library) = (file_64(LITTLE, 62, (5, 1, 0)), library());
-    let (first, second) = (open(&rt, &program), open(&rt, &library));
-    let one = DynamicObject::<DynEntry64>::read(&first).expect(&rt, "an object");
-    let two = DynamicObject::<DynEntry64>::read(&second).expect(&rt, "an object");
+    let (own, other) = (open(&rt, &program), open(&rt, &library));
+    let one = DynamicObject::<DynEntry64>::read(&own).expect(&rt, "an object");
+    let two = DynamicObject::<DynEntry64>::read(&other).expect(&rt, "an object");
     let objects = [one, two];
     let scope = Scope::new(&objects);
-    let mut source = library;
+    let mut source = copy_of(&library);
     let none: [&[u8]; 2] = [&[], &[]];
     let found = scope.relocate(1, Binding::Now, PAGE, PLACES, &none, &mut source);
     want_at(&rt, "the library", found, Ok(0));
     for &(size, result, bytes) in COPIED {
-        let mut image = program;
-        let others: [&[u8]; 2] = [&[], &source[..size]];
+        let mut image = copy_of(&program);
+        let others: [&[u8]; 2] = [&[], first(&source, size)];
         let found = scope.relocate(0, Binding::Now, PAGE, PLACES, &others, &mut image);
         want_at(&rt, size, found, result);
         let word = with_old(bytes);
-        want_at(&rt, size, &image[WORD..WORD + 16] == &word[..], true);
+        want_at(
+            &rt,
+            size,
+            image.get(WORD..WORD + 16) == Some(&word[..]),
+            true,
+        );
     }
 }
