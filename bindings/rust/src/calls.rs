@@ -16,7 +16,7 @@ pub(crate) struct Asked<'a> {
     pub(crate) index: u64,
 }
 
-// Hands on the name of each call, its answer, and the refusals that it may answer.
+// Hands on the name of each call, its result, and the errors that it may return.
 pub(crate) fn every(asked: &Asked<'_>, mut heard: impl FnMut(&str, Result<(), Error>, &[Error])) {
     let (input, header, part, table) = (asked.input, &asked.header, &asked.part, &asked.table);
     let (hash, name, ranges) = (&asked.hash, asked.name, &[asked.part]);

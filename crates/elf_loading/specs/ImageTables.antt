@@ -90,10 +90,12 @@ abbrev pub is_unreadable_at : ElfFile → ℕ → Option ℕ → Bool
 is_unreadable_at file start None = true
 is_unreadable_at file start (Some size) = not (is_readable (segment_at_of file start size))
 
+-- the same for a table that may have no address: it is not read then
 abbrev pub is_unreadable_by : ElfFile → Option ℕ → Option ℕ → Bool
 is_unreadable_by file None size = false
 is_unreadable_by file (Some start) size = is_unreadable_at file start size
 
+-- the same for a table
 abbrev pub is_unreadable : ElfFile → Extent → Bool
 is_unreadable file table = is_unreadable_by file table.start table.size
 

@@ -175,6 +175,7 @@ abbrev pub IsCheckAt : {E : Type 0} → {r : _} → ℕ → (E → SymbolFields)
 IsCheckAt size fields objects of None bits result = result ≡ Err (error.Link ObjectIndex)
 IsCheckAt size fields objects of (Some own) bits result = IsOwnCheck size fields objects of own bits result
 
+-- the same, where the object may be missing from the scope
 abbrev pub IsImageCheck : {E : Type 0} → {r : _} → ℕ → (E → SymbolFields) → List (DynamicObject E r) → ℕ → ℕ → Result (Unit {0}) LoadError → Type 0
 IsImageCheck size fields objects of bits result = IsCheckAt size fields objects of (slice_get objects of) bits result
 

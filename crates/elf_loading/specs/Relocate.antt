@@ -92,6 +92,7 @@ abbrev pub object_start : {E : Type 0} → {r : _} → ℕ → Option (DynamicOb
 object_start page None = 0
 object_start page (Some object) = first_start page (loads_of (object_file object))
 
+-- the same for the object at an index
 abbrev pub start_at : {E : Type 0} → {r : _} → Sources E r → ℕ → ℕ
 start_at sources object = object_start sources.page (slice_get sources.objects.now object)
 
@@ -120,6 +121,7 @@ abbrev pub is_weak : {E : Type 0} → (E → SymbolFields) → Option E → Bool
 is_weak fields None = false
 is_weak fields (Some symbol) = (fields symbol).info / 16 == 2
 
+-- a look-up found no symbol, and had no error
 abbrev pub is_absent : {E : Type 0} → Result (Option (Bound E)) LinkError → Bool
 is_absent (Ok None) = true
 is_absent _ = false
@@ -218,6 +220,7 @@ IsRelocationAt fields sources (Some own) when before after result =
     IsRelocation fields (sources (file_order (object_file own).header)) own (binds_lazily (view_entries (object_view own)) when)
     before after result
 
+-- the same for the object at an index of these, by the arguments of the call
 abbrev pub IsRelocationIn : {E : Type 0} → {r : _} → (E → SymbolFields) → Bor (List (DynamicObject E r)) → ℕ → Binding → ℕ → Bor (List Place) → Bor (List (Bor (List ℕ))) → List ℕ → List ℕ → Result ℕ LoadError → Type 0
 IsRelocationIn fields objects of when page places images before after result = IsRelocationAt fields (λ order. record {
   objects = objects;

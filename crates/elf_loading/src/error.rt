@@ -12,7 +12,7 @@ use std::fmt;
 /// Those from `Type` to `Tls` are of `LoadPlan::check_load`, which returns the first that applies in
 /// this order; those from `FileSize` to `Zeros` are of one load segment, and of several such segments
 /// the first decides. Those from `Dynamic` to `WordInTable` are of `LoadScope::check_image`, which
-/// does the same; those from `WordType` on are of one word.
+/// lists their order: one table after the other, then one word after the other.
 #[derive(Clone, Copy, Debug, PartialEq, Eq)]
 pub enum LoadError {
     /// The type of the file is neither 2 (ET_EXEC) nor 3 (ET_DYN).

@@ -12,6 +12,7 @@ use Rattle.xmas_elf.specs.Types.{ElfFile}
 abbrev pub kind_of : ℕ → ℕ
 kind_of part = if part % 4 == 1 then 1 else (if part % 4 == 3 then 2 + min (part / 4) 4 else 0)
 
+-- a run with the kind of its part
 abbrev pub kind_run : Run → Run
 kind_run run = record { part = kind_of run.part; size = run.size }
 
@@ -39,6 +40,7 @@ AreInputSums input sums = IfOk (header_of input.now) (λ header. AreSums (record
 abbrev pub added : ℕ → ℕ → ℕ
 added one other = min (one + other) (2 ^ 128 - 1)
 
+-- the sums of files with those of others
 abbrev pub with_sums : Sums → Sums → Sums
 with_sums one other = record {
   sections = added one.sections other.sections;
