@@ -26,6 +26,7 @@ REFUSED_AT = ROOT / "docs" / "wrong_bodies_commit.txt"
 FLAGS = {
     "gate": "those of docs/wrong_bodies.txt, and those since the commit of docs/wrong_bodies_commit.txt; all where it isn't known here",
     "all": "all, and stores the commit there if each is refused",
+    "store": "after --gate too: what it leaves out has not changed since the commit before",
     "proved": "behind `rt ci`: no crate is checked first as it stands",
     "list": "the batches, and nothing is tried",
     "compile": "only whether each edit compiles, some ten seconds a batch",
@@ -231,7 +232,7 @@ def must_stay() -> list:
 
 
 def of_gate():
-    """What the gate tries; None for all, where the commit of the last whole run isn't known here."""
+    """What the gate tries; None for all, where the commit at which all were refused isn't known here."""
     commit = REFUSED_AT.read_text(encoding="utf-8").strip() if REFUSED_AT.exists() else ""
     if commit and changed.git("cat-file", "-t", commit, check=False).startswith("commit"):
         return Since(commit, set(must_stay()))
@@ -272,7 +273,7 @@ def main() -> int:
         return trial.alone(unproved, "its right bodies were tried")
     if given.list:
         return trial.list()
-    return trial.run() or (store() if given.all and not given.names else 0)
+    return trial.run() or (store() if (given.all or given.gate and given.store) and not given.names else 0)
 
 
 if __name__ == "__main__":
