@@ -392,7 +392,8 @@ SEGMENT = ((0, 4), (4, 4), (8, 8), (16, 8), (32, 8), (40, 8), (48, 8))
 def number_of(chance: random.Random, content: bytes, place: int, size: int) -> int:
     """Another number for a field."""
     was = int.from_bytes(content[place : place + size], "little")
-    other = chance.choice((0, 1, 2, 3, 4, 6, 7, PAGE, 16 * PAGE, 2**47 - PAGE, 0x6474E551, 0x6474E552, len(content), chance.getrandbits(8 * size)))
+    other = chance.choice((
+        0, 1, 2, 3, 4, 6, 7, PAGE, 16 * PAGE, 2**47 - PAGE, 0x6474E551, 0x6474E552, len(content), chance.getrandbits(8 * size)))
     near = was + chance.choice((-PAGE, -8, -1, 1, 8, PAGE, 16 * PAGE))
     return chance.choice((other, near, near)) % 2 ** (8 * size)
 

@@ -39,7 +39,9 @@ from typing import Dict, Iterator, List, NamedTuple, Optional, Tuple
 import damage
 from comparing import Tally, ended, files_of, parser_of, read_elf, run
 
-LINE = re.compile(r"^(\d+) (\d+\.\d\d)% ((?:section|symbol) \d+(?= )|segment \d+$|(?:ELF header|(?:program|section) headers|between parts|after all parts|sum)$)")
+LINE = re.compile(
+    r"^(\d+) (\d+\.\d\d)% "
+    r"((?:section|symbol) \d+(?= )|segment \d+$|(?:ELF header|(?:program|section) headers|between parts|after all parts|sum)$)")
 SIZED = re.compile(r"^([0-9a-f]+) ([0-9a-f]+) \S ", re.M)
 HEADER = re.compile(r"^ *\[ *(\d+)\] .*? ([A-Z0-9_]+|LOOS\S*|<unknown>\S*) +[0-9a-f]{8,16} [0-9a-f]{6,} ([0-9a-f]{6,}) ", re.M)
 MOST_PARTS, NO_BITS, RELRO = 3000, 8, 0x6474E552

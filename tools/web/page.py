@@ -92,8 +92,9 @@ class Test:
 
 def system_files(count):
     """Files of this system, of all sizes up to 8 MiB, and small ones of this repository."""
-    found = [TOP / "crates/elfnm/data/add.o", TOP / "crates/elfsym/data/stripped.so", *(pathlib.Path("/usr/lib32", it.name) for it in (LIBC, LIBM)),
-             LIBRARIES / "crt1.o", LIBC, LIBM, pathlib.Path("/usr/bin/readelf"), pathlib.Path("/usr/bin/python3")]
+    found = [TOP / "crates/elfnm/data/add.o", TOP / "crates/elfsym/data/stripped.so",
+             *(pathlib.Path("/usr/lib32", it.name) for it in (LIBC, LIBM)), LIBRARIES / "crt1.o", LIBC, LIBM,
+             pathlib.Path("/usr/bin/readelf"), pathlib.Path("/usr/bin/python3")]
     return [it for it in [*found, *comparing.spread(count, 8 << 20)] if it.exists()][:count]
 
 
@@ -390,7 +391,8 @@ def try_pieces(test):
         shown = page.run(f"({PIECES})()")
         starts, ends = [start for start, _ in shown["pieces"]], [end for _, (_, end) in shown["pieces"]]
         test.same(f"{path.name}: pieces follow each other", [*starts, path.stat().st_size], [0, *ends])
-        free = {label: sum(end - start for start, (it, end) in shown["pieces"] if it == label) for label in ("Between parts", "Behind all parts")}
+        size_of = lambda label: sum(end - start for start, (it, end) in shown["pieces"] if it == label)
+        free = {label: size_of(label) for label in ("Between parts", "Behind all parts")}
         said = re.search(r"([\d,]+) bytes of no part: ([\d,]+) between parts, ([\d,]+) behind", shown["said"])
         numbers = [int(it.replace(",", "")) for it in said.groups()]
         test.same(f"{path.name}: bytes of no part", numbers, [sum(free.values()), *free.values()])
@@ -420,7 +422,8 @@ def try_hostile_names(test):
     path = files.markup(test.room)
     test.open(path)
     test.same("the file's name", test.page.text("#filename"), path.name)
-    wanted = {"Overview": 5, "Layout": 5, "Sections": 5, "Segments": 0, "Symbols": 5, "Relocations": 0, "Dynamic": 5, "Notes": 1, "Hash tables": 0}
+    wanted = {"Overview": 5, "Layout": 5, "Sections": 5, "Segments": 0, "Symbols": 5, "Relocations": 0, "Dynamic": 5, "Notes": 1,
+              "Hash tables": 0}
     for tab, least in wanted.items():
         test.tab(tab)
         if tab in ("Sections", "Symbols", "Dynamic", "Notes"):

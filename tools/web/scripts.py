@@ -107,7 +107,8 @@ CUT = """
 """
 
 # Clicks a section in the strip; whether the symbols of a section are shown.
-CLICK = """Array.from(document.querySelectorAll(".strip rect")).find((it) => it.textContent.startsWith("%s  ")).dispatchEvent(new MouseEvent("click"))"""
+CLICK = """Array.from(document.querySelectorAll(".strip rect")).find((it) => it.textContent.startsWith("%s  "))
+  .dispatchEvent(new MouseEvent("click"))"""
 INSIDE = "document.querySelector('.insidesection h3')?.textContent === 'Symbols in %s' && !document.querySelector('.insidesection').hidden"
 
 # Whether the build id, the last of what people look for, is in view.
@@ -130,7 +131,8 @@ async () => {
     }
     if (top + map.clientHeight >= map.scrollHeight) break;
   }
-  return { pieces: [...found].sort((one, other) => one[0] - other[0]), said: document.querySelector("[role=tabpanel]:not([hidden]) .said").textContent };
+  const said = document.querySelector("[role=tabpanel]:not([hidden]) .said").textContent;
+  return { pieces: [...found].sort((one, other) => one[0] - other[0]), said };
 }
 """
 
