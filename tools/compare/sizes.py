@@ -362,12 +362,8 @@ def compare_damaged(program: str, count: int, seed: int, tally: Tally) -> None:
 
 
 def main() -> int:
-    parser = parser_of(__doc__, "elfsize")
-    parser.add_argument("--damaged", type=int, default=0, metavar="N")
-    parser.add_argument("--seed", type=int, default=1, metavar="S")
-    parser.add_argument("--most", type=int, metavar="N")
+    parser = parser_of(__doc__, "elfsize", files="*", damaged=0, seed=1, most=sys.maxsize)
     parser.add_argument("--symbols", action="store_true")
-    parser.add_argument("files", nargs="*", metavar="FILE")
     given = parser.parse_args()
     tally = Tally("elfsize")
     is_asked, one = (has_symbols, compare_symbols) if given.symbols else (read_elf, compare)
