@@ -148,7 +148,8 @@ def kit() -> str:
 
 
 def write(found: dict) -> None:
-    lines = ["# Written by `bench/instructions.py --write`: how many items each pass sees, and how many instructions it takes.", f'kit = "{kit()}"']
+    lines = ["# Written by `bench/instructions.py --write`: how many items each pass sees, and how many instructions it takes."]
+    lines += [f'kit = "{kit()}"']
     for name, (items, instructions) in found.items():
         lines += ["", "[[pass]]", f'name = "{name}"', f"items = {items}", f"instructions = {instructions}"]
     STORED.write_text("\n".join(lines) + "\n", encoding="utf-8")

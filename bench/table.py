@@ -1,6 +1,7 @@
 #!/usr/bin/env python3
 """table.py passes REPOSITORY ROOM: the table of what the runs in ROOM measured, the least of each.
 table.py growth RUN: the same of one run over files of growing size, a row for each kind of file, without the peers but one.
+table.py layouts TIMES: the times here and of the crate in each layout of the code, their medians and geometric means.
 table.py exports ROOM: what `speed` measured by the exports for C, beside the runs in ROOM.
 table.py paste REPOSITORY TABLE: puts the table into docs/BENCH.md, and the rows of SHORT with fewer columns into
 README.md, in each between the lines `<!-- bench -->` and `<!-- /bench -->`.
@@ -8,6 +9,7 @@ README.md, in each between the lines `<!-- bench -->` and `<!-- /bench -->`.
 import pathlib
 import platform
 import re
+import statistics
 import subprocess
 import sys
 
@@ -58,7 +60,8 @@ def passes(repository: str, room: pathlib.Path) -> None:
     columns = [who for who in PEERS + HERE if any(who in row for row in cells.values())]
     commit = said("git", "-C", repository, "rev-parse", "--short", "HEAD")
     runs = len(list(room.glob("run_*.tsv")))
-    print(f"Measured at {commit} by `bench/run.sh` on {machine()}. Built by {said('rustc', '--version')}, {said('gcc', '--version')}, `{said('rt', 'version')}`.")
+    built = f"{said('rustc', '--version')}, {said('gcc', '--version')}, `{said('rt', 'version')}`"
+    print(f"Measured at {commit} by `bench/run.sh` on {machine()}. Built by {built}.")
     print(f"Nanoseconds an item, the least of {runs} runs. The ratios are those of the faster way here.")
     print()
     print(row_of("Pass", "file", "items", *columns, "to the crate", "to `object`", "spread"))
@@ -89,6 +92,24 @@ def growth(run: pathlib.Path) -> None:
         print(row_of(name, family, ", ".join(sizes), here, other))
 
 
+def layouts(times: pathlib.Path) -> None:
+    least: dict[str, dict[tuple[str, str], float]] = {}
+    for line in times.read_text(encoding="utf-8").splitlines():
+        layout, _group, name, who, each, _count, _rounds = line.split("\t")
+        row = least.setdefault(name, {})
+        row[layout, who] = min(float(each), row.get((layout, who), float(each)))
+    print("Nanoseconds a call, the least of the runs of each layout.")
+    for name, row in least.items():
+        named = dict.fromkeys(layout for layout, _who in row)
+        columns = [[row[layout, who] for layout in named] for who in ("crate", "here")]
+        columns.append([here / crate for crate, here in zip(*columns)])
+        print(f"\n{row_of(name, 'crate', 'here', 'to the crate')}\n|---|---:|---:|---:|")
+        for layout, *cells in zip(named, *columns):
+            print(row_of(f"layout {layout}", *(f"{it:.2f}" for it in cells)))
+        for text, value in [("least", min), ("median", statistics.median), ("geometric mean", statistics.geometric_mean), ("most", max)]:
+            print(row_of(text, *(f"{value(column):.2f}" for column in columns)))
+
+
 # What `bindings/c/speed.c` calls a pass, and which pass of the bench is the library's, and by which way there.
 EXPORTS = {
     "header": ("parse the header", "here"),
@@ -110,7 +131,8 @@ EXPORTS = {
 def exports(room: pathlib.Path) -> None:
     cells, _items = read(room)
     print()
-    print("By the exports for C, `bindings/c/speed.c`: nanoseconds an item, the least of as many runs. The library's are those of the table above.")
+    print("By the exports for C, `bindings/c/speed.c`: nanoseconds an item, the least of as many runs. "
+          "The library's are those of the table above.")
     print()
     print(row_of("Pass", "file", "by the exports", "the library"))
     print("|---|---|---:|---:|")
@@ -150,7 +172,8 @@ def short(table: str) -> str:
     for row in rows:
         cells.setdefault((row[0], row[1]), dict(zip(head, row)))  # a later table has a row of the same name
     columns = [it for it in SHOWN if it in head]
-    said = [f"Nanoseconds an item. Measured at {commit[1]} by `bench/run.sh` on {commit[2]}. `object` is measured in its raw calls, which don't test names for UTF-8."]
+    said = [f"Nanoseconds an item. Measured at {commit[1]} by `bench/run.sh` on {commit[2]}. "
+            "`object` is measured in its raw calls, which don't test names for UTF-8."]
     said += ["", row_of("Pass", *columns, "here", "to the crate"), "|---|" + "---:|" * (len(columns) + 2)]
     for wanted in SHORT:
         row = cells[wanted]
@@ -178,6 +201,8 @@ if sys.argv[1:2] == ["passes"]:
     passes(sys.argv[2], pathlib.Path(sys.argv[3]))
 elif sys.argv[1:2] == ["growth"]:
     growth(pathlib.Path(sys.argv[2]))
+elif sys.argv[1:2] == ["layouts"]:
+    layouts(pathlib.Path(sys.argv[2]))
 elif sys.argv[1:2] == ["exports"]:
     exports(pathlib.Path(sys.argv[2]))
 elif sys.argv[1:2] == ["paste"]:

@@ -109,7 +109,8 @@ def compare(program: Program, elfbind: str, tally: Tally) -> int:
         says, does = own.bound.get(key, set()), reads.bound.get(key, set())
         if says != does:
             held = [it for file in says | does if os.path.isfile(file) for it in dynamic_symbols(file) if it.name == key[1]]
-            cause = "unique" if any(it.binding == UNIQUE for it in held) else "ifunc" if any(it.kind == INDIRECT for it in held) else "unexplained"
+            is_unique, is_indirect = (any(it.binding == UNIQUE for it in held), any(it.kind == INDIRECT for it in held))
+            cause = "unique" if is_unique else "ifunc" if is_indirect else "unexplained"
             line = f"{program.path}: {' '.join(key)}: elfbind says {sorted(says)}, the linker {sorted(does)}: {cause}"
             if cause == "unexplained":
                 tally.fault(line)

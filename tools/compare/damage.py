@@ -239,7 +239,8 @@ class Damage:
 
     def places_of(self, kinds):
         """Where sections of these types lie: the place of the header, the offset and the size."""
-        found = [(it, self.of_section(it, "offset"), self.of_section(it, "size")) for it in self.sections if self.of_section(it, "type") in kinds]
+        kept = [it for it in self.sections if self.of_section(it, "type") in kinds]
+        found = [(it, self.of_section(it, "offset"), self.of_section(it, "size")) for it in kept]
         return [it for it in found if it[2] and it[1] + it[2] <= len(self.data)]
 
     def words_of(self, kinds, count):

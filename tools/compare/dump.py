@@ -21,7 +21,9 @@ import tempfile
 from collections import Counter
 from pathlib import Path
 
-from comparing import ABOUT, ROOT, Tally, build_ids, dynamic_symbols, files_of, llvm, parser_of, parts, raw, read_elf, relocation_tables, run, spread, stripped, texts_of
+from comparing import (
+    ABOUT, ROOT, Tally, build_ids, dynamic_symbols, files_of, llvm, parser_of, parts, raw, read_elf, relocation_tables, run, spread,
+    stripped, texts_of)
 
 FILES, LARGEST = 300, 400_000
 
@@ -32,8 +34,10 @@ def built(room):
     if not os.path.exists(f"{archive}/libelf_c.a"):
         sys.exit(f"no libelf_c.a in {archive}: run `rt lib` in crates/elf_c")
     flags = ["-O2", "-Ibindings/include", f"{archive}/libelf_c.a", "-o"]
-    for command in (["g++", "bindings/cpp/dump.cpp", *flags, f"{room}/dump"], *(["gcc", f"bindings/c/{it}.c", *flags, f"{room}/{it}"] for it in ("find", "dynamic")),
-        ["cargo", "build", "--quiet", "--offline", "--release", "--manifest-path", "bindings/rust/Cargo.toml", "--example", "dump"]):
+    for command in (
+            ["g++", "bindings/cpp/dump.cpp", *flags, f"{room}/dump"],
+            *(["gcc", f"bindings/c/{it}.c", *flags, f"{room}/{it}"] for it in ("find", "dynamic")),
+            ["cargo", "build", "--quiet", "--offline", "--release", "--manifest-path", "bindings/rust/Cargo.toml", "--example", "dump"]):
         subprocess.run(command, cwd=ROOT, env={**os.environ, "XMAS_ELF_ARCHIVE": archive, "CARGO_TARGET_DIR": room}, check=True)
     return [f"{room}/dump", f"{room}/release/examples/dump"], f"{room}/find", f"{room}/dynamic"
 
@@ -108,7 +112,8 @@ class Wanted:
 
 def differing(tally, path, printed, wanted):
     tally["lines"] += len(wanted)
-    for ours, theirs in itertools.zip_longest(*((sorted((Counter(one) - Counter(other)).elements()) for one, other in ((printed, wanted), (wanted, printed))))):
+    without = lambda one, other: sorted((Counter(one) - Counter(other)).elements())
+    for ours, theirs in itertools.zip_longest(without(printed, wanted), without(wanted, printed)):
         tally.differ(path, "line", ours, theirs)
 
 
@@ -128,7 +133,8 @@ def compare(programs, find, dynamic, path):
             found = [f"found {name} {value} {version}" for name, (value, version, _) in wanted.found.items()]
             named = [it for it in lines if not it.startswith(("section ", *TABLES))]
             tables = [it for it in lines if it.startswith(TABLES)]
-            differing(tally, f"{path} by {program}", tables, entries(file, tables) + relocations(file, tables, *(() if file == path else ("-D",))))
+            wanted_tables = entries(file, tables) + relocations(file, tables, *(() if file == path else ("-D",)))
+            differing(tally, f"{path} by {program}", tables, wanted_tables)
             differing(tally, f"{path} by {program}", named, ids[file] + wanted.dynamic(named) + (found if file == path else []))
             if file == path:
                 differing(tally, f"{path} by {program}", [it for it in lines if it.startswith("section ")], wanted.sections)

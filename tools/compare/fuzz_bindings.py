@@ -160,7 +160,8 @@ def change_of_version(held: Object, chance: random.Random) -> Change:
         place, aux = chance.choice(definitions)
         return chance.choice((
             Change("flags of a definition", place + 2, "<H", chance.randrange(4)), Change("number of a definition", place + 4, "<H", number),
-            Change("hash of a definition", place + 8, "<I", chance.choice([*hashes, 0, 1])), Change("name of a definition", aux, "<I", chance.choice(names)),
+            Change("hash of a definition", place + 8, "<I", chance.choice([*hashes, 0, 1])),
+            Change("name of a definition", aux, "<I", chance.choice(names)),
         ))
     place = chance.choice(needs)
     return chance.choice((
@@ -254,7 +255,8 @@ class Comparison(namedtuple("Comparison", "elfbind elfsym room tally")):
             else:
                 self.tally["results compared"] += 1
                 if not self.agree(line, other, name in threads):
-                    self.tally.fault(f"{path.name}: {name}{'@' + version if version else ''}: elfsym says {line!r}, {'dlvsym' if version else 'dlsym'} {other}: {told(changes)}")
+                    asked_for, call = (f"{name}@{version}", "dlvsym") if version else (name, "dlsym")
+                    self.tally.fault(f"{path.name}: {asked_for}: elfsym says {line!r}, {call} {other}: {told(changes)}")
 
     @staticmethod
     def agree(line: str, other: str, is_thread: bool) -> bool:
@@ -286,7 +288,8 @@ def compare_symbols(comparison: Comparison, chance: random.Random, count: int) -
     """Compares what is found by name and version in changed copies of libraries."""
     for source, versions, name, needed in COMPILED:
         Path(comparison.room, "versions.map").write_text(versions, encoding="utf-8")
-        words = ["-Os", "-fPIC", "-shared", "-nostdlib", f"-Wl,--version-script=versions.map,-soname={name}", "-o", name, "-x", "c", "-", "-x", "none"]
+        linked = f"-Wl,--version-script=versions.map,-soname={name}"
+        words = ["-Os", "-fPIC", "-shared", "-nostdlib", linked, "-o", name, "-x", "c", "-", "-x", "none"]
         subprocess.run(["gcc", *words, *needed], cwd=comparison.room, input=source.encode(), check=True)
     for _ in range(count):
         comparison.tally["copies"] += 1

@@ -41,7 +41,8 @@ def said_of(path: str, lines: List[str], seconds: int, variables: dict) -> Optio
         environment = {"PATH": os.environ.get("PATH", ""), "HOME": room, "LC_ALL": "C", **variables}
         try:
             done = subprocess.run(
-                [sys.executable, "-IS", __file__, path], input=text, cwd=room, env=environment, timeout=seconds, capture_output=True, check=False)
+                [sys.executable, "-IS", __file__, path], input=text, cwd=room, env=environment, timeout=seconds,
+                capture_output=True, check=False)
         except subprocess.TimeoutExpired:
             return None
     said = done.stdout.decode("utf-8", "surrogateescape").split("\n")

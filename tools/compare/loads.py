@@ -49,8 +49,8 @@ MAPPED = re.compile(r"^([0-9a-f]+)-([0-9a-f]+) (...). ([0-9a-f]+) \S+ \d+ *(.*)$
 # Requests of ptrace, and the call mprotect of x86-64 and of 386 with PROT_READ.
 TRACE_ME, WRITE_WORD, CONTINUE, REGISTERS, STEP_TO_CALL = 0, 5, 7, 12, 24
 MPROTECT, NARROW_MPROTECT, READ_ALONE = 10, 125, 1
-# The places of registers in user_regs_struct of x86-64.
-THIRD, NUMBER = 12, 15
+# The places of registers in user_regs_struct of x86-64, and the number AT_BASE of the auxiliary vector.
+THIRD, NUMBER, LINKER_BASE = 12, 15, 7
 
 # Why a damaged copy that elfload accepts isn't loaded.
 ALLOWED = {
@@ -200,7 +200,7 @@ class Stopped:
         return [mapping_of(MAPPED.match(it)) for it in lines[:-1]]
 
     def auxiliary(self, kind: int) -> int:
-        """An entry of the auxiliary vector, as 7, AT_BASE."""
+        """An entry of the auxiliary vector, as LINKER_BASE."""
         held = Path(f"/proc/{self.pid}/auxv").read_bytes()
         return dict(struct.iter_unpack("<II" if self.is_narrow else "<QQ", held)).get(kind, 0)
 
@@ -326,13 +326,17 @@ def base_of(maps: List[Mapping], path: str, plan: Plan) -> Optional[int]:
     return None if first is None else first - plan.start
 
 
+def linker_in(process: Stopped, maps: List[Mapping]) -> Tuple[str, int]:
+    """The dynamic linker that Linux has mapped for a process, if there is one, and its base."""
+    base = process.auxiliary(LINKER_BASE)
+    return next((it.holds for it in maps if it.start <= base < it.end), ""), base
+
+
 def files_of(process: Stopped, maps: List[Mapping], program: str, tally: Plans, is_protected: bool) -> List[Loaded]:
     """The files that a process has mapped."""
-    base = process.auxiliary(7)
-    interpreter = next((it.holds for it in maps if it.start <= base < it.end), "")
-    found = []
+    found, linker = [], linker_in(process, maps)[0]
     for path in dict.fromkeys(it.holds for it in maps if it.holds.startswith("/") and is_elf(it.holds)):
-        by = "kernel" if path in (program, interpreter) else "glibc"
+        by = "kernel" if path in (program, linker) else "glibc"
         plan = tally.plan(path)
         if plan is not None:
             found.append(Loaded(path, plan, by, base_of(maps, path, plan), is_protected))
@@ -343,6 +347,13 @@ def files_of(process: Stopped, maps: List[Mapping], program: str, tally: Plans, 
 def value_of(path: str, name: str) -> Optional[int]:
     """The value of a dynamic symbol, as readelf says."""
     return next((it.value for it in dynamic_symbols(path) if it.name == name and it.section != UNDEFINED), None)
+
+
+def to_debug_state(process: Stopped) -> bool:
+    """Runs up to the function that the linker calls before it maps libraries, and once relocation is done."""
+    linker, base = linker_in(process, process.maps())
+    state = value_of(linker, "_dl_debug_state")
+    return state is not None and process.to_address(base + state)
 
 
 def compare_stop(process: Stopped, program: str, stop: str, tally: Plans) -> None:
@@ -365,11 +376,7 @@ def compare(path: str, tally: Plans) -> None:
             tally["without relro"] += 1
             return
         compare_stop(process, path, "before relro", tally)
-        base = process.auxiliary(7)
-        linker = next(it.holds for it in process.maps() if it.start <= base < it.end)
-        state = value_of(linker, "_dl_debug_state")
-        # The linker calls it before it maps libraries, and once relocation is done.
-        if state is None or not process.to_address(base + state):
+        if not to_debug_state(process):
             tally["not relocated"] += 1
             return
         compare_stop(process, path, "after relro", tally)
@@ -385,7 +392,8 @@ SEGMENT = ((0, 4), (4, 4), (8, 8), (16, 8), (32, 8), (40, 8), (48, 8))
 def number_of(chance: random.Random, content: bytes, place: int, size: int) -> int:
     """Another number for a field."""
     was = int.from_bytes(content[place : place + size], "little")
-    other = chance.choice((0, 1, 2, 3, 4, 6, 7, PAGE, 16 * PAGE, 2**47 - PAGE, 0x6474E551, 0x6474E552, len(content), chance.getrandbits(8 * size)))
+    other = chance.choice((
+        0, 1, 2, 3, 4, 6, 7, PAGE, 16 * PAGE, 2**47 - PAGE, 0x6474E551, 0x6474E552, len(content), chance.getrandbits(8 * size)))
     near = was + chance.choice((-PAGE, -8, -1, 1, 8, PAGE, 16 * PAGE))
     return chance.choice((other, near, near)) % 2 ** (8 * size)
 

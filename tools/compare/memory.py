@@ -27,9 +27,10 @@ import struct
 import sys
 from typing import Dict, Iterator, List, NamedTuple, Optional, Set, Tuple
 
+import damage
 from bindings import programs_in, real
 from comparing import LOAD, UNIQUE, Tally, dynamic_symbols, parser_of, run
-from loads import PAGE, Stopped, can_trace, content_of, value_of
+from loads import PAGE, Stopped, can_trace, content_of, is_narrow, linker_in, to_debug_state, value_of
 
 WORD = re.compile(r"word 0x([0-9a-f]+) (\d+) (\w+) = (.*)")
 NUMBER = re.compile(r"(?:(base|thread)\((\d+)\) \+ )?0x([0-9a-f]+)(?: - (base|thread)\((\d+)\))?")
@@ -37,27 +38,10 @@ MODULE = re.compile(r"module\((\d+)\)")
 COPY = re.compile(r"copy\((\d+), 0x([0-9a-f]+), (\d+)\)")
 NO_NUMBER = re.compile(r"call\((?:base\(\d+\) \+ )?0x[0-9a-f]+\) \+ 0x[0-9a-f]+|descriptor\((?:\d+, )?0x[0-9a-f]+\)")
 
-# The base of the linker in the auxiliary vector, types of segments, and tags of entries of a dynamic segment.
-LINKER_BASE = 7
+# Types of segments, and tags of entries of a dynamic segment.
 DYNAMIC, THREAD_LOCAL, RELRO = 2, 7, 0x6474E552
 PLT_GOT, DEBUG = 3, 21
 WRITABLE = 2
-
-
-class Shape(NamedTuple):
-    """How a class is laid out: the format and the size of an address, the places of e_phoff and e_phnum, and the format of a
-    program header with the indices of its fields in `Segment`."""
-
-    word: str
-    size: int
-    table: int
-    count: int
-    header: str
-    fields: Tuple[int, ...]
-
-
-WIDE = Shape("Q", 8, 32, 56, "<IIQQQQQQ", (0, 1, 2, 3, 5, 6, 7))
-NARROW = Shape("I", 4, 28, 44, "<IIIIIIII", (0, 6, 1, 2, 4, 5, 7))
 
 
 class Segment(NamedTuple):
@@ -72,16 +56,24 @@ class Segment(NamedTuple):
     align: int
 
 
-def shape_of(path: str) -> Shape:
-    return NARROW if content_of(path)[4] == 1 else WIDE
+# The names of these fields in damage.py.
+FIELDS = ("type", "flags", "offset", "vaddr", "filesz", "memsz", "align")
+
+
+def layout_of(path: str) -> damage.Layout:
+    return damage.Layout(not is_narrow(path), "little")
+
+
+def address_size(path: str) -> int:
+    return 4 if is_narrow(path) else 8
 
 
 @functools.lru_cache(maxsize=None)
 def segments_of(path: str) -> Tuple[Segment, ...]:
-    content, shape = content_of(path), shape_of(path)
-    (start,), (count,) = struct.unpack_from("<" + shape.word, content, shape.table), struct.unpack_from("<H", content, shape.count)
-    rows = (struct.unpack_from(shape.header, content, start + struct.calcsize(shape.header) * it) for it in range(count))
-    return tuple(Segment(*(row[it] for it in shape.fields)) for row in rows)
+    content, layout = content_of(path), layout_of(path)
+    start, count = (layout.get(content, 0, layout.header[name]) for name in ("phoff", "phnum"))
+    places = (start + layout.segment_size * index for index in range(count))
+    return tuple(Segment(*(layout.get(content, place, layout.segment[name]) for name in FIELDS)) for place in places)
 
 
 def last_of(path: str, kind: int) -> Optional[Segment]:
@@ -92,7 +84,8 @@ def last_of(path: str, kind: int) -> Optional[Segment]:
 def entries_of(path: str) -> Tuple[Tuple[int, int], ...]:
     """The tags and values of the dynamic segment."""
     segment = last_of(path, DYNAMIC)
-    return tuple(struct.iter_unpack("<" + 2 * shape_of(path).word, content_of(path)[segment.offset :][: segment.file_size])) if segment else ()
+    held = content_of(path)[segment.offset :][: segment.file_size] if segment else b""
+    return tuple(struct.iter_unpack("<" + 2 * layout_of(path).address, held))
 
 
 class File(NamedTuple):
@@ -192,13 +185,9 @@ def words_of(text: str) -> List[List[Word]]:
 
 def to_relocated(process: Stopped) -> Optional[Tuple[str, int]]:
     """Runs up to where relocation is done and no constructor has run; the linker and its base, if the process gets there."""
-    if not process.is_stopped() or not process.to_read_only():
+    if not process.is_stopped() or not process.to_read_only() or not to_debug_state(process):
         return None
-    base = process.auxiliary(LINKER_BASE)
-    linker = next(it.holds for it in process.maps() if it.start <= base < it.end)
-    # The linker calls it before it maps libraries, and once relocation is done.
-    state = value_of(linker, "_dl_debug_state")
-    return (linker, base) if state is not None and process.to_address(base + state) else None
+    return linker_in(process, process.maps())
 
 
 def text_at(process: Stopped, address: int) -> str:
@@ -207,10 +196,10 @@ def text_at(process: Stopped, address: int) -> str:
 
 def files_of(process: Stopped, program: str, linker: str, base: int) -> Iterator[File]:
     """The files in the linker's list (`struct link_map`)."""
-    shape = shape_of(linker)
-    (at,) = struct.unpack("<" + shape.word, process.memory(base + value_of(linker, "_r_debug") + shape.size, shape.size))
+    form, size = layout_of(linker).address, address_size(linker)
+    (at,) = struct.unpack(f"<{form}", process.memory(base + value_of(linker, "_r_debug") + size, size))
     while at:
-        moved, name, _, at = struct.unpack("<4" + shape.word, process.memory(at, 4 * shape.size))
+        moved, name, _, at = struct.unpack(f"<4{form}", process.memory(at, 4 * size))
         path = real(text_at(process, name) or program)
         if os.path.isfile(path):
             yield File(path, moved, path in (program, linker))
@@ -290,7 +279,7 @@ def differing(one: bytes, other: bytes) -> Iterator[int]:
 
 def compare_load(of: Process, file: File, load: Segment, words: Dict[int, bytes], compared: Set[Tuple[str, int]], tally: Tally) -> None:
     """Compares the bytes of a load segment; of one without words that can't be written once for all processes."""
-    start, wanted, size = down(load.address), image_of(file, load), shape_of(file.path).size
+    start, wanted, size = down(load.address), image_of(file, load), address_size(file.path)
     is_writable = bool(load.flags & WRITABLE)
     inside = {at: held for at, held in words.items() if load.address <= at < load.address + load.size}
     if not inside and not is_writable and (file.path, start) in compared:

@@ -112,7 +112,8 @@ def largest(path: str) -> list:
     for section in parts(said, "Sections", "Section"):
         if not section["Flags"]["RawFlags"] & EXECUTED:
             continue
-        here = [(it["Value"], it["Size"], raw(it["Type"]) != FUNCTION) for it in kept if raw(it["Section"]) == section["Index"] and raw(it["Type"]) in NAMED]
+        inside = [it for it in kept if raw(it["Section"]) == section["Index"] and raw(it["Type"]) in NAMED]
+        here = [(it["Value"], it["Size"], raw(it["Type"]) != FUNCTION) for it in inside]
         sized = sorted({it for it in here if it[1]}, key=lambda it: (-it[0], it[1], it[2]))
         edges = sorted({edge for value, size, _ in sized for edge in (value, value + size)})
         for begin, end in zip(edges, edges[1:]):

@@ -49,7 +49,8 @@ def read_notes(path: str) -> list[tuple[str, list[Note]]]:
 
 def compare_notes(file, path: str, tally: Tally) -> None:
     text = lambda name: bytes(name).partition(b"\0")[0].decode("utf-8", "replace")
-    says = [(section.name, [Note(it.type, text(it.name), len(it.desc)) for it in section.notes()]) for section in file.sections() if section.type == NOTES]
+    sections = [it for it in file.sections() if it.type == NOTES]
+    says = [(section.name, [Note(it.type, text(it.name), len(it.desc)) for it in section.notes()]) for section in sections]
     reads = read_notes(path)
     if [name for name, _ in says] != [name for name, _ in reads]:
         tally.differ(path, "sections of notes", says, reads)
@@ -117,5 +118,7 @@ def compare(path: str, tally: Tally) -> None:
 
 
 if __name__ == "__main__":
-    counted = ("files", "sections of notes", "notes", "RELR sections", "packed relocations", "hash tables", "exported names", "other names", "of these found")
+    counted = (
+        "files", "sections of notes", "notes", "RELR sections", "packed relocations", "hash tables", "exported names", "other names",
+        "of these found")
     sys.exit(compare_all(__doc__, Tally("the library", *counted), compare))

@@ -39,7 +39,9 @@ from typing import Dict, Iterator, List, NamedTuple, Optional, Tuple
 import damage
 from comparing import Tally, ended, files_of, parser_of, read_elf, run
 
-LINE = re.compile(r"^(\d+) (\d+\.\d\d)% ((?:section|symbol) \d+(?= )|segment \d+$|(?:ELF header|(?:program|section) headers|between parts|after all parts|sum)$)")
+LINE = re.compile(
+    r"^(\d+) (\d+\.\d\d)% "
+    r"((?:section|symbol) \d+(?= )|segment \d+$|(?:ELF header|(?:program|section) headers|between parts|after all parts|sum)$)")
 SIZED = re.compile(r"^([0-9a-f]+) ([0-9a-f]+) \S ", re.M)
 HEADER = re.compile(r"^ *\[ *(\d+)\] .*? ([A-Z0-9_]+|LOOS\S*|<unknown>\S*) +[0-9a-f]{8,16} [0-9a-f]{6,} ([0-9a-f]{6,}) ", re.M)
 MOST_PARTS, NO_BITS, RELRO = 3000, 8, 0x6474E552
@@ -360,12 +362,8 @@ def compare_damaged(program: str, count: int, seed: int, tally: Tally) -> None:
 
 
 def main() -> int:
-    parser = parser_of(__doc__, "elfsize")
-    parser.add_argument("--damaged", type=int, default=0, metavar="N")
-    parser.add_argument("--seed", type=int, default=1, metavar="S")
-    parser.add_argument("--most", type=int, metavar="N")
+    parser = parser_of(__doc__, "elfsize", files="*", damaged=0, seed=1, most=sys.maxsize)
     parser.add_argument("--symbols", action="store_true")
-    parser.add_argument("files", nargs="*", metavar="FILE")
     given = parser.parse_args()
     tally = Tally("elfsize")
     is_asked, one = (has_symbols, compare_symbols) if given.symbols else (read_elf, compare)

@@ -78,14 +78,16 @@ awk '/^```c$/ { on = 1; next } /^```$/ { on = 0 } on' bindings/c/README.md > "$r
 gcc -std=c11 "${strict[@]}" "$room/shown.c" "$archive" -o "$room/names_c"
 awk '/^```cpp$/ { on = 1; next } /^```$/ { on = 0 } on' bindings/c/README.md > "$room/shown.cpp"
 g++ -std=c++17 "${strict[@]}" -Wconversion "$room/shown.cpp" "$archive" -o "$room/names_cpp"
-diff <("$room/names_cpp" /lib/x86_64-linux-gnu/libz.so.1 | grep '^lib.*\.so') <(readelf --wide --dynamic /lib/x86_64-linux-gnu/libz.so.1 | sed -n 's/.*(NEEDED).*\[\(.*\)\]$/\1/p')
+zlib=/lib/x86_64-linux-gnu/libz.so.1
+diff <("$room/names_cpp" $zlib | grep '^lib.*\.so') <(readelf --wide --dynamic $zlib | sed -n 's/.*(NEEDED).*\[\(.*\)\]$/\1/p')
 cargo build --quiet --offline --release --manifest-path bindings/rust/Cargo.toml --examples
 # The header's version is that of the crate.
 grep -qx "#define XMAS_ELF_VERSION \"$(sed -n 's/^version = "\(.*\)"/\1/p' bindings/rust/Cargo.toml)\"" bindings/include/xmas_elf.h
 # C, C++ and Rust beside nm and readelf, over 300 files. A path that can't be opened is named.
 tools/compare/dump.py
-for program in "$room/nm_c" "$room/find_c" "$room/dynamic_c" "$room/addresses_c" "$room/nm_g++" "$room/dump" "$room/memory" "$room/sizes" "$CARGO_TARGET_DIR"/release/examples/{nm,find,dump,addresses}; do
-    { "$program" /no/such/file 2>&1 || true; } | grep -q '^/no/such/file: No such file or directory' || { echo "$program doesn't name its path"; exit 1; }
+for program in "$room"/{nm_c,find_c,dynamic_c,addresses_c,nm_g++,dump,memory,sizes} "$CARGO_TARGET_DIR"/release/examples/{nm,find,dump,addresses}; do
+    { "$program" /no/such/file 2>&1 || true; } | grep -q '^/no/such/file: No such file or directory' ||
+        { echo "$program doesn't name its path"; exit 1; }
 done
 # The mappings of a program beside those of its process, in which those of zeros have no path; and the symbols of its functions
 # in their middle, by the values and sizes of nm.
@@ -111,15 +113,18 @@ for program in "$room/addresses_c" "$CARGO_TARGET_DIR/release/examples/addresses
 done
 # The pieces of a file sum to its size, and its functions are as large as nm says.
 "$room/sizes" "$room/mapped" > "$room/sizes_of"
-[ "$(grep -E ' [0-9]+$' "$room/sizes_of" | awk '{ sum += $1 } END { print sum }')" = "$(stat --format %s "$room/mapped")" ] || { echo "the pieces don't sum to the size"; exit 1; }
+[ "$(grep -E ' [0-9]+$' "$room/sizes_of" | awk '{ sum += $1 } END { print sum }')" = "$(stat --format %s "$room/mapped")" ] ||
+    { echo "the pieces don't sum to the size"; exit 1; }
 sizes_by_nm() { functions | while read -r _ size _ name; do echo "$((16#$size)) $name"; done | grep -v ' _\(init\|fini\)$'; }
 diff <(grep -vE ' [0-9]+$' "$room/sizes_of" | sort) <(sizes_by_nm | sort)
 # Both kinds of hash tables, a file's own name and its folders, and libraries with many versions.
-echo 'int one(void) { return 1; }' | gcc -shared -fPIC -x c - -o "$room/libnamed.so" -Wl,-soname,libnamed.so.1 -Wl,-rpath,/a:/b -Wl,--enable-new-dtags
+echo 'int one(void) { return 1; }' |
+    gcc -shared -fPIC -x c - -o "$room/libnamed.so" -Wl,-soname,libnamed.so.1 -Wl,-rpath,/a:/b -Wl,--enable-new-dtags
 # The tables of both classes and both orders, with and without addends, packed ones too.
 tables=()
 if command -v clang > /dev/null && command -v ld.lld > /dev/null; then
-    echo 'int f(int); int x, *a[] = {&x}; static int w[40], *s[] = {w, w + 1, w + 30}; int g(int b) { return f(b) + *a[b] + *s[b]; }' > "$room/tables.c"
+    echo 'int f(int); int x, *a[] = {&x}; static int w[40], *s[] = {w, w + 1, w + 30};
+        int g(int b) { return f(b) + *a[b] + *s[b]; }' > "$room/tables.c"
     for machine in i386 x86_64 powerpc powerpc64; do
         clang "--target=$machine-linux-gnu" -fPIC -c "$room/tables.c" -o "$room/tables.o"
         ld.lld -shared --pack-dyn-relocs=relr "$room/tables.o" -o "$room/tables_$machine.so"
@@ -142,7 +147,8 @@ python 'import pathlib, sys
 from compare import damage
 for it in range(1000): pathlib.Path(sys.argv[1], str(it)).write_bytes(damage.damaged(1, it))' "$room/damaged"
 # The tests want of each call over these a status that the list has for it.
-XMAS_ELF_DAMAGED="$room/damaged" cargo test --quiet --offline --release --manifest-path bindings/rust/Cargo.toml -- --show-output > "$room/tests" ||
+XMAS_ELF_DAMAGED="$room/damaged" \
+    cargo test --quiet --offline --release --manifest-path bindings/rust/Cargo.toml -- --show-output > "$room/tests" ||
     { tail -n 50 "$room/tests"; exit 1; }
 grep ' files, ' "$room/tests"
 cargo build --quiet --offline --release --no-default-features --manifest-path bindings/rust/Cargo.toml

@@ -168,7 +168,8 @@ def ffi_text(listed):
 
 def constants_text():
     # A few names of GNU's end in small letters.
-    lines = ["//! Numbers of the ELF standard by their names there. Written by tools/exports/declarations.py.", "#![allow(non_upper_case_globals)]"]
+    lines = ["//! Numbers of the ELF standard by their names there. Written by tools/exports/declarations.py."]
+    lines += ["#![allow(non_upper_case_globals)]"]
     for group, some in itertools.groupby(listing.constants(), lambda it: it.group):
         lines += ["", f"// {group}."]
         for one in some:

@@ -34,7 +34,8 @@ fi
 export XMAS_ELF_ARCHIVE
 version="$(sed -n 's/^version = "\(.*\)"/\1/p' bindings/rust/Cargo.toml)"
 grep -qx "version = \"$version\"" bindings/python/pyproject.toml || { echo "the crate and the wheel differ in their version" >&2; exit 1; }
-grep -qx "#define XMAS_ELF_VERSION \"$version\"" bindings/include/xmas_elf.h || { echo "the crate and the header differ in their version" >&2; exit 1; }
+grep -qx "#define XMAS_ELF_VERSION \"$version\"" bindings/include/xmas_elf.h ||
+    { echo "the crate and the header differ in their version" >&2; exit 1; }
 
 rm -rf "$dist"
 mkdir -p "$dist/lib/pkgconfig" "$dist/include" "$dist/c" "$dist/python" "$dist/rust/lib/$target"

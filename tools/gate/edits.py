@@ -169,7 +169,8 @@ class EditedCrate(Crate):
                 for edit, (name, copy) in beside[one]:
                     at = one.last + shift
                     lines[at:at] = copy
-                    of[edit.label()] = [Function(file, at + 1, at + len(copy), one.path.removesuffix(one.name()) + name, body=at + 1, owner=one.owner)]
+                    path = one.path.removesuffix(one.name()) + name
+                    of[edit.label()] = [Function(file, at + 1, at + len(copy), path, body=at + 1, owner=one.owner)]
                     shift += len(copy)
             texts[file] = "\n".join(lines)
         copies = {of[it.label()][0]: it.beside() for it in edits if it.label() in apart}

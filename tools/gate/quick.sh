@@ -49,7 +49,8 @@ done
 for name in $(sed -E 's/#.*//; s/[ :].*//' crates.txt); do
     case "$(awk -v name="$name" '$1 != "function" && $2 == name { print $1 }' "$room/changed")" in
         contracts | bodies) in_crate "$name" rt check; run_all "$name" test ;;
-        above) if grep -q '^contracts ' "$room/changed"; then in_crate "$name" rt check; run_all "$name" test; else run_all "$name" try --test; fi ;;
+        above)
+            if grep -q '^contracts ' "$room/changed"; then in_crate "$name" rt check; run_all "$name" test; else run_all "$name" try --test; fi ;;
         data) run_all "$name" try --test ;;
     esac
 done

@@ -33,6 +33,7 @@ def of(crate: str, *others: str) -> tuple:
 # What each command measures, besides a script itself.
 PATHS = {
     "bench/run.sh": of("elf_c", "bench", "bindings/c/speed.c"),
+    "bench/layouts.sh": of("xmas_elf", "bench/here", "bench/peers"),
     "bench/growth.sh": of("elf_linking", "bench/here", "bench/files.sh", "bench/hostile.py"),
     "elfinfo": of("elfinfo", "bench/hostile.py"),
     **dict.fromkeys((r"\time", "rt"), ("crates/elf_base", "crates/elf_records", "crates/xmas_elf")),

@@ -71,7 +71,8 @@ def bytes_of(named: str) -> str:
     """Some bytes of a file in hexadecimal, sixteen in a line, each line behind the offset of its first."""
     path, first, count = named.split()
     data = (ROOT / path).read_bytes()[int(first, 0) : int(first, 0) + int(count, 0)]
-    rows = [f"{int(first, 0) + at:04x}  {data[at : at + 8].hex(' ')}  {data[at + 8 : at + 16].hex(' ')}".rstrip() for at in range(0, len(data), 16)]
+    halves = [(at, data[at : at + 8].hex(" "), data[at + 8 : at + 16].hex(" ")) for at in range(0, len(data), 16)]
+    rows = [f"{int(first, 0) + at:04x}  {one}  {other}".rstrip() for at, one, other in halves]
     return "\n".join(["```text", *rows, "```", ""])
 
 

@@ -17,7 +17,9 @@ import re
 ROOT = pathlib.Path(__file__).resolve().parents[2]
 
 ITEM = re.compile(r'pub (struct|enum|trait|type|const|static|(?:const )?fn|extern "C" fn) (\w+)')
-BLOCK = re.compile(r"(?:pub(?:\(\w+\))? )?(impl|trait)(?:<((?:[^<>]|<[^<>]*>)*)>)?\s+(?:([\w:]+)(?:<([^{]*?)>)? for )?(?:\w+::)*(\w+)(?:<([^{]*?)>)?")
+BLOCK = re.compile(
+    r"(?:pub(?:\(\w+\))? )?(impl|trait)(?:<((?:[^<>]|<[^<>]*>)*)>)?\s+"
+    r"(?:([\w:]+)(?:<([^{]*?)>)? for )?(?:\w+::)*(\w+)(?:<([^{]*?)>)?")
 FUNCTION = re.compile(r"( {0,4})(?:pub(?:\(\w+\))? )?(?:final )?(?:const )?(?:unsafe )?(?:extern \"C\" )?fn (\w+)")
 USE = re.compile(r"^(pub )?use ([^;]+);", re.MULTILINE)
 # What has no body in which another could stand: a constant is computed by it, and an opaque type is read off it.
@@ -117,7 +119,9 @@ class Source:
 
     def read_blocks(self):
         for at, line in enumerate(self.lines):
-            if re.match(r"(pub(\(\w+\))? )?(impl|trait)\b", line) and (found := BLOCK.match(" ".join(self.lines[at : at + 7]).split("{")[0] + "{")):
+            if not re.match(r"(pub(\(\w+\))? )?(impl|trait)\b", line):
+                continue
+            if found := BLOCK.match(" ".join(self.lines[at : at + 7]).split("{")[0] + "{"):
                 end = at if line.endswith("}") else self.lines.index("}", at)
                 yield Block(found[3] or "", found[5], self, at, end, found[1] == "trait", *label_of(found))
 

@@ -4,7 +4,9 @@ import subprocess
 
 from compare import comparing
 
-SECTION = re.compile(r"^ *\[ *(\d+)\] (.*?) *(\S+) +([0-9a-f]{8,16}) ([0-9a-f]{6,}) ([0-9a-f]{6,}) ([0-9a-f]{2,}) +([A-Za-z]*) +(\d+) +(\d+) +(\d+)$", re.M)
+SECTION = re.compile(
+    r"^ *\[ *(\d+)\] (.*?) *(\S+) +([0-9a-f]{8,16}) ([0-9a-f]{6,}) ([0-9a-f]{6,}) ([0-9a-f]{2,}) +([A-Za-z]*)"
+    r" +(\d+) +(\d+) +(\d+)$", re.M)
 SEGMENT = re.compile(r"^  (\S+) +(0x[0-9a-f]+) (0x[0-9a-f]+) (0x[0-9a-f]+) (0x[0-9a-f]+) (0x[0-9a-f]+) ([RWE ]{3}) (\S+)$", re.M)
 HELD = re.compile(r"^   (\d\d+) +(.*)$", re.M)
 SYMBOL = re.compile(r" *(\d+): ([0-9a-f]+) +(0x[0-9a-f]+|\d+) (\S+) +(\S+) +(\S+)(?: +\[.*?\])? +(\S+) ?(.*)$")
@@ -118,7 +120,8 @@ PANEL = "[role=tabpanel]:not([hidden])"
 
 def compare_header(test, path):
     said = header(path)
-    table = dict(test.page.run("Array.from(document.querySelectorAll('table.plain tbody tr'), (it) => [it.children[0].textContent, it.children[1].textContent])"))
+    table = dict(test.page.run(
+        "Array.from(document.querySelectorAll('table.plain tbody tr'), (it) => [it.children[0].textContent, it.children[1].textContent])"))
     pairs = {"e_entry": "Entry point address", "e_ehsize": "Size of this header", "e_phoff": "Start of program headers",
              "e_shoff": "Start of section headers", "e_phentsize": "Size of program headers", "e_phnum": "Number of program headers",
              "e_shentsize": "Size of section headers", "e_shnum": "Number of section headers", "e_shstrndx": "Section header string table index"}
@@ -156,7 +159,8 @@ def compare_segments(test, path, holds_sections=True):
         _, shown_kind, *shown, shown_flags, shown_align, shown_held = rows.get(index, [""] * 10)[:10]
         test.same(f"{path}: segment {index}", [shown_kind, shown_flags], [kind, flags.replace(" ", "")])
         test.same(f"{path}: sections in segment {index}", shown_held, held if holds_sections else "")
-        test.same(f"{path}: numbers of segment {index}", [int(it, 16) for it in (*shown, shown_align)], [int(it, 16) for it in (*numbers, align)])
+        own, read = ([int(it, 16) for it in some] for some in ((*shown, shown_align), (*numbers, align)))
+        test.same(f"{path}: numbers of segment {index}", own, read)
 
 
 def compare_tables(test, path, tab, label, wanted, form):

@@ -27,7 +27,8 @@ def records_of(listed):
     lines = []
     for struct in listed.structs:
         lines.append(f'printf("%zu\\n", sizeof({struct.c_type}));')
-        lines += [f'printf("%zu %zu\\n", offsetof({struct.c_type}, {it.c_name}), sizeof((({struct.c_type} *)0)->{it.c_name}));' for it in struct.fields]
+        for it in struct.fields:
+            lines.append(f'printf("%zu %zu\\n", offsetof({struct.c_type}, {it.c_name}), sizeof((({struct.c_type} *)0)->{it.c_name}));')
     # What C prints of the structs, by these lines.
     source = '#include "xmas_elf.h"\n#include <stddef.h>\n#include <stdio.h>\nint main(void) {\n' + "\n".join(lines) + "\nreturn 0; }\n"
     with tempfile.TemporaryDirectory() as room:
@@ -37,7 +38,8 @@ def records_of(listed):
     numbers, records = map(int, printed.split()), {}
     for struct in listed.structs:
         records[struct.name] = {"size": next(numbers), "members": [
-            {"name": it.c_name, "at": next(numbers), "size": next(numbers), "record": it.type if it.type in names else None} for it in struct.fields]}
+            {"name": it.c_name, "at": next(numbers), "size": next(numbers), "record": it.type if it.type in names else None}
+            for it in struct.fields]}
     return records
 
 

@@ -20,7 +20,10 @@ esac
 
 # The checksum of all that the module is built of.
 sources() {
-    { cat crates.txt; find "${uses[@]/#/crates/}" -path '*/out' -prune -o \( -name '*.rt' -o -name '*.antt' \) -print0 | sort -z | xargs -0 cat; } | sha256sum
+    {
+        cat crates.txt
+        find "${uses[@]/#/crates/}" -path '*/out' -prune -o \( -name '*.rt' -o -name '*.antt' \) -print0 | sort -z | xargs -0 cat
+    } | sha256sum
 }
 
 # Whether it ends by itself or is stopped, nothing that this script began goes on or stays.
