@@ -1,6 +1,6 @@
 -- The segments that a loader asks for, by their type (gABI, "Program Header", p_type; PT_GNU_STACK and
 -- PT_GNU_RELRO are GNU's).
-use Rattle.std.specs.Prelude.{ℕ, ◌==◌, ◌&&◌, nat_le, drop, Bool, List, map, Option, None}
+use Rattle.std.specs.Prelude.{ℕ, ◌+◌, ◌==◌, ◌&&◌, nat_le, Bool, List, map, Option, None, if◌then◌else◌}
 use Rattle.std.specs.List.{filter, find, last_or}
 use Rattle.elf_records.specs.ProgramNumbers.{ph_type_number}
 use Rattle.xmas_elf.specs.ProgramHeader.{program_fields, program_list}
@@ -18,6 +18,10 @@ is_of_type kind size segment = ph_type_number segment.type_ == kind && nat_le si
 abbrev pub is_load : ProgramHeader64 → Bool
 is_load segment = ph_type_number segment.type_ == 1
 
+-- the number of loads, after one more segment of a type
+abbrev pub count_with : ℕ → ℕ → ℕ
+count_with count kind = if kind == 1 then count + 1 else count
+
 -- the loads in a list of program headers, in order
 abbrev pub loads_in : List ProgramHeader → List ProgramHeader64
 loads_in programs = filter is_load (segments_in programs)
@@ -25,10 +29,6 @@ loads_in programs = filter is_load (segments_in programs)
 -- the loads of a file, in the order of its program headers
 abbrev pub loads_of : ElfFile → List ProgramHeader64
 loads_of file = loads_in (program_list file)
-
--- the loads of a file from a program header on
-abbrev pub loads_from : ElfFile → ℕ → List ProgramHeader64
-loads_from file index = loads_in (drop index (program_list file))
 
 -- the last segment of a type with at least this size, or `before` if there is none
 abbrev pub last_in : ℕ → ℕ → Option ProgramHeader64 → List ProgramHeader → Option ProgramHeader64
