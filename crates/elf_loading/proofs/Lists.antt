@@ -1,12 +1,12 @@
 -- Searches of the segments of a file, segment by segment.
 use Rattle.std.proofs.Common.{◌≡◌, ℕ, ◌+◌, ◌-◌, ◌<◌, Bool, true, false, List, [], ◌∷◌, length, Some, None, if◌then◌else◌, refl, sym, ap, ◌∙◌, arith}
-use Rattle.std.proofs.lemmas.Bool.{and_parts}
+use Rattle.std.proofs.lemmas.Bool.{and_parts, eq-eqb, ne_eqb}
 use Rattle.std.specs.List.{filter, find, list_all, list_any}
 use Rattle.elf_records.specs.ProgramNumbers.{ph_type_number}
 use Rattle.xmas_elf.specs.Types.{ProgramHeader64}
 use Rattle.elf_loading.specs.LoadCheck.{fits_below, holds_address}
 use Rattle.elf_loading.specs.Programs.{loads_left}
-use Rattle.elf_loading.specs.Segments.{count_with, is_load}
+use Rattle.elf_loading.specs.Segments.{is_load}
 use Rattle.elf_loading.specs.Words.{has_zeros}
 use Rattle.elf_loading.specs.declared.programs.Programs.{Programs}
 use Rattle.elf_loading.proofs.HeadersAt.{some_left}
@@ -22,10 +22,15 @@ count_by : (count : ℕ) (segment : ProgramHeader64) (others : List ProgramHeade
 count_by count segment others true hit = rw hit (omega arith)
 count_by count segment others false miss = rw miss refl
 
-pub count_rest : (count after total : ℕ) (items others : List ProgramHeader64) (segment : ProgramHeader64) → items ≡ segment ∷ others → after ≡ count_with count (ph_type_number segment.type_) → count + length (filter is_load items) ≡ total → after + length (filter is_load others) ≡ total
-count_rest count after total items others segment is next before =
-    ap (λ n. n + length (filter is_load others)) next
-    ∙ (count_by count segment others (is_load segment) refl ∙ (sym (ap (λ list. count + length (filter is_load list)) is) ∙ before))
+pub count_load : (count total : ℕ) (items others : List ProgramHeader64) (segment : ProgramHeader64) → items ≡ segment ∷ others → ph_type_number segment.type_ ≡ 1 → count + length (filter is_load items) ≡ total → count + 1 + length (filter is_load others) ≡ total
+count_load count total items others segment is one before =
+    count_by count segment others true (eq-eqb (ph_type_number segment.type_) 1 one)
+    ∙ (sym (ap (λ list. count + length (filter is_load list)) is) ∙ before)
+
+pub count_other : (count total : ℕ) (items others : List ProgramHeader64) (segment : ProgramHeader64) → items ≡ segment ∷ others → (ph_type_number segment.type_ ≡ 1 → ⊥) → count + length (filter is_load items) ≡ total → count + length (filter is_load others) ≡ total
+count_other count total items others segment is none before =
+    count_by count segment others false (ne_eqb (ph_type_number segment.type_) 1 none)
+    ∙ (sym (ap (λ list. count + length (filter is_load list)) is) ∙ before)
 
 pub count_all : (count total : ℕ) (items : List ProgramHeader64) → items ≡ [] → count + length (filter is_load items) ≡ total → count ≡ total
 count_all count total items is before =

@@ -104,6 +104,10 @@ rest_same all before items others segment is none left =
       interpreter_left = skip_first data_of 3 before.interpreter items others segment is one.1 ∙ left.interpreter_left;
     }
 
+-- a load changes nothing of it
+pub load_same : (all : List ProgramHeader64) (before : Others) (items others : List ProgramHeader64) (segment : ProgramHeader64) → items ≡ segment ∷ others → ph_type_number segment.type_ ≡ 1 → AreLeft all before items → AreLeft all before others
+load_same all before items others segment is one left = rest_same all before items others segment is (ap is_kept one) left
+
 pub none_left : (all : List ProgramHeader64) (found : Others) (items : List ProgramHeader64) → items ≡ [] → AreLeft all found items → AreOthersIn all found
 none_left all found items is left = record {
   phdr_is = last_all address_of 6 0 found.phdr all items is left.phdr_left;

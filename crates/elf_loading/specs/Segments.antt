@@ -1,6 +1,6 @@
 -- The segments that a loader asks for, by their type (gABI, "Program Header", p_type; PT_GNU_STACK and
 -- PT_GNU_RELRO are GNU's).
-use Rattle.std.specs.Prelude.{ℕ, ◌+◌, ◌==◌, ◌&&◌, nat_le, Bool, List, map, Option, None, if◌then◌else◌}
+use Rattle.std.specs.Prelude.{ℕ, ◌==◌, ◌&&◌, nat_le, Bool, List, map, Option, None}
 use Rattle.std.specs.List.{filter, find, last_or}
 use Rattle.elf_records.specs.ProgramNumbers.{ph_type_number}
 use Rattle.xmas_elf.specs.ProgramHeader.{program_fields, program_list}
@@ -17,10 +17,6 @@ is_of_type kind size segment = ph_type_number segment.type_ == kind && nat_le si
 -- a segment is loaded (PT_LOAD)
 abbrev pub is_load : ProgramHeader64 → Bool
 is_load segment = ph_type_number segment.type_ == 1
-
--- the number of loads, after one more segment of a type
-abbrev pub count_with : ℕ → ℕ → ℕ
-count_with count kind = if kind == 1 then count + 1 else count
 
 -- the loads in a list of program headers, in order
 abbrev pub loads_in : List ProgramHeader → List ProgramHeader64

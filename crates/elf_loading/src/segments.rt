@@ -1,11 +1,10 @@
 //! The segments that a loader asks for, by their type (gABI, "Program Header", p_type).
 
-ghost use Rattle.std.specs.Prelude.{◌≡◌, ◌<◌};
+ghost use Rattle.std.specs.Prelude.{◌≡◌};
 ghost use Rattle.elf_loading.specs.Loads.{loads_rest};
 ghost use Rattle.elf_loading.specs.Others.{AreOthersIn, data_of, is_kept, memory_of, others_with};
 ghost use Rattle.elf_loading.specs.Others.{template_of};
 ghost use Rattle.elf_loading.specs.Programs.{loads_left, segments_left};
-ghost use Rattle.elf_loading.specs.Segments.{count_with};
 
 use crate::loads::Loads;
 use crate::plan::Tls;
@@ -116,15 +115,6 @@ impl Others {
     }
 }
 
-// The number of loads, after one more segment of this type.
-#[inline(always)]
-fn count_with(count: u16, kind: u32) -> u16
-    requires { count < 65535 }
-    ensures { result ≡ count_with count kind }
-{
-    if kind == PT_LOAD { count + 1 } else { count }
-}
-
 // The segments of a file, by what a loader does with them.
 #[derive(Clone, Copy, Debug)]
 pub(crate) struct Sorted<'a> {
@@ -133,7 +123,7 @@ pub(crate) struct Sorted<'a> {
 }
 
 // The segments that a loader asks for, in one pass over the program headers.
-#[tactic(auto, using(crate::proofs::Others::all_left, crate::proofs::Others::rest_left, crate::proofs::Others::rest_same, crate::proofs::Lists::count_rest, crate::proofs::Lists::count_all))]
+#[tactic(auto, using(crate::proofs::Others::all_left, crate::proofs::Others::rest_left, crate::proofs::Others::rest_same, crate::proofs::Others::load_same, crate::proofs::Lists::count_load, crate::proofs::Lists::count_other, crate::proofs::Lists::count_all))]
 #[inline(always)]
 pub(crate) fn sort(programs: Programs<'_>) -> Sorted<'_>
     ensures others { AreOthersIn (segments_left programs.entry) result.others }
@@ -150,10 +140,11 @@ pub(crate) fn sort(programs: Programs<'_>) -> Sorted<'_>
     let mut left = programs;
     while left.left > 0 {
         let kind = left.kind();
-        if is_kept(kind) {
+        if kind == PT_LOAD {
+            count += 1;
+        } else if is_kept(kind) {
             others.keep(&left.segment());
         }
-        count = count_with(count, kind);
         left = left.rest();
     }
     Sorted {
