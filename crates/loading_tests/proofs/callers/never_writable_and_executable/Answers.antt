@@ -23,7 +23,8 @@ pub returns : goal.returns
 returns c =
     let list = mappings_of (plan_page c.args.plan.now) c.args.by None (plan_loads c.args.plan.now) in
     let found = cases_from_all _ _ c.all.result (λ mapping. ¬ IsBoth mapping) IsBoth c.all.ensures.ran
-        (YieldsList-from_first (λ mapping. mapping) mappings_left list c.mappings.ensures.all)
-        (λ x q k. search (rules, tests)) (λ x q k. search (rules, tests)) in
-    (all_from (λ mapping. ¬ IsBoth mapping) IsBoth c.all.result list found,
-      true_from_All (λ mapping. ¬ IsBoth mapping) IsBoth c.all.result list (λ mapping no both. no both) found)
+    (YieldsList-from_first (λ mapping. mapping) mappings_left list c.mappings.ensures.all)
+    (λ x q k. search (rules, tests)) (λ x q k. search (rules, tests)) in (
+      all_from (λ mapping. ¬ IsBoth mapping) IsBoth c.all.result list found,
+      true_from_All (λ mapping. ¬ IsBoth mapping) IsBoth c.all.result list (λ mapping no both. no both) found,
+    )
