@@ -1,18 +1,24 @@
 -- What holds of a file that is not refused.
-use Rattle.std.proofs.Common.{◌≡◌, ℕ, ◌+◌, ◌-◌, ◌^◌, ◌==◌, ◌<◌, ◌≤◌, ◌||◌, not, nat_lt, nat_le, slice_index, if◌then◌else◌, Bool, true, false, List, [], ◌∷◌, length, Option, Some, None, ok_or, Result, Ok, Err, refl, ap, subst, arith}
+use Rattle.std.proofs.Common.{◌≡◌, ℕ, ◌+◌, ◌-◌, ◌^◌, ◌==◌, ◌<◌, ◌≤◌, ◌||◌, ◌*◌, not, min, nat_lt, nat_le, slice_index, if◌then◌else◌, Bool, true, false, List, [], ◌∷◌, length, Option, Some, None, ok_or, option_map, Result, Ok, Err, refl, sym, ap, subst, arith}
+use Rattle.std.proofs.Math.Nat.{min-le_right}
 use Rattle.std.proofs.lemmas.Bool.{and_parts, eqb-true, eq-eqb, leb-true, ltb-false, or_parts}
 use Rattle.std.specs.List.{list_all}
+use Rattle.elf_base.specs.FileHeader.{file_class, header_fields}
 use Rattle.elf_base.specs.Refusal.{and_then, unless}
 use Rattle.elf_base.specs.Text.{BytesRefused}
 use Rattle.elf_base.specs.declared.error.ElfError.{ElfError}
 use Rattle.elf_base.specs.declared.error.ElfError.TheVariants.{TextStart, TextEnd}
 use Rattle.xmas_elf.specs.Types.{ElfFile, ProgramHeader64}
 use Rattle.elf_loading.specs.FileCheck.{NoneApplies, check_file, covered_to, header_rows, is_no_path, is_uncovered, segment_rows}
+use Rattle.elf_loading.specs.HeaderAt.{AreWhole, header_size}
 use Rattle.elf_loading.specs.LoadCheck.{check_loads, fits_below, holds_address, lies_in, load_end}
+use Rattle.elf_loading.specs.Others.{data_of, memory_of}
 use Rattle.elf_loading.specs.Pages.{down}
 use Rattle.elf_loading.specs.Segments.{interpreter_of, loads_of, relro_of}
 use Rattle.elf_loading.specs.Spans.{IsCovered, ends_at, first_start, last_end, relro_span}
 use Rattle.elf_loading.specs.Mappings.{FollowEachOther, mappings_of}
+use Rattle.elf_loading.specs.declared.segments.Extent.{Extent}
+use Rattle.elf_loading.specs.declared.span.Span.{Span}
 use Rattle.elf_loading.specs.declared.mapping.Loader.{Loader}
 use Rattle.elf_loading.specs.declared.mapping.Loader.TheVariants.{Kernel}
 use Rattle.elf_loading.proofs.Follows.{follow, follow_order}
@@ -69,6 +75,28 @@ path_ends input segment why path refused =
     by_error TextEnd zero_there some inside (start, none) = none (segment.offset + segment.file_size - 1) (omega arith) (omega arith) zero_there
     by_error _ zero_there some inside never = never
 
+-- the segment of which a part was kept
+some_of : {A : Type 0} → (part : ProgramHeader64 → A) (whole : Option ProgramHeader64) (found : A) → Some found ≡ option_map part whole → (segment : ProgramHeader64) × (whole ≡ Some segment) × (part segment ≡ found)
+some_of part (Some segment) found is = (segment, refl, cc)
+some_of part None found is = absurd (cc)
+
+-- the pages of a segment, both ends rounded down
+abbrev pub span_in : ℕ → Extent → Span
+span_in page memory = record { start = down page memory.start; end = down page (memory.start + memory.size) }
+
+pub relro_some : (page : ℕ) (relro : Option ProgramHeader64) (memory : Extent) → Some memory ≡ option_map memory_of relro → option_map (relro_span page) relro ≡ Some (span_in page memory)
+relro_some page (Some segment) memory is =
+    let same : memory ≡ memory_of segment = cc in ap (λ m. Some (span_in page m)) (sym same)
+relro_some page None memory is = absurd (cc)
+
+pub relro_none : (page : ℕ) (relro : Option ProgramHeader64) → None ≡ option_map memory_of relro → option_map (relro_span page) relro ≡ None
+relro_none page (Some segment) is = absurd (cc)
+relro_none page None is = refl
+
+pub path_none : (interpreter : Option ProgramHeader64) → None ≡ option_map data_of interpreter → interpreter ≡ None
+path_none (Some segment) is = absurd (cc)
+path_none None is = refl
+
 module _ (file : ElfFile) (page limit end : ℕ) where
   by_rest : (found : ℕ) (answer : Result (Unit {0}) LoadError) → unless (segment_rows file page) (tt {0}) ≡ answer → and_then answer (λ passed. Ok found) ≡ Ok end → NoneApplies (segment_rows file page) × (found ≡ end)
   by_rest found (Ok passed) rest is = ((unless_ok (segment_rows file page) (tt {0}) passed rest).0, cc)
@@ -118,14 +146,19 @@ module _ (file : ElfFile) (page limit end : ℕ) where
       let least : down page (relro.virtual_addr + relro.mem_size) ≤ covered_to page (down page relro.virtual_addr) (loads_of file) = ltb-false _ _ covered in
       omega arith
 
-  pub passes_relro_fits : (relro : ProgramHeader64) → ends_at (check_file file page limit) end ≡ true → relro_of file ≡ Some relro → limit < 2 ^ 64 → relro.virtual_addr < 2 ^ 64 → down page (relro.virtual_addr + relro.mem_size) < 2 ^ 64
-  passes_relro_fits relro is there le at = passes_relro (2 ^ 64) relro is there le at
+  pub passes_relro_fits : (memory : Extent) → ends_at (check_file file page limit) end ≡ true → Some memory ≡ option_map memory_of (relro_of file) → limit < 2 ^ 64 → memory.start < 2 ^ 64 → down page (memory.start + memory.size) < 2 ^ 64
+  passes_relro_fits memory is there le at =
+      let (segment, found, part) = some_of memory_of (relro_of file) memory there in
+      let same : segment.virtual_addr ≡ memory.start = ap (λ m. m.start) part in
+      let below : segment.virtual_addr < 2 ^ 64 = omega (arith, same, at) in
+      subst (λ m. down page (m.start + m.size) < 2 ^ 64) part (passes_relro (2 ^ 64) segment is found le below)
 
-  pub passes_path : (segment : ProgramHeader64) (why : ElfError) → ends_at (check_file file page limit) end ≡ true → interpreter_of file ≡ Some segment → BytesRefused file.input.now segment.offset why → ⊥
-  passes_path segment why is there refused =
+  pub passes_path : (path : Extent) (why : ElfError) → ends_at (check_file file page limit) end ≡ true → Some path ≡ option_map data_of (interpreter_of file) → BytesRefused file.input.now path.start why → ⊥
+  passes_path path why is there refused =
+      let (segment, found, part) = some_of data_of (interpreter_of file) path there in
       let pass = passes (ends_ok (check_file file page limit) end is) in
-      let path : is_no_path file.input.now (Some segment) ≡ false = subst (λ o. is_no_path file.input.now o ≡ false) there pass.rest.1.0 in
-      path_ends file.input.now segment why path refused
+      let checked : is_no_path file.input.now (Some segment) ≡ false = subst (λ o. is_no_path file.input.now o ≡ false) found pass.rest.1.0 in
+      path_ends file.input.now segment why checked (subst (λ p. BytesRefused file.input.now p.start why) (sym part) refused)
 
   pub passes_follow : (by : Loader) → 0 < page → ends_at (check_file file page limit) end ≡ true → FollowEachOther (first_start page (loads_of file)) (last_end page 0 (loads_of file)) (mappings_of page by None (loads_of file))
   passes_follow by h is = follow page limit by h (loads_of file) (passes_fit is) (passes_apart is)
@@ -133,10 +166,29 @@ module _ (file : ElfFile) (page limit end : ℕ) where
   pub passes_order : 0 < page → ends_at (check_file file page limit) end ≡ true → first_start page (loads_of file) ≤ last_end page 0 (loads_of file)
   passes_order h is = follow_order (first_start page (loads_of file)) (last_end page 0 (loads_of file)) (mappings_of page Kernel None (loads_of file)) (passes_follow Kernel h is)
 
-  -- each address of what is read-only after relocation is in a load
-  pub passes_covered : (relro : ProgramHeader64) → ends_at (check_file file page limit) end ≡ true → relro_of file ≡ Some relro → IsCovered page (loads_of file) (relro_span page relro)
-  passes_covered relro is there address from to =
+  covered_by_checked : (relro : ProgramHeader64) → ends_at (check_file file page limit) end ≡ true → relro_of file ≡ Some relro → IsCovered page (loads_of file) (relro_span page relro)
+  covered_by_checked relro is there address from to =
       let pass = passes (ends_ok (check_file file page limit) end is) in
       let checked : is_uncovered page (loads_of file) (Some relro) ≡ false = subst (λ o. is_uncovered page (loads_of file) o ≡ false) there pass.rest.1.1.0 in
       let least : down page (relro.virtual_addr + relro.mem_size) ≤ covered_to page (down page relro.virtual_addr) (loads_of file) = ltb-false _ _ checked in
       covered page (down page relro.virtual_addr) address (loads_of file) from (omega arith)
+
+  -- each address of what is read-only after relocation is in a load
+  pub passes_covered : (memory : Extent) → ends_at (check_file file page limit) end ≡ true → Some memory ≡ option_map memory_of (relro_of file) → IsCovered page (loads_of file) (span_in page memory)
+  passes_covered memory is there =
+      let (segment, found, part) = some_of memory_of (relro_of file) memory there in
+      subst (λ m. IsCovered page (loads_of file) (span_in page m)) part (covered_by_checked segment is found)
+
+-- the program headers of a file that passes the rows of the header are in it whole
+pub whole_by : (file : ElfFile) (page : ℕ) → unless (header_rows file page) (tt {0}) ≡ Ok (tt {0}) → AreWhole file
+whole_by file page is =
+    let (none, same) = unless_ok (header_rows file page) (tt {0}) (tt {0}) is in
+    let sized = none.1.0 in let some = none.1.1.0 in let within = none.1.1.1.0 in record {
+      sized = eqb-true _ _ (un_not _ sized);
+      few = few_by (header_fields file.header.pt2).ph_count (file_class file.header == 1) (or_parts _ _ some).1;
+      within = ltb-false _ _ within;
+    }
+  where
+    few_by : (count : ℕ) (narrow : Bool) → nat_lt (min page 65536) (count * header_size narrow) ≡ false → count < 0xffff
+    few_by count true is = let most = ltb-false _ _ is in omega (arith, most, min-le_right page 65536)
+    few_by count false is = let most = ltb-false _ _ is in omega (arith, most, min-le_right page 65536)

@@ -1,5 +1,6 @@
 pub mod Rounded
 pub mod Fits
+pub mod HeadersAt
 pub mod Lists
 pub mod Others
 pub mod LoadChecks
@@ -29,3 +30,4 @@ pub mod Marks
 pub mod ImageWord
 pub mod ImageChecks
 pub mod ImagePasses
+pub mod FileLoads

@@ -1,21 +1,55 @@
 -- Searches of the segments of a file, segment by segment.
-use Rattle.std.proofs.Common.{◌≡◌, ℕ, Bool, true, false, List, [], ◌∷◌, Some, None, refl, ap, ◌∙◌}
-use Rattle.std.proofs.lemmas.Bool.{and_parts}
-use Rattle.std.specs.List.{find, list_all, list_any}
-use Rattle.xmas_elf.specs.ProgramHeader.{program_fields}
-use Rattle.xmas_elf.specs.Types.{ProgramHeader, ProgramHeader64}
+use Rattle.std.proofs.Common.{◌≡◌, ℕ, ◌+◌, ◌-◌, ◌<◌, Bool, true, false, List, [], ◌∷◌, length, Some, None, if◌then◌else◌, refl, sym, ap, ◌∙◌, arith}
+use Rattle.std.proofs.lemmas.Bool.{and_parts, eq-eqb, ne_eqb}
+use Rattle.std.specs.List.{filter, find, list_all, list_any}
+use Rattle.elf_records.specs.ProgramNumbers.{ph_type_number}
+use Rattle.xmas_elf.specs.Types.{ProgramHeader64}
 use Rattle.elf_loading.specs.LoadCheck.{fits_below, holds_address}
-use Rattle.elf_loading.specs.Segments.{is_load, loads_in}
+use Rattle.elf_loading.specs.Programs.{loads_left}
+use Rattle.elf_loading.specs.Segments.{is_load}
 use Rattle.elf_loading.specs.Words.{has_zeros}
+use Rattle.elf_loading.specs.declared.programs.Programs.{Programs}
+use Rattle.elf_loading.proofs.HeadersAt.{some_left}
 
-pub load_kept : (items others : List ProgramHeader) (p : ProgramHeader) → items ≡ p ∷ others → is_load (program_fields p) ≡ true → loads_in items ≡ program_fields p ∷ loads_in others
-load_kept items others p is hit = ap loads_in is ∙ rw hit refl
+pub load_kept : (items others : List ProgramHeader64) (segment : ProgramHeader64) → items ≡ segment ∷ others → is_load segment ≡ true → filter is_load items ≡ segment ∷ filter is_load others
+load_kept items others segment is hit = ap (filter is_load) is ∙ rw hit refl
 
-pub load_skipped : (items others : List ProgramHeader) (p : ProgramHeader) → items ≡ p ∷ others → is_load (program_fields p) ≡ false → loads_in items ≡ loads_in others
-load_skipped items others p is miss = ap loads_in is ∙ rw miss refl
+pub load_skipped : (items others : List ProgramHeader64) (segment : ProgramHeader64) → items ≡ segment ∷ others → is_load segment ≡ false → filter is_load items ≡ filter is_load others
+load_skipped items others segment is miss = ap (filter is_load) is ∙ rw miss refl
 
-pub load_end : (items : List ProgramHeader) → items ≡ [] → loads_in items ≡ []
-load_end items is = ap loads_in is
+-- the number of loads, segment by segment
+count_by : (count : ℕ) (segment : ProgramHeader64) (others : List ProgramHeader64) (b : Bool) → is_load segment ≡ b → (if b then count + 1 else count) + length (filter is_load others) ≡ count + length (filter is_load (segment ∷ others))
+count_by count segment others true hit = rw hit (omega arith)
+count_by count segment others false miss = rw miss refl
+
+pub count_load : (count total : ℕ) (items others : List ProgramHeader64) (segment : ProgramHeader64) → items ≡ segment ∷ others → ph_type_number segment.type_ ≡ 1 → count + length (filter is_load items) ≡ total → count + 1 + length (filter is_load others) ≡ total
+count_load count total items others segment is one before =
+    count_by count segment others true (eq-eqb (ph_type_number segment.type_) 1 one)
+    ∙ (sym (ap (λ list. count + length (filter is_load list)) is) ∙ before)
+
+pub count_other : (count total : ℕ) (items others : List ProgramHeader64) (segment : ProgramHeader64) → items ≡ segment ∷ others → (ph_type_number segment.type_ ≡ 1 → ⊥) → count + length (filter is_load items) ≡ total → count + length (filter is_load others) ≡ total
+count_other count total items others segment is none before =
+    count_by count segment others false (ne_eqb (ph_type_number segment.type_) 1 none)
+    ∙ (sym (ap (λ list. count + length (filter is_load list)) is) ∙ before)
+
+pub count_all : (count total : ℕ) (items : List ProgramHeader64) → items ≡ [] → count + length (filter is_load items) ≡ total → count ≡ total
+count_all count total items is before =
+    let none : length (filter is_load items) ≡ 0 = ap (λ list. length (filter is_load list)) is in omega arith
+
+pub count_kept : {A : Type 0} → (count : ℕ) (items others : List A) (item : A) → items ≡ item ∷ others → count ≡ length items → count - 1 ≡ length others
+count_kept count items others item is counted =
+    let one : length items ≡ length others + 1 = ap length is ∙ omega arith in omega arith
+
+-- where loads are left, program headers are left
+pub some_more : (count : ℕ) (programs start : Programs) → (count ≡ 0 → ⊥) → count ≡ length (loads_left start) → loads_left programs ≡ loads_left start → 0 < programs.left
+some_more count programs start some counted same =
+    let equal : length (loads_left programs) ≡ length (loads_left start) = ap length same in
+    some_left is_load programs.is_narrow programs.order programs.input.now programs.place programs.left (omega (arith, some, counted, equal))
+
+-- no loads are left
+pub none_left : {A : Type 0} → (items : List A) → length items ≡ 0 → items ≡ []
+none_left [] none = refl
+none_left (item ∷ items) none = absurd (omega arith)
 
 pub all_first : (test : ProgramHeader64 → Bool) (items others : List ProgramHeader64) (load : ProgramHeader64) → items ≡ load ∷ others → list_all test items ≡ true → test load ≡ true
 all_first test items others load is all = (and_parts (test load) (list_all test others) (rw is at all)).0

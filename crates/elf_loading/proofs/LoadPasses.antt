@@ -1,14 +1,20 @@
 -- A pass over the loads, load by load.
-use Rattle.std.proofs.Common.{◌≡◌, ℕ, ◌||◌, Bool, true, false, List, [], ◌∷◌, Option, Some, None, is_none, Ok, Err, if◌then◌else◌, refl, sym, ap, ◌∙◌}
+use Rattle.std.proofs.Common.{◌≡◌, ℕ, ◌||◌, Bool, true, false, List, [], ◌∷◌, Option, Some, None, is_none, is_some, option_map, unwrap_or, ◌==◌, ◌&&◌, Ok, Err, if◌then◌else◌, refl, sym, ap, subst, ◌∙◌}
 use Rattle.std.specs.List.{filter, last_or, list_any}
-use Rattle.xmas_elf.specs.Types.{ProgramHeader64}
-use Rattle.elf_loading.specs.FileCheck.{covered_to, holder_in, holds_offset, is_no_template, is_uncovered}
+use Rattle.elf_base.specs.FileHeader.{header_fields}
+use Rattle.xmas_elf.specs.Types.{ElfFile, ProgramHeader64}
+use Rattle.elf_loading.specs.FileCheck.{covered_to, holder_in, holds_offset, is_misplaced, kind_of, is_no_path, is_no_template, is_put_at, is_uncovered}
 use Rattle.elf_loading.specs.LoadCheck.{check_load, check_loads, load_start}
-use Rattle.elf_loading.specs.LoadPass.{IsPassOf, first_of, holds_some, is_past_covered, is_wrong_template, pass_with}
+use Rattle.elf_loading.specs.LoadPass.{IsPassOf, first_of, holds_some, is_elsewhere, is_past_covered, is_wrong_path, is_wrong_template, pass_with}
+use Rattle.elf_loading.specs.Others.{AreOthersOf, address_of, data_of, memory_of, template_of}
+use Rattle.elf_loading.specs.Segments.{interpreter_of, loads_of, phdr_of}
 use Rattle.elf_loading.specs.Spans.{first_start}
 use Rattle.elf_loading.specs.declared.error.LoadError.{LoadError}
 use Rattle.elf_loading.specs.declared.load_pass.Pass.{Pass}
 use Rattle.elf_loading.specs.declared.load_pass.Wanted.{Wanted}
+use Rattle.elf_loading.specs.declared.plan.Tls.{Tls}
+use Rattle.elf_loading.specs.declared.segments.Extent.{Extent}
+use Rattle.elf_loading.specs.declared.segments.Others.{Others}
 use Rattle.elf_loading.proofs.LoadChecks.{checked_end, checked_load, end_is, refused_load}
 
 -- the start of the first load: the one that was found before, or else that of the loads that are left
@@ -17,17 +23,23 @@ first_from page (Some end) start loads = start
 first_from page None start [] = start
 first_from page None start (load ∷ loads) = load_start page load
 
+-- whether the last load with the byte at an offset puts it at an address, or what was found before
+abbrev pub placed_from : ℕ → ℕ → Bool → List ProgramHeader64 → Bool
+placed_from offset address before [] = before
+placed_from offset address before (load ∷ loads) =
+    placed_from offset address (if holds_offset offset load then is_put_at offset address (Some load) else before) loads
+
 -- what is found of the loads is what was found before, and that of the loads that are left
 pub record IsLeft (page limit len : ℕ) (wanted : Wanted) (loads : List ProgramHeader64) (pass : Pass) (rest : List ProgramHeader64) : Type 0 where
   pub checks_left : check_loads page limit len pass.end rest ≡ check_loads page limit len None loads
   pub start_left : first_from page pass.end pass.start rest ≡ first_start page loads
-  pub holder_left : holder_in wanted.offset pass.holder rest ≡ holder_in wanted.offset None loads
+  pub placed_left : placed_from wanted.offset wanted.phdr pass.is_placed rest ≡ placed_from wanted.offset wanted.phdr false loads
   pub covered_left : covered_to page pass.covered rest ≡ covered_to page wanted.first loads
   pub held_left : (pass.is_held || list_any (holds_some wanted.tls) rest) ≡ list_any (holds_some wanted.tls) loads
 
 -- nothing was found
 abbrev pub nothing : Wanted → Pass
-nothing wanted = record { start = 0; end = None; holder = None; covered = wanted.first; is_held = false }
+nothing wanted = record { start = 0; end = None; is_placed = false; covered = wanted.first; is_held = false }
 
 from_nothing : (page : ℕ) (loads : List ProgramHeader64) → first_from page None 0 loads ≡ first_start page loads
 from_nothing page [] = refl
@@ -37,7 +49,7 @@ pub all_passed : (page limit len : ℕ) (wanted : Wanted) (loads items : List Pr
 all_passed page limit len wanted loads items is = record {
   checks_left = ap (check_loads page limit len None) is;
   start_left = ap (first_from page None 0) is ∙ from_nothing page loads;
-  holder_left = ap (holder_in wanted.offset None) is;
+  placed_left = ap (placed_from wanted.offset wanted.phdr false) is;
   covered_left = ap (covered_to page wanted.first) is;
   held_left = ap (list_any (holds_some wanted.tls)) is;
 }
@@ -45,6 +57,17 @@ all_passed page limit len wanted loads items is = record {
 holder_by : (offset : ℕ) (before : Option ProgramHeader64) (load : ProgramHeader64) (others : List ProgramHeader64) (b : Bool) → holds_offset offset load ≡ b → last_or before (filter (holds_offset offset) (load ∷ others)) ≡ last_or (if b then Some load else before) (filter (holds_offset offset) others)
 holder_by offset before load others true hit = rw hit refl
 holder_by offset before load others false miss = rw miss refl
+
+if_put : (offset address : ℕ) (found : Bool) (before : Option ProgramHeader64) (load : ProgramHeader64) (b : Bool) → found ≡ is_put_at offset address before → (if b then is_put_at offset address (Some load) else found) ≡ is_put_at offset address (if b then Some load else before)
+if_put offset address found before load true is = refl
+if_put offset address found before load false is = is
+
+placed_is : (offset address : ℕ) (found : Bool) (before : Option ProgramHeader64) (loads : List ProgramHeader64) → found ≡ is_put_at offset address before → placed_from offset address found loads ≡ is_put_at offset address (holder_in offset before loads)
+placed_is offset address found before [] is = is
+placed_is offset address found before (load ∷ loads) is =
+    placed_is offset address (if holds_offset offset load then is_put_at offset address (Some load) else found)
+    (if holds_offset offset load then Some load else before) loads (if_put offset address found before load (holds_offset offset load) is)
+    ∙ sym (ap (is_put_at offset address) (holder_by offset before load loads (holds_offset offset load) refl))
 
 or_next : (a b c : Bool) → ((a || b) || c) ≡ (a || (b || c))
 or_next true b c = refl
@@ -59,8 +82,7 @@ left_with page limit len wanted loads before items others load end is ok left = 
   checks_left = ap (λ n. check_loads page limit len (Some n) others) (end_is page limit len before.end load end ok)
       ∙ sym (checked_load page limit len before.end items others load end is ok) ∙ left.checks_left;
   start_left = start_next page before.start before.end items others load is ∙ left.start_left;
-  holder_left = sym (ap (holder_in wanted.offset before.holder) is ∙ holder_by wanted.offset before.holder load others (holds_offset wanted.offset load) refl)
-      ∙ left.holder_left;
+  placed_left = sym (ap (placed_from wanted.offset wanted.phdr before.is_placed) is) ∙ left.placed_left;
   covered_left = sym (ap (covered_to page before.covered) is) ∙ left.covered_left;
   held_left = or_next before.is_held (holds_some wanted.tls load) (list_any (holds_some wanted.tls) others)
       ∙ sym (ap (λ list. before.is_held || list_any (holds_some wanted.tls) list) is) ∙ left.held_left;
@@ -87,17 +109,35 @@ none_passed page limit len wanted loads pass items is left = (
   sym left.checks_left ∙ checked_end page limit len pass.end items is,
   record {
     start_is = from_end page pass.start pass.end ∙ ap (first_from page pass.end pass.start) (sym is) ∙ left.start_left;
-    holder_is = ap (holder_in wanted.offset pass.holder) (sym is) ∙ left.holder_left;
+    placed_is = ap (placed_from wanted.offset wanted.phdr pass.is_placed) (sym is) ∙ left.placed_left ∙ placed_is wanted.offset wanted.phdr false None loads refl;
     covered_is = ap (covered_to page pass.covered) (sym is) ∙ left.covered_left;
     held_is = or_false pass.is_held ∙ ap (λ list. pass.is_held || list_any (holds_some wanted.tls) list) (sym is) ∙ left.held_left;
   },
 )
 
--- the checks of the other segments, by what is found
-pub uncovered_is : (page covered : ℕ) (loads : List ProgramHeader64) (relro : Option ProgramHeader64) → covered ≡ covered_to page (first_of page relro) loads → is_past_covered page covered relro ≡ is_uncovered page loads relro
-uncovered_is page covered loads (Some relro) is = rw is refl
-uncovered_is page covered loads None is = refl
+pub passed_in : (page : ℕ) (wanted : Wanted) (loads others : List ProgramHeader64) (pass : Pass) → loads ≡ others → IsPassOf page wanted loads pass → IsPassOf page wanted others pass
+passed_in page wanted loads others pass is passed = subst (λ list. IsPassOf page wanted list pass) is passed
 
-pub template_is : (held : Bool) (loads : List ProgramHeader64) (tls : Option ProgramHeader64) → held ≡ list_any (holds_some tls) loads → is_wrong_template held tls ≡ is_no_template loads tls
-template_is held loads (Some tls) is = ap (λ b. is_wrong_template b (Some tls)) is
-template_is held loads None is = refl
+-- the checks of the other segments, by what is found
+pub uncovered_is : (page covered : ℕ) (loads : List ProgramHeader64) (relro : Option ProgramHeader64) (memory : Option Extent) → memory ≡ option_map memory_of relro → covered ≡ covered_to page (first_of page memory) loads → is_past_covered page covered memory ≡ is_uncovered page loads relro
+uncovered_is page covered loads (Some relro) memory same is = rw is (rw same refl)
+uncovered_is page covered loads None memory same is = rw same refl
+
+pub template_is : (held : Bool) (loads : List ProgramHeader64) (tls : Option ProgramHeader64) (template : Option Tls) → template ≡ option_map template_of tls → held ≡ list_any (holds_some template) loads → is_wrong_template held template ≡ is_no_template loads tls
+template_is held loads (Some tls) template same is = rw is (rw same refl)
+template_is held loads None template same is = rw same refl
+
+pub path_is : (input : List ℕ) (interpreter : Option ProgramHeader64) (path : Option Extent) → path ≡ option_map data_of interpreter → is_wrong_path input path ≡ is_no_path input interpreter
+path_is input (Some segment) path same = rw same refl
+path_is input None path same = rw same refl
+
+some_is : (interpreter : Option ProgramHeader64) → is_some (option_map data_of interpreter) ≡ is_some interpreter
+some_is (Some segment) = refl
+some_is None = refl
+
+elsewhere_by : (file : ElfFile) (others : Others) (placed : Bool) (phdr : Option ProgramHeader64) → others.phdr ≡ option_map address_of phdr → others.interpreter ≡ option_map data_of (interpreter_of file) → placed ≡ is_put_at (header_fields file.header.pt2).ph_offset (unwrap_or others.phdr 0) (holder_in (header_fields file.header.pt2).ph_offset None (loads_of file)) → is_elsewhere file others placed ≡ is_misplaced file phdr
+elsewhere_by file others placed (Some segment) phdr path is = rw is (rw phdr refl)
+elsewhere_by file others placed None phdr path is = rw phdr (rw path (ap (λ b. kind_of file.header == 3 && b) (some_is (interpreter_of file))))
+
+pub elsewhere_is : (file : ElfFile) (others : Others) (placed : Bool) → AreOthersOf file others → placed ≡ is_put_at (header_fields file.header.pt2).ph_offset (unwrap_or others.phdr 0) (holder_in (header_fields file.header.pt2).ph_offset None (loads_of file)) → is_elsewhere file others placed ≡ is_misplaced file (phdr_of file)
+elsewhere_is file others placed found is = elsewhere_by file others placed (phdr_of file) found.phdr_is found.interpreter_is is

@@ -1,79 +1,121 @@
--- The segments other than loads, segment by segment.
-use Rattle.std.proofs.Common.{◌≡◌, ℕ, Bool, true, false, List, [], ◌∷◌, Option, Some, None, if◌then◌else◌, refl, sym, ap, ◌∙◌}
+-- What a loader asks of the segments other than loads, segment by segment.
+use Rattle.std.proofs.Common.{◌≡◌, ℕ, ◌==◌, ◌&&◌, ◌||◌, nat_le, Bool, true, false, List, [], ◌∷◌, map, Option, Some, None, option_map, if◌then◌else◌, refl, sym, ap, subst, ◌∙◌}
+use Rattle.std.proofs.lemmas.Bool.{or_parts}
 use Rattle.std.specs.List.{filter, find, last_or}
-use Rattle.xmas_elf.specs.ProgramHeader.{program_fields, program_list}
-use Rattle.xmas_elf.specs.Types.{ElfFile, ProgramHeader, ProgramHeader64}
-use Rattle.elf_loading.specs.Others.{AreOthersOf, first_with, last_with, others_with}
-use Rattle.elf_loading.specs.Segments.{interpreter_of, is_of_type, last_in, phdr_of, relro_of, segments_in, stack_of, tls_of}
+use Rattle.elf_records.specs.ProgramNumbers.{ph_type_number}
+use Rattle.xmas_elf.specs.Types.{ProgramHeader64}
+use Rattle.elf_loading.specs.Others.{AreOthersIn, address_of, data_of, first_with, flags_of, is_kept, last_with, memory_of, others_with, template_of}
+use Rattle.elf_loading.specs.Segments.{is_of_type}
 use Rattle.elf_loading.specs.declared.segments.Others.{Others}
 
--- the first segment of a type: the one that was found before, or else that of the program headers that are left
-abbrev pub first_in : ℕ → Option ProgramHeader64 → List ProgramHeader → Option ProgramHeader64
-first_in kind (Some found) programs = Some found
-first_in kind None programs = find (is_of_type kind 0) (segments_in programs)
+-- a part of the last segment of a type, or what was found before
+abbrev pub last_from : {A : Type 0} → (ProgramHeader64 → A) → ℕ → ℕ → Option A → List ProgramHeader64 → Option A
+last_from part kind size before segments = last_or before (map part (filter (is_of_type kind size) segments))
 
--- the segments of a file are those found before, and those of the program headers that are left
-pub record AreLeft (file : ElfFile) (before : Others) (programs : List ProgramHeader) : Type 0 where
-  pub phdr_left : last_in 6 0 before.phdr programs ≡ phdr_of file
-  pub relro_left : last_in 0x6474e552 0 before.relro programs ≡ relro_of file
-  pub stack_left : last_in 0x6474e551 0 before.stack programs ≡ stack_of file
-  pub tls_left : last_in 7 1 before.tls programs ≡ tls_of file
-  pub interpreter_left : first_in 3 before.interpreter programs ≡ interpreter_of file
+-- a part of the first segment of a type: what was found before, or else that of the segments that are left
+abbrev pub first_from : {A : Type 0} → (ProgramHeader64 → A) → ℕ → Option A → List ProgramHeader64 → Option A
+first_from part kind (Some found) segments = Some found
+first_from part kind None segments = option_map part (find (is_of_type kind 0) segments)
+
+-- what is asked of all segments is what was found before, and that of the segments that are left
+pub record AreLeft (all : List ProgramHeader64) (before : Others) (segments : List ProgramHeader64) : Type 0 where
+  pub phdr_left : last_from address_of 6 0 before.phdr segments ≡ last_from address_of 6 0 None all
+  pub relro_left : last_from memory_of 0x6474e552 0 before.relro segments ≡ last_from memory_of 0x6474e552 0 None all
+  pub stack_left : last_from flags_of 0x6474e551 0 before.stack segments ≡ last_from flags_of 0x6474e551 0 None all
+  pub tls_left : last_from template_of 7 1 before.tls segments ≡ last_from template_of 7 1 None all
+  pub interpreter_left : first_from data_of 3 before.interpreter segments ≡ option_map data_of (find (is_of_type 3 0) all)
 
 -- nothing was found
 abbrev pub nothing : Others
 nothing = record { phdr = None; relro = None; stack = None; tls = None; interpreter = None }
 
-pub all_left : (file : ElfFile) (items : List ProgramHeader) → items ≡ program_list file → AreLeft file nothing items
-all_left file items is = record {
-  phdr_left = ap (last_in 6 0 None) is;
-  relro_left = ap (last_in 0x6474e552 0 None) is;
-  stack_left = ap (last_in 0x6474e551 0 None) is;
-  tls_left = ap (last_in 7 1 None) is;
-  interpreter_left = ap (first_in 3 None) is;
+pub all_left : (all : List ProgramHeader64) → AreLeft all nothing all
+all_left all = record { phdr_left = refl; relro_left = refl; stack_left = refl; tls_left = refl; interpreter_left = refl }
+
+-- a part of the last of these is that of the last
+last_map : {A : Type 0} → (part : ProgramHeader64 → A) (before : Option ProgramHeader64) (segments : List ProgramHeader64) → last_or (option_map part before) (map part segments) ≡ option_map part (last_or before segments)
+last_map part before [] = refl
+last_map part before (segment ∷ segments) = last_map part (Some segment) segments
+
+module _ {A : Type 0} (part : ProgramHeader64 → A) where
+  last_by : (kind size : ℕ) (before : Option A) (segment : ProgramHeader64) (segments : List ProgramHeader64) (b : Bool) → is_of_type kind size segment ≡ b → last_from part kind size before (segment ∷ segments) ≡ last_from part kind size (if b then Some (part segment) else before) segments
+  last_by kind size before segment segments true hit = rw hit refl
+  last_by kind size before segment segments false miss = rw miss refl
+
+  last_next : (kind size : ℕ) (before : Option A) (items others : List ProgramHeader64) (segment : ProgramHeader64) → items ≡ segment ∷ others → last_from part kind size (last_with part kind size before segment) others ≡ last_from part kind size before items
+  last_next kind size before items others segment is =
+      sym (ap (last_from part kind size before) is ∙ last_by kind size before segment others (is_of_type kind size segment) refl)
+
+  first_by : (kind : ℕ) (segment : ProgramHeader64) (others : List ProgramHeader64) (b : Bool) → is_of_type kind 0 segment ≡ b → option_map part (find (is_of_type kind 0) (segment ∷ others)) ≡ first_from part kind (if b then Some (part segment) else None) others
+  first_by kind segment others true hit = rw hit refl
+  first_by kind segment others false miss = rw miss refl
+
+  first_step : (kind : ℕ) (before : Option A) (others : List ProgramHeader64) (segment : ProgramHeader64) → first_from part kind before (segment ∷ others) ≡ first_from part kind (first_with part kind before segment) others
+  first_step kind (Some found) others segment = refl
+  first_step kind None others segment = first_by kind segment others (is_of_type kind 0 segment) refl
+
+  first_next : (kind : ℕ) (before : Option A) (items others : List ProgramHeader64) (segment : ProgramHeader64) → items ≡ segment ∷ others → first_from part kind (first_with part kind before segment) others ≡ first_from part kind before items
+  first_next kind before items others segment is = sym (ap (first_from part kind before) is ∙ first_step kind before others segment)
+
+  skip_last : (kind size : ℕ) (before : Option A) (items others : List ProgramHeader64) (segment : ProgramHeader64) → items ≡ segment ∷ others → (ph_type_number segment.type_ == kind) ≡ false → last_from part kind size before others ≡ last_from part kind size before items
+  skip_last kind size before items others segment is other =
+      sym (ap (last_from part kind size before) is ∙ last_by kind size before segment others false (ap (λ b. b && nat_le size segment.mem_size) other))
+
+  skip_first : (kind : ℕ) (before : Option A) (items others : List ProgramHeader64) (segment : ProgramHeader64) → items ≡ segment ∷ others → (ph_type_number segment.type_ == kind) ≡ false → first_from part kind before others ≡ first_from part kind before items
+  skip_first kind (Some found) items others segment is other = refl
+  skip_first kind None items others segment is other =
+      sym (ap (first_from part kind None) is ∙ first_by kind segment others false (ap (λ b. b && nat_le 0 segment.mem_size) other))
+
+  last_all : (kind size : ℕ) (found : Option A) (all items : List ProgramHeader64) → items ≡ [] → last_from part kind size found items ≡ last_from part kind size None all → found ≡ option_map part (last_or None (filter (is_of_type kind size) all))
+  last_all kind size found all items is left =
+      ap (last_from part kind size found) (sym is) ∙ left ∙ last_map part None (filter (is_of_type kind size) all)
+
+  first_end : (kind : ℕ) (found : Option A) → found ≡ first_from part kind found []
+  first_end kind (Some segment) = refl
+  first_end kind None = refl
+
+  first_all : (kind : ℕ) (found : Option A) (all items : List ProgramHeader64) → items ≡ [] → first_from part kind found items ≡ option_map part (find (is_of_type kind 0) all) → found ≡ option_map part (find (is_of_type kind 0) all)
+  first_all kind found all items is left = first_end kind found ∙ ap (first_from part kind found) (sym is) ∙ left
+
+left_with : (all : List ProgramHeader64) (before : Others) (items others : List ProgramHeader64) (segment : ProgramHeader64) → items ≡ segment ∷ others → AreLeft all before items → AreLeft all (others_with before segment) others
+left_with all before items others segment is left = record {
+  phdr_left = last_next address_of 6 0 before.phdr items others segment is ∙ left.phdr_left;
+  relro_left = last_next memory_of 0x6474e552 0 before.relro items others segment is ∙ left.relro_left;
+  stack_left = last_next flags_of 0x6474e551 0 before.stack items others segment is ∙ left.stack_left;
+  tls_left = last_next template_of 7 1 before.tls items others segment is ∙ left.tls_left;
+  interpreter_left = first_next data_of 3 before.interpreter items others segment is ∙ left.interpreter_left;
 }
 
-last_by : (kind size : ℕ) (before : Option ProgramHeader64) (segment : ProgramHeader64) (segments : List ProgramHeader64) (b : Bool) → is_of_type kind size segment ≡ b → last_or before (filter (is_of_type kind size) (segment ∷ segments)) ≡ last_or (if b then Some segment else before) (filter (is_of_type kind size) segments)
-last_by kind size before segment segments true hit = rw hit refl
-last_by kind size before segment segments false miss = rw miss refl
+pub rest_left : (all : List ProgramHeader64) (before after : Others) (items others : List ProgramHeader64) (segment : ProgramHeader64) → items ≡ segment ∷ others → after ≡ others_with before segment → AreLeft all before items → AreLeft all after others
+rest_left all before after items others segment is kept left =
+    rw kept (left_with all before items others segment is left)
 
-last_next : (kind size : ℕ) (before : Option ProgramHeader64) (items others : List ProgramHeader) (p : ProgramHeader) → items ≡ p ∷ others → last_in kind size (last_with kind size before (program_fields p)) others ≡ last_in kind size before items
-last_next kind size before items others p is =
-    sym (ap (last_in kind size before) is ∙ last_by kind size before (program_fields p) (segments_in others) (is_of_type kind size (program_fields p)) refl)
+pub rest_same : (all : List ProgramHeader64) (before : Others) (items others : List ProgramHeader64) (segment : ProgramHeader64) → items ≡ segment ∷ others → is_kept (ph_type_number segment.type_) ≡ false → AreLeft all before items → AreLeft all before others
+rest_same all before items others segment is none left =
+    let kind = ph_type_number segment.type_ in
+    let four = or_parts (kind == 6 || kind == 3 || kind == 7 || kind == 0x6474e552) (kind == 0x6474e551) none in
+    let three = or_parts (kind == 6 || kind == 3 || kind == 7) (kind == 0x6474e552) four.0 in
+    let two = or_parts (kind == 6 || kind == 3) (kind == 7) three.0 in
+    let one = or_parts (kind == 6) (kind == 3) two.0 in record {
+      phdr_left = skip_last address_of 6 0 before.phdr items others segment is one.0 ∙ left.phdr_left;
+      relro_left = skip_last memory_of 0x6474e552 0 before.relro items others segment is three.1 ∙ left.relro_left;
+      stack_left = skip_last flags_of 0x6474e551 0 before.stack items others segment is four.1 ∙ left.stack_left;
+      tls_left = skip_last template_of 7 1 before.tls items others segment is two.1 ∙ left.tls_left;
+      interpreter_left = skip_first data_of 3 before.interpreter items others segment is one.1 ∙ left.interpreter_left;
+    }
 
-first_by : (kind : ℕ) (segment : ProgramHeader64) (others : List ProgramHeader) (b : Bool) → is_of_type kind 0 segment ≡ b → find (is_of_type kind 0) (segment ∷ segments_in others) ≡ first_in kind (if b then Some segment else None) others
-first_by kind segment others true hit = rw hit refl
-first_by kind segment others false miss = rw miss refl
+-- a load changes nothing of it
+pub load_same : (all : List ProgramHeader64) (before : Others) (items others : List ProgramHeader64) (segment : ProgramHeader64) → items ≡ segment ∷ others → ph_type_number segment.type_ ≡ 1 → AreLeft all before items → AreLeft all before others
+load_same all before items others segment is one left = rest_same all before items others segment is (ap is_kept one) left
 
-first_step : (kind : ℕ) (before : Option ProgramHeader64) (others : List ProgramHeader) (p : ProgramHeader) → first_in kind before (p ∷ others) ≡ first_in kind (first_with kind before (program_fields p)) others
-first_step kind (Some found) others p = refl
-first_step kind None others p = first_by kind (program_fields p) others (is_of_type kind 0 (program_fields p)) refl
-
-first_next : (kind : ℕ) (before : Option ProgramHeader64) (items others : List ProgramHeader) (p : ProgramHeader) → items ≡ p ∷ others → first_in kind (first_with kind before (program_fields p)) others ≡ first_in kind before items
-first_next kind before items others p is = sym (ap (first_in kind before) is ∙ first_step kind before others p)
-
-left_with : (file : ElfFile) (before : Others) (items others : List ProgramHeader) (p : ProgramHeader) → items ≡ p ∷ others → AreLeft file before items → AreLeft file (others_with before (program_fields p)) others
-left_with file before items others p is left = record {
-  phdr_left = last_next 6 0 before.phdr items others p is ∙ left.phdr_left;
-  relro_left = last_next 0x6474e552 0 before.relro items others p is ∙ left.relro_left;
-  stack_left = last_next 0x6474e551 0 before.stack items others p is ∙ left.stack_left;
-  tls_left = last_next 7 1 before.tls items others p is ∙ left.tls_left;
-  interpreter_left = first_next 3 before.interpreter items others p is ∙ left.interpreter_left;
+pub none_left : (all : List ProgramHeader64) (found : Others) (items : List ProgramHeader64) → items ≡ [] → AreLeft all found items → AreOthersIn all found
+none_left all found items is left = record {
+  phdr_is = last_all address_of 6 0 found.phdr all items is left.phdr_left;
+  relro_is = last_all memory_of 0x6474e552 0 found.relro all items is left.relro_left;
+  stack_is = last_all flags_of 0x6474e551 0 found.stack all items is left.stack_left;
+  tls_is = last_all template_of 7 1 found.tls all items is left.tls_left;
+  interpreter_is = first_all data_of 3 found.interpreter all items is left.interpreter_left;
 }
 
-pub rest_left : (file : ElfFile) (before after : Others) (items others : List ProgramHeader) (p : ProgramHeader) → items ≡ p ∷ others → after ≡ others_with before (program_fields p) → AreLeft file before items → AreLeft file after others
-rest_left file before after items others p is kept left =
-    rw kept (left_with file before items others p is left)
-
-pub none_left : (file : ElfFile) (found : Others) (items : List ProgramHeader) → items ≡ [] → AreLeft file found items → AreOthersOf file found
-none_left file found items is left = record {
-  phdr_is = ap (last_in 6 0 found.phdr) (sym is) ∙ left.phdr_left;
-  relro_is = ap (last_in 0x6474e552 0 found.relro) (sym is) ∙ left.relro_left;
-  stack_is = ap (last_in 0x6474e551 0 found.stack) (sym is) ∙ left.stack_left;
-  tls_is = ap (last_in 7 1 found.tls) (sym is) ∙ left.tls_left;
-  interpreter_is = first_end found.interpreter ∙ ap (first_in 3 found.interpreter) (sym is) ∙ left.interpreter_left;
-}
-  where
-    first_end : (first : Option ProgramHeader64) → first ≡ first_in 3 first []
-    first_end (Some segment) = refl
-    first_end None = refl
+pub others_in : (segments all : List ProgramHeader64) (others : Others) → segments ≡ all → AreOthersIn segments others → AreOthersIn all others
+others_in segments all others is found = subst (λ list. AreOthersIn list others) is found

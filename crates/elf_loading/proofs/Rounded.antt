@@ -1,5 +1,5 @@
 -- Addresses rounded to pages.
-use Rattle.std.proofs.Common.{◌≡◌, ℕ, ◌+◌, ◌-◌, ◌*◌, ◌%◌, ◌/◌, ◌<◌, ◌≤◌, ◌==◌, nat_lt, Bool, true, false, if◌then◌else◌, inl, inr, refl, sym, ap, ◌∙◌, arith}
+use Rattle.std.proofs.Common.{◌≡◌, ℕ, ◌+◌, ◌-◌, ◌*◌, ◌%◌, ◌/◌, ◌^◌, ◌<◌, ◌≤◌, ◌==◌, nat_lt, Bool, true, false, if◌then◌else◌, inl, inr, refl, sym, ap, ◌∙◌, arith}
 use Rattle.std.proofs.lemmas.Bool.{cases_lt, eq-eqb, eqb-true, eqb-false, lt-ltb, le-ltb, ne_eqb}
 use Rattle.std.proofs.Math.Nat.{div-add-mod, mod-eq_of_lt, mul-add-mod_self_left, mul-le-mul_left, mul-mod_right}
 use Rattle.elf_loading.specs.Pages.{down, up}
@@ -113,6 +113,23 @@ up_at p x is = rw (eq-eqb (x % p) 0 is) refl
 pub up_in : (p x : ℕ) → (x % p ≡ 0 → ⊥) → up p x ≡ x - x % p + p
 unfolding up down
 up_in p x rest = rw (ne_eqb (x % p) 0 rest) refl
+
+-- with pages of 4096 bytes the end of an address is that of the last byte of its page, rounded down
+usual_by : (x : ℕ) (b : Bool) → (x % 4096 == 0) ≡ b → x + 4095 - (x + 4095) % 4096 ≡ (if b then x else down 4096 x + 4096)
+unfolding down
+usual_by x true is = let whole : x % 4096 ≡ 0 = eqb-true (x % 4096) 0 is in omega arith
+usual_by x false is = let rest = eqb-false (x % 4096) 0 is in omega (arith, rest)
+
+pub up_usual : (x : ℕ) → x + 4095 - (x + 4095) % 4096 ≡ up 4096 x
+unfolding up
+up_usual x = usual_by x (x % 4096 == 0) refl
+
+-- and that byte has an address of 64 bits
+pub up_room : (x : ℕ) → up 4096 x < 2 ^ 64 → x + 4095 < 2 ^ 64
+up_room x fits =
+    let above = up_ge 4096 x (omega arith) in
+    let end = up_whole 4096 x (omega arith) in
+    omega arith
 
 -- the test for the limit
 pub past_all : (p limit x size : ℕ) → 0 < p → down p limit < x → nat_lt limit (up p (x + size)) ≡ true

@@ -1,6 +1,6 @@
 -- The relocations of a file in the order in which a dynamic linker applies them (gABI, "Relocation" and "Dynamic
 -- Section"; the order, and which records are passed over, as glibc 2.36 has it).
-use Rattle.std.specs.Prelude.{ℕ, ◌+◌, ◌-◌, ◌/◌, ◌==◌, ◌&&◌, nat_le, Bool, true, false, List, [], ◌++◌, drop, map, take, Option, None, Some, Result, Ok, Err, if◌then◌else◌}
+use Rattle.std.specs.Prelude.{ℕ, ◌+◌, ◌-◌, ◌/◌, ◌==◌, ◌&&◌, nat_le, Bool, true, false, List, [], ◌++◌, drop, map, take, Option, None, Some, Result, Ok, if◌then◌else◌}
 use Rattle.elf_base.specs.FileHeader.{file_class}
 use Rattle.elf_base.specs.Refusal.{and_then}
 use Rattle.elf_linking.specs.DynamicView.{number_with}

@@ -1,6 +1,8 @@
 pub mod Message
 pub mod Pages
 pub mod Segments
+pub mod HeaderAt
+pub mod Programs
 pub mod LoadCheck
 pub mod FileCheck
 pub mod Loads
@@ -21,3 +23,4 @@ pub mod ImageTables
 pub mod ImageWords
 pub mod Relocate
 pub mod OneWord
+pub mod FileLoads

@@ -1,6 +1,6 @@
 -- The segments that a loader asks for, by their type (gABI, "Program Header", p_type; PT_GNU_STACK and
 -- PT_GNU_RELRO are GNU's).
-use Rattle.std.specs.Prelude.{ℕ, ◌==◌, ◌&&◌, nat_le, drop, Bool, List, map, Option, None}
+use Rattle.std.specs.Prelude.{ℕ, ◌==◌, ◌&&◌, nat_le, Bool, List, map, Option, None}
 use Rattle.std.specs.List.{filter, find, last_or}
 use Rattle.elf_records.specs.ProgramNumbers.{ph_type_number}
 use Rattle.xmas_elf.specs.ProgramHeader.{program_fields, program_list}
@@ -25,10 +25,6 @@ loads_in programs = filter is_load (segments_in programs)
 -- the loads of a file, in the order of its program headers
 abbrev pub loads_of : ElfFile → List ProgramHeader64
 loads_of file = loads_in (program_list file)
-
--- the loads of a file from a program header on
-abbrev pub loads_from : ElfFile → ℕ → List ProgramHeader64
-loads_from file index = loads_in (drop index (program_list file))
 
 -- the last segment of a type with at least this size, or `before` if there is none
 abbrev pub last_in : ℕ → ℕ → Option ProgramHeader64 → List ProgramHeader → Option ProgramHeader64

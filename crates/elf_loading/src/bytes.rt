@@ -10,7 +10,6 @@ use crate::load_check::{holds_address, load_end};
 use crate::mapping::{Loader, mapped_end};
 use crate::pages::down;
 use crate::plan::LoadPlan;
-use crate::segments::loads_of;
 use xmas_elf::program::ProgramHeader64;
 
 /// The byte that is at an address.
@@ -133,7 +132,7 @@ impl<'a> LoadPlan<'a> {
             (plan_loads self.now) }
     {
         let len = self.file.input.len() as u64;
-        for load in loads_of(self.file.program_table()) {
+        for load in self.loads() {
             if holds_address(self.page, self.limit, address, &load) {
                 return Some(load_byte(self.page, self.limit, by, len, address, &load));
             }
@@ -209,7 +208,7 @@ impl<'a> LoadPlan<'a> {
             return Err(LoadError::ImageSize);
         }
         image.fill(0);
-        for load in loads_of(self.file.program_table()) {
+        for load in self.loads() {
             self.fill_load(by, span.start, &load, image);
         }
         Ok(())

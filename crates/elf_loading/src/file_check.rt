@@ -1,28 +1,32 @@
 //! Whether a file can be loaded.
 
-ghost use Rattle.std.specs.Prelude.{◌≡◌, ◌≤◌, ◌<◌, ◌+◌, ◌-◌, ◌==◌, nat_lt, length};
-ghost use Rattle.std.specs.Prelude.{Err, IfOk, MatchResult, None, Ok};
-ghost use Rattle.elf_base.specs.FileHeader.{file_class, header_fields};
+ghost use Rattle.std.specs.Prelude.{◌≡◌, ◌≤◌, ◌<◌, ◌+◌, nat_lt, length};
+ghost use Rattle.std.specs.Prelude.{Err, IfOk, MatchResult, Ok};
+ghost use Rattle.elf_base.specs.FileHeader.{file_class};
 ghost use Rattle.elf_base.specs.Refusal.{unless};
-ghost use Rattle.elf_loading.specs.FileCheck.{check_file, header_rows, holder_in, is_misplaced};
-ghost use Rattle.elf_loading.specs.FileCheck.{is_no_path, kind_of, segment_rows, table_size};
-ghost use Rattle.elf_loading.specs.LoadPass.{IsPassOf, is_past_covered, is_wrong_template};
-ghost use Rattle.elf_loading.specs.LoadPass.{wanted_of};
+ghost use Rattle.elf_loading.specs.FileCheck.{check_file, header_rows, kind_of, segment_rows};
+ghost use Rattle.elf_loading.specs.FileCheck.{table_size};
+ghost use Rattle.elf_loading.specs.LoadPass.{IsPassOf, is_elsewhere, is_past_covered};
+ghost use Rattle.elf_loading.specs.LoadPass.{is_wrong_path, is_wrong_template, wanted_of};
+ghost use Rattle.elf_loading.specs.Loads.{loads_rest};
 ghost use Rattle.elf_loading.specs.Others.{AreOthersOf};
-ghost use Rattle.elf_loading.specs.Segments.{interpreter_of, loads_of};
+ghost use Rattle.elf_loading.specs.Programs.{segments_left};
+ghost use Rattle.elf_loading.specs.Segments.{loads_of, segments_in};
 ghost use Rattle.elf_loading.specs.Spans.{first_start};
-ghost use Rattle.xmas_elf.specs.ProgramHeader.{program_header_size};
-ghost use Rattle.xmas_elf.specs.ProgramTable.{program_table_file};
+ghost use Rattle.xmas_elf.specs.ProgramHeader.{program_header_size, program_list};
 
 use crate::LoadError;
 use crate::load_pass::{Pass, Wanted, pass_loads};
+use crate::loads::Loads;
 use crate::pages::end_down;
-use crate::segments::Others;
+use crate::plan::Tls;
+use crate::programs::Programs;
+use crate::segments::{Extent, Others, Sorted, sort};
 use crate::span::Span;
 use xmas_elf::ElfFile;
 use xmas_elf::bytes::Record;
 use xmas_elf::header::Header;
-use xmas_elf::program::{ProgramHeader32, ProgramHeader64, ProgramTable};
+use xmas_elf::program::{ProgramHeader32, ProgramHeader64};
 
 // The type of a file, as a number.
 #[inline(always)]
@@ -84,63 +88,49 @@ fn check_header(page: u64, file: &ElfFile<'_>) -> Result<(), LoadError>
     Ok(())
 }
 
-// Whether a load puts the byte at an offset, which it has, at an address.
+// Whether the loads put the program header table elsewhere than PT_PHDR says, where `is_placed` says
+// whether they put it there.
 #[inline(always)]
-fn is_put_at(offset: u64, address: u64, load: &ProgramHeader64) -> bool
-    ensures { result ≡ (load.now.virtual_addr + (offset - load.now.offset) == address) }
+fn is_misplaced(file: &ElfFile<'_>, others: &Others, is_placed: bool) -> bool
+    ensures { result ≡ is_elsewhere file.now others.now is_placed }
 {
-    let start = load.virtual_addr;
-    start <= address && address - start == offset.saturating_sub(load.offset)
-}
-
-// Whether the loads put the program header table elsewhere than PT_PHDR says.
-fn is_misplaced(file: &ElfFile<'_>, others: &Others, holder: Option<ProgramHeader64>) -> bool
-    requires interpreter { others.now.interpreter ≡ interpreter_of file.now }
-    requires holder { holder ≡ holder_in (header_fields file.now.header.pt2).ph_offset None
-        (loads_of file.now) }
-    ensures { result ≡ is_misplaced file.now others.now.phdr }
-{
-    let Some(phdr) = others.phdr else {
-        return kind_of(&file.header) == 3 && others.interpreter.is_some();
-    };
-    let offset = file.header.pt2.ph_offset();
-    match holder {
-        Some(load) => !is_put_at(offset, phdr.virtual_addr, &load),
-        None => true,
+    if others.phdr.is_some() {
+        return !is_placed;
     }
+    kind_of(&file.header) == 3 && others.interpreter.is_some()
 }
 
 // Whether the path of the interpreter is not one.
-fn is_no_path(input: &[u8], interpreter: Option<ProgramHeader64>) -> bool
-    ensures { result ≡ is_no_path input.now interpreter }
+fn is_no_path(input: &[u8], interpreter: Option<Extent>) -> bool
+    ensures { result ≡ is_wrong_path input.now interpreter }
 {
-    let Some(segment) = interpreter else {
+    let Some(path) = interpreter else {
         return false;
     };
-    let size = segment.file_size;
-    if size < 2 || size > 4096 || is_past_end(input, segment.offset, size) {
+    let size = path.size;
+    if size < 2 || size > 4096 || is_past_end(input, path.start, size) {
         return true;
     }
-    input[(segment.offset + size - 1) as usize] != 0
+    input[(path.start + size - 1) as usize] != 0
 }
 
 // Whether what is read-only after relocation extends past the first page from its start on that is in
 // no load.
 #[inline(always)]
-fn is_uncovered(page: u64, relro: Option<ProgramHeader64>, covered: u64) -> bool
+fn is_uncovered(page: u64, relro: Option<Extent>, covered: u64) -> bool
     requires { 0 < page }
     ensures { result ≡ is_past_covered page covered relro }
 {
     let Some(relro) = relro else {
         return false;
     };
-    u128::from(covered) < end_down(page, relro.virtual_addr, relro.mem_size)
+    u128::from(covered) < end_down(page, relro.start, relro.size)
 }
 
 // Whether the template of thread-local storage can't be used, where `is_held` says whether its bytes
 // are in the memory of one load.
 #[inline(always)]
-fn is_no_template(tls: Option<ProgramHeader64>, is_held: bool) -> bool
+fn is_no_template(tls: Option<Tls>, is_held: bool) -> bool
     ensures { result ≡ is_wrong_template is_held tls }
 {
     let Some(tls) = tls else {
@@ -153,7 +143,7 @@ fn is_no_template(tls: Option<ProgramHeader64>, is_held: bool) -> bool
 }
 
 // Whether the segments other than loads can be used.
-#[tactic(auto, using(crate::proofs::LoadPasses::uncovered_is, crate::proofs::LoadPasses::template_is))]
+#[tactic(auto, using(crate::proofs::LoadPasses::elsewhere_is, crate::proofs::LoadPasses::path_is, crate::proofs::LoadPasses::uncovered_is, crate::proofs::LoadPasses::template_is))]
 #[inline(always)]
 fn check_segments(
     page: u64,
@@ -167,7 +157,7 @@ fn check_segments(
         pass.now }
     ensures { result ≡ unless (segment_rows file.now page) tt }
 {
-    if is_misplaced(file, others, pass.holder) {
+    if is_misplaced(file, others, pass.is_placed) {
         return Err(LoadError::Headers);
     }
     if is_no_path(file.input, others.interpreter) {
@@ -182,32 +172,66 @@ fn check_segments(
     Ok(())
 }
 
-// The pages from the first load of a file to the last, or the first reason why the file can't be
-// loaded.
-#[tactic(auto, unfolding(crate::specs::FileCheck::check_file))]
-pub(crate) fn check_file(
+// What a check finds of a file that can be loaded.
+#[derive(Clone, Copy, Debug)]
+pub(crate) struct Checked<'a> {
+    pub(crate) loads: Loads<'a>,
+    pub(crate) others: Others,
+    // The pages from the first load to the last.
+    pub(crate) span: Span,
+}
+
+// What is found by these program headers, or the first reason why the file can't be loaded.
+#[tactic(auto, unfolding(crate::specs::FileCheck::check_file), using(crate::proofs::LoadPasses::passed_in, crate::proofs::Others::others_in))]
+#[inline(always)]
+fn check_programs<'a>(
     page: u64,
     limit: u64,
-    file: &ElfFile<'_>,
-    table: ProgramTable<'_, '_>,
-    others: &Others,
-) -> Result<Span, LoadError>
+    file: &ElfFile<'a>,
+    programs: Programs<'a>,
+) -> Result<Checked<'a>, LoadError>
     requires page { 0 < page }
-    requires table { program_table_file table ≡ file.now }
-    requires found { AreOthersOf file.now others.now }
-    ensures checked { MatchResult result (λ span. check_file file.now page limit ≡ Ok span.end)
+    requires header { unless (header_rows file.now page) (tt {0}) ≡ Ok (tt {0}) }
+    requires programs { segments_left programs ≡ segments_in (program_list file.now) }
+    ensures checked { MatchResult result
+        (λ found. check_file file.now page limit ≡ Ok found.span.end)
         (λ error. check_file file.now page limit ≡ Err error) }
-    ensures start { IfOk result (λ span. span.start ≡ first_start page (loads_of file.now)) }
+    ensures start { IfOk result (λ found. found.span.start ≡ first_start page (loads_of file.now)) }
+    ensures others { IfOk result (λ found. AreOthersOf file.now found.others) }
+    ensures loads { IfOk result (λ found. loads_rest found.loads ≡ loads_of file.now) }
 {
-    check_header(page, file)?;
-    let wanted = Wanted::of(page, file, others);
-    let pass = pass_loads(page, limit, &wanted, file.input.len() as u64, table)?;
+    let Sorted { others, loads } = sort(programs);
+    let wanted = Wanted::of(page, file, &others);
+    let pass = pass_loads(page, limit, &wanted, file.input.len() as u64, loads)?;
     let Some(end) = pass.end else {
         return Err(LoadError::NoLoad);
     };
-    check_segments(page, file, others, &pass)?;
-    Ok(Span {
-        start: pass.start,
-        end,
+    check_segments(page, file, &others, &pass)?;
+    Ok(Checked {
+        loads,
+        others,
+        span: Span {
+            start: pass.start,
+            end,
+        },
     })
+}
+
+// What is found of a file, or the first reason why it can't be loaded.
+#[tactic(auto, unfolding(crate::specs::FileCheck::check_file), using(crate::proofs::FileChecks::whole_by))]
+pub(crate) fn check_file<'a>(
+    page: u64,
+    limit: u64,
+    file: &ElfFile<'a>,
+) -> Result<Checked<'a>, LoadError>
+    requires { 0 < page }
+    ensures checked { MatchResult result
+        (λ found. check_file file.now page limit ≡ Ok found.span.end)
+        (λ error. check_file file.now page limit ≡ Err error) }
+    ensures start { IfOk result (λ found. found.span.start ≡ first_start page (loads_of file.now)) }
+    ensures others { IfOk result (λ found. AreOthersOf file.now found.others) }
+    ensures loads { IfOk result (λ found. loads_rest found.loads ≡ loads_of file.now) }
+{
+    check_header(page, file)?;
+    check_programs(page, limit, file, Programs::of(file))
 }

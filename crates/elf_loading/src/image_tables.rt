@@ -13,8 +13,8 @@ ghost use Rattle.elf_loading.specs.ImageTables.{symbol_number, table_by, table_o
 ghost use Rattle.xmas_elf.specs.ProgramHeader.{program_fields};
 
 use crate::LoadError;
+use crate::file_loads::fields;
 use crate::in_order::{is_kind, record_size};
-use crate::segments::fields;
 use crate::words::{address_size, flag_in};
 use elf_linking::references::types::{EM_386, EM_AARCH64, EM_X86_64};
 use elf_linking::view::{

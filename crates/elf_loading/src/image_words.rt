@@ -14,8 +14,8 @@ ghost use Rattle.elf_loading.specs.declared.words.Word.{Word};
 ghost use Rattle.xmas_elf.specs.ProgramTable.{program_table_file};
 
 use crate::LoadError;
+use crate::file_loads::file_loads;
 use crate::image_tables::{Extent, asks_for_text, check_tables, is_writable, tables_of};
-use crate::segments::loads_of;
 use crate::words::{Binding, Word, Words};
 use elf_linking::scope::Scope;
 use elf_linking::view::LinkedSymbol;
@@ -74,7 +74,7 @@ fn holds_word(word: &Word, load: &ProgramHeader64) -> bool
 fn holder_of(word: &Word, table: ProgramTable<'_, '_>) -> Option<ProgramHeader64>
     ensures { result ≡ find (holds_word word.now) (loads_of (program_table_file table.entry)) }
 {
-    for load in loads_of(table) {
+    for load in file_loads(table) {
         if holds_word(word, &load) {
             return Some(load);
         }
@@ -89,7 +89,7 @@ fn memory_of(table: ProgramTable<'_, '_>) -> (u64, u128)
     ensures count { result.1 ≡ marks_count (loads_of (program_table_file table.entry)) }
 {
     let (mut start, mut end) = (u64::MAX, 0);
-    for load in loads_of(table) {
+    for load in file_loads(table) {
         start = start.min(load.virtual_addr);
         end = u128::max(
             end,

@@ -1,19 +1,20 @@
 //! One pass over the load segments: their checks, and what the checks of the other segments ask of them.
 
-ghost use Rattle.std.specs.Prelude.{◌≡◌, ◌<◌, Err, IfOk, MatchResult, None, Ok};
-ghost use Rattle.elf_loading.specs.FileCheck.{holds_offset, holds_template};
+ghost use Rattle.std.specs.Prelude.{◌≡◌, ◌<◌, ◌+◌, ◌-◌, ◌==◌, Some, Err, IfOk, MatchResult, None, Ok};
+ghost use Rattle.elf_loading.specs.FileCheck.{holds_offset};
 ghost use Rattle.elf_loading.specs.LoadCheck.{check_loads, load_end};
 ghost use Rattle.elf_loading.specs.LoadPass.{IsPassOf, covered_with, first_of, holds_some};
 ghost use Rattle.elf_loading.specs.LoadPass.{pass_with, wanted_of};
-ghost use Rattle.elf_loading.specs.Segments.{loads_of};
-ghost use Rattle.xmas_elf.specs.ProgramTable.{program_table_file};
+ghost use Rattle.elf_loading.specs.Loads.{loads_rest};
 
 use crate::LoadError;
 use crate::load_check::check_load;
+use crate::loads::Loads;
 use crate::pages::down;
-use crate::segments::{Others, loads_of};
+use crate::plan::Tls;
+use crate::segments::{Extent, Others};
 use xmas_elf::ElfFile;
-use xmas_elf::program::{ProgramHeader64, ProgramTable};
+use xmas_elf::program::ProgramHeader64;
 
 // What the checks of the other segments ask of the loads.
 #[derive(Clone, Copy, Debug)]
@@ -22,8 +23,10 @@ pub(crate) struct Wanted {
     pub(crate) offset: u64,
     // The first page of what is read-only after relocation.
     pub(crate) first: u64,
+    // The address of the table that PT_PHDR has, or 0 if there is none.
+    pub(crate) phdr: u64,
     // The template of thread-local storage.
-    pub(crate) tls: Option<ProgramHeader64>,
+    pub(crate) tls: Option<Tls>,
 }
 
 impl Wanted {
@@ -36,6 +39,7 @@ impl Wanted {
         Wanted {
             offset: file.header.pt2.ph_offset(),
             first: first_of(page, others.relro),
+            phdr: others.phdr.unwrap_or(0),
             tls: others.tls,
         }
     }
@@ -48,8 +52,9 @@ pub(crate) struct Pass {
     pub(crate) start: u64,
     // The end of the last load.
     pub(crate) end: Option<u64>,
-    // The last load with the first byte of the program header table.
-    pub(crate) holder: Option<ProgramHeader64>,
+    // Whether the last load with the first byte of the program header table puts it at the address of
+    // PT_PHDR.
+    pub(crate) is_placed: bool,
     // The first page, of those from the start of what is read-only after relocation on, that is in no
     // load.
     pub(crate) covered: u64,
@@ -59,12 +64,12 @@ pub(crate) struct Pass {
 
 // The first page of what is read-only after relocation, or 0 if there is none.
 #[inline(always)]
-fn first_of(page: u64, relro: Option<ProgramHeader64>) -> u64
+fn first_of(page: u64, relro: Option<Extent>) -> u64
     requires { 0 < page }
     ensures { result ≡ first_of page relro }
 {
     match relro {
-        Some(relro) => down(page, relro.virtual_addr),
+        Some(relro) => down(page, relro.start),
         None => 0,
     }
 }
@@ -77,19 +82,30 @@ fn holds_offset(offset: u64, load: &ProgramHeader64) -> bool
     load.offset <= offset && offset - load.offset < load.file_size
 }
 
+// Whether a load puts the byte at an offset, which it has, at an address.
+#[inline(always)]
+fn is_put_at(offset: u64, address: u64, load: &ProgramHeader64) -> bool
+    ensures { result ≡ (load.now.virtual_addr + (offset - load.now.offset) == address) }
+{
+    let start = load.virtual_addr;
+    start <= address && address - start == offset.saturating_sub(load.offset)
+}
+
 // Whether the bytes of a template are in the memory of a load.
 #[inline(always)]
-fn holds_template(tls: &ProgramHeader64, load: &ProgramHeader64) -> bool
-    ensures { result ≡ holds_template tls.now load.now }
+fn holds_template(tls: &Tls, load: &ProgramHeader64) -> bool
+    ensures { result ≡ holds_some (Some tls.now) load.now }
 {
-    let end = u128::from(tls.virtual_addr) + u128::from(tls.file_size);
-    load.virtual_addr <= tls.virtual_addr
-        && end <= u128::from(load.virtual_addr) + u128::from(load.mem_size)
+    if tls.address < load.virtual_addr {
+        return false;
+    }
+    let before = tls.address - load.virtual_addr;
+    before <= load.mem_size && tls.file_size <= load.mem_size - before
 }
 
 // Whether the bytes of a template, if there is one, are in the memory of a load.
 #[inline(always)]
-fn holds_some(tls: &Option<ProgramHeader64>, load: &ProgramHeader64) -> bool
+fn holds_some(tls: &Option<Tls>, load: &ProgramHeader64) -> bool
     ensures { result ≡ holds_some tls.now load.now }
 {
     match tls {
@@ -124,7 +140,7 @@ impl Pass {
         }
         self.end = Some(end);
         if holds_offset(wanted.offset, load) {
-            self.holder = Some(*load);
+            self.is_placed = is_put_at(wanted.offset, wanted.phdr, load);
         }
         self.covered = covered_with(page, end, self.covered, load);
         self.is_held = self.is_held || holds_some(&wanted.tls, load);
@@ -133,30 +149,29 @@ impl Pass {
 
 // What a pass over the loads of a file with `len` bytes finds, or the first reason why a load can't be
 // mapped.
-#[tactic(auto, using(crate::proofs::LoadPasses::all_passed, crate::proofs::LoadPasses::rest_passed, crate::proofs::LoadPasses::none_passed))]
+#[tactic(auto, using(crate::proofs::LoadPasses::all_passed))]
 #[inline(always)]
 pub(crate) fn pass_loads(
     page: u64,
     limit: u64,
     wanted: &Wanted,
     len: u64,
-    table: ProgramTable<'_, '_>,
+    loads: Loads<'_>,
 ) -> Result<Pass, LoadError>
     requires { 0 < page }
-    ensures checked { let loads = loads_of (program_table_file table.entry) in MatchResult result
-        (λ pass. check_loads page limit len None loads ≡ Ok pass.end)
-        (λ error. check_loads page limit len None loads ≡ Err error) }
-    ensures found { IfOk result
-        (IsPassOf page wanted.now (loads_of (program_table_file table.entry))) }
+    ensures checked { let list = loads_rest loads.entry in MatchResult result
+        (λ pass. check_loads page limit len None list ≡ Ok pass.end)
+        (λ error. check_loads page limit len None list ≡ Err error) }
+    ensures found { IfOk result (IsPassOf page wanted.now (loads_rest loads.entry)) }
 {
     let mut pass = Pass {
         start: 0,
         end: None,
-        holder: None,
+        is_placed: false,
         covered: wanted.first,
         is_held: false,
     };
-    for load in loads_of(table) {
+    for load in loads {
         match check_load(page, limit, len, pass.end, &load) {
             Ok(end) => pass.keep(page, end, wanted, &load),
             Err(error) => return Err(error),

@@ -4,8 +4,7 @@ ghost use Rattle.std.specs.Prelude.{◌≡◌, ◌≤◌, ◌<◌, true};
 ghost use Rattle.std.specs.Iterator.{YieldsFirst};
 ghost use Rattle.elf_loading.specs.LoadCheck.{fits_below};
 ghost use Rattle.elf_loading.specs.MappingParts.{parts_of, parts_rest};
-ghost use Rattle.elf_loading.specs.Mappings.{file_mapping, gap_mapping, mapped_end, mapping_if};
-ghost use Rattle.elf_loading.specs.Mappings.{maps_file, zero_mapping};
+ghost use Rattle.elf_loading.specs.Mappings.{mapped_end, maps_file};
 
 use crate::load_check::{file_end, load_end};
 use crate::pages::down;
@@ -47,22 +46,6 @@ pub struct Mapping {
     pub contents: Contents,
 }
 
-// A mapping, unless it is empty.
-#[inline(always)]
-fn mapping_if(start: u64, end: u64, flags: Flags, contents: Contents) -> Option<Mapping>
-    ensures { result ≡ mapping_if start end flags contents }
-{
-    if start >= end {
-        return None;
-    }
-    Some(Mapping {
-        start,
-        end,
-        flags,
-        contents,
-    })
-}
-
 // The end of the pages of the file that a loader maps for a load.
 #[inline(always)]
 pub(crate) fn mapped_end(page: u64, limit: u64, by: Loader, load: &ProgramHeader64) -> u64
@@ -80,12 +63,18 @@ pub(crate) fn mapped_end(page: u64, limit: u64, by: Loader, load: &ProgramHeader
     down(page, load.virtual_addr)
 }
 
-// The mappings of a load that are still to be returned.
+// The mappings of a load that are still to be returned: those from the address `at` on. What is
+// before `start` is the gap before the load.
 #[derive(Clone, Copy, Debug)]
 pub(crate) struct Parts {
-    pub(crate) gap: Option<Mapping>,
-    pub(crate) pages: Option<Mapping>,
-    pub(crate) zeros: Option<Mapping>,
+    pub(crate) at: u64,
+    pub(crate) start: u64,
+    // The end of the pages of the file.
+    pub(crate) middle: u64,
+    pub(crate) end: u64,
+    pub(crate) flags: Flags,
+    // The offset of the first page.
+    pub(crate) offset: u64,
 }
 
 impl Parts {
@@ -103,33 +92,54 @@ impl Parts {
         ensures { result ≡ parts_of page by before load.now }
     {
         let start = down(page, load.virtual_addr);
-        let middle = mapped_end(page, limit, by, load);
-        let end = load_end(page, limit, load);
-        let gap = match (by, before) {
-            (Loader::Glibc, Some(before)) => {
-                mapping_if(before, start, Flags(0), Contents::NoAccess)
-            }
-            _ => None,
+        let at = match (by, before) {
+            (Loader::Glibc, Some(before)) => before.min(start),
+            _ => start,
         };
-        let contents = Contents::File(down(page, load.offset));
         Parts {
-            gap,
-            pages: mapping_if(start, middle, load.flags, contents),
-            zeros: mapping_if(middle, end, load.flags, Contents::Zero),
+            at,
+            start,
+            middle: mapped_end(page, limit, by, load),
+            end: load_end(page, limit, load),
+            flags: load.flags,
+            offset: down(page, load.offset),
         }
     }
 
     // Returns the first of them, and removes it.
+    #[tactic(auto, using(crate::proofs::PartsLeft::gap_first, crate::proofs::PartsLeft::pages_first, crate::proofs::PartsLeft::zeros_first, crate::proofs::PartsLeft::parts_end))]
     #[inline(always)]
     pub(crate) fn next(&mut self) -> Option<Mapping>
         ensures { YieldsFirst parts_rest self.old result self.new }
     {
-        if self.gap.is_some() {
-            return self.gap.take();
+        let start = self.at;
+        if start < self.start {
+            self.at = self.start;
+            return Some(Mapping {
+                start,
+                end: self.start,
+                flags: Flags(0),
+                contents: Contents::NoAccess,
+            });
         }
-        if self.pages.is_some() {
-            return self.pages.take();
+        if start < self.middle {
+            self.at = self.middle;
+            return Some(Mapping {
+                start,
+                end: self.middle,
+                flags: self.flags,
+                contents: Contents::File(self.offset),
+            });
         }
-        self.zeros.take()
+        if start < self.end {
+            self.at = self.end;
+            return Some(Mapping {
+                start,
+                end: self.end,
+                flags: self.flags,
+                contents: Contents::Zero,
+            });
+        }
+        None
     }
 }

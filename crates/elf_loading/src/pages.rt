@@ -28,14 +28,19 @@ pub(crate) fn down(page: u64, address: u64) -> u64
     address - inside(page, address)
 }
 
-// The first address from `address` on at which a page begins.
-#[tactic(auto, using(crate::proofs::Rounded::up_at, crate::proofs::Rounded::up_in))]
+// The first address from `address` on at which a page begins. With the usual size the last byte of its page, rounded
+// down, takes no branch.
+#[tactic(auto, using(crate::proofs::Rounded::up_at, crate::proofs::Rounded::up_in, crate::proofs::Rounded::up_usual, crate::proofs::Rounded::up_room))]
 #[inline(always)]
 pub(crate) fn up(page: u64, address: u64) -> u64
     requires page { 0 < page }
     requires fits { up page address < 2 ^ 64 }
     ensures { result ≡ up page address }
 {
+    if page == 4096 {
+        let last = address + 4095;
+        return last - last % 4096;
+    }
     let inside = inside(page, address);
     if inside == 0 {
         return address;
@@ -58,14 +63,17 @@ pub(crate) fn is_past(page: u64, limit: u64, address: u64, size: u64) -> bool
     size > last - address
 }
 
-// The last address up to the end of `size` bytes from `start` on at which a page begins. The remainder of the sum is that of
-// two numbers of 64 bits: a division of 128 bits would need a function of the compiler's own library.
+// The last address up to the end of `size` bytes from `start` on at which a page begins. Past 64 bits the remainder of the
+// sum is that of two numbers of 64 bits: a division of 128 bits would need a function of the compiler's own library.
 #[tactic(auto, using(crate::proofs::Rounded::end_inside, crate::proofs::Rounded::end_over))]
 #[inline(always)]
 pub(crate) fn end_down(page: u64, start: u64, size: u64) -> u128
     requires { 0 < page }
     ensures { result ≡ down page (start + size) }
 {
+    if let Some(end) = start.checked_add(size) {
+        return u128::from(down(page, end));
+    }
     let (first, last) = (inside(page, start), inside(page, size));
     let left = page - last;
     let over = if first < left {

@@ -2,18 +2,20 @@
 
 ghost use Rattle.std.specs.Prelude.{◌<◌, ◌≡◌, true};
 ghost use Rattle.elf_loading.specs.FileCheck.{check_file};
+ghost use Rattle.elf_loading.specs.Loads.{loads_rest};
 ghost use Rattle.elf_loading.specs.Others.{AreOthersOf};
 ghost use Rattle.elf_loading.specs.Segments.{loads_of};
 ghost use Rattle.elf_loading.specs.Spans.{ends_at, first_start};
 
 use crate::LoadError;
 use crate::file_check::check_file;
+use crate::loads::Loads;
 use crate::pages::{down, end_down};
-use crate::segments::{Others, others_of};
+use crate::segments::{Extent, Others};
 use crate::span::Span;
 use xmas_elf::ElfFile;
 use xmas_elf::bytes::bytes_up_to_zero;
-use xmas_elf::program::{Flags, ProgramHeader64};
+use xmas_elf::program::Flags;
 
 /// What a loader puts into memory for a file that Linux and glibc load.
 ///
@@ -27,11 +29,13 @@ pub struct LoadPlan<'a> {
     pub(crate) limit: u64,
     pub(crate) start: u64,
     pub(crate) end: u64,
+    pub(crate) loads: Loads<'a>,
     pub(crate) others: Others,
     ghost paged: { 0 < page },
     ghost checked: { ends_at (check_file file page limit) end ≡ true },
     ghost begins: { first_start page (loads_of file) ≡ start },
     ghost found: { AreOthersOf file others },
+    ghost read: { loads_rest loads ≡ loads_of file },
 }
 
 /// The template of thread-local storage (gABI, "Thread-Local Storage").
@@ -54,6 +58,7 @@ impl<'a> LoadPlan<'a> {
     ghost use Rattle.elf_base.specs.FileHeader.{header_fields};
     ghost use Rattle.elf_base.specs.Text.{EndsInZero};
     ghost use Rattle.elf_base.specs.Lent.{LiesAt};
+    ghost use Rattle.elf_loading.specs.Others.{data_of, memory_of};
     ghost use Rattle.elf_loading.specs.Plan.{IsPlanOf, plan_loads, plan_relro};
     ghost use Rattle.elf_loading.specs.Segments.{interpreter_of, relro_of, stack_of, tls_of};
     ghost use Rattle.elf_loading.specs.Spans.{HasUncovered, IsCovered, relro_span, span_of};
@@ -73,9 +78,7 @@ impl<'a> LoadPlan<'a> {
         ensures relro { IfErr result (λ error. error ≡ Relro → MatchOption (relro_of file.now) ⊥
             (λ relro. HasUncovered page (loads_of file.now) (relro_span page relro))) }
     {
-        let table = file.program_table();
-        let others = others_of(table);
-        let span = check_file(page, limit, file, table, &others)?;
+        let found = check_file(page, limit, file)?;
         Ok(LoadPlan {
             file: ElfFile {
                 input: file.input,
@@ -83,9 +86,10 @@ impl<'a> LoadPlan<'a> {
             },
             page,
             limit,
-            start: span.start,
-            end: span.end,
-            others,
+            start: found.span.start,
+            end: found.span.end,
+            loads: found.loads,
+            others: found.others,
         })
     }
 
@@ -108,41 +112,33 @@ impl<'a> LoadPlan<'a> {
         self.file.header.pt2.entry_point()
     }
 
-    // The last PT_GNU_RELRO.
+    // The load segments, in the order of the program headers.
     #[inline(always)]
-    fn last_relro(&self) -> Option<ProgramHeader64>
-        ensures { result ≡ relro_of self.now.file }
+    pub(crate) fn loads(&self) -> Loads<'a>
+        ensures { loads_rest result ≡ plan_loads self.now }
+    {
+        self.loads
+    }
+
+    // The memory of the last PT_GNU_RELRO.
+    #[inline(always)]
+    fn last_relro(&self) -> Option<Extent>
+        ensures { result ≡ option_map memory_of (relro_of self.now.file) }
     {
         self.others.relro
     }
 
-    // The last PT_GNU_STACK.
+    // The bytes in the file of the first PT_INTERP.
     #[inline(always)]
-    fn last_stack(&self) -> Option<ProgramHeader64>
-        ensures { result ≡ stack_of self.now.file }
-    {
-        self.others.stack
-    }
-
-    // The last PT_TLS that is not empty.
-    #[inline(always)]
-    fn last_tls(&self) -> Option<ProgramHeader64>
-        ensures { result ≡ tls_of self.now.file }
-    {
-        self.others.tls
-    }
-
-    // The first PT_INTERP.
-    #[inline(always)]
-    fn first_interpreter(&self) -> Option<ProgramHeader64>
-        ensures { result ≡ interpreter_of self.now.file }
+    fn first_interpreter(&self) -> Option<Extent>
+        ensures { result ≡ option_map data_of (interpreter_of self.now.file) }
     {
         self.others.interpreter
     }
 
     /// The pages that are only readable after relocation: of the last PT_GNU_RELRO, both ends
     /// rounded down to pages. The bytes after the last whole page stay writable.
-    #[tactic(auto, using(crate::proofs::FileChecks::passes_relro_fits))]
+    #[tactic(auto, using(crate::proofs::FileChecks::passes_relro_fits, crate::proofs::FileChecks::relro_some, crate::proofs::FileChecks::relro_none))]
     pub fn relro(&self) -> Option<Span>
         ensures exact { result ≡ plan_relro self.now }
         ensures covered { IfSome result (IsCovered self.now.page (plan_loads self.now)) }
@@ -151,8 +147,8 @@ impl<'a> LoadPlan<'a> {
         let _limit = self.limit;
         let relro = self.last_relro()?;
         Some(Span {
-            start: down(self.page, relro.virtual_addr),
-            end: end_down(self.page, relro.virtual_addr, relro.mem_size) as u64,
+            start: down(self.page, relro.start),
+            end: end_down(self.page, relro.start, relro.size) as u64,
         })
     }
 
@@ -165,13 +161,7 @@ impl<'a> LoadPlan<'a> {
           align = tls.align;
         }) (tls_of self.now.file) }
     {
-        let tls = self.last_tls()?;
-        Some(Tls {
-            address: tls.virtual_addr,
-            file_size: tls.file_size,
-            mem_size: tls.mem_size,
-            align: tls.align,
-        })
+        self.others.tls
     }
 
     /// The permissions of the stack: the flags of the last PT_GNU_STACK.
@@ -181,27 +171,27 @@ impl<'a> LoadPlan<'a> {
     pub fn stack(&self) -> Option<Flags>
         ensures { result ≡ option_map (λ stack. stack.flags) (stack_of self.now.file) }
     {
-        self.last_stack().map(|stack| stack.flags)
+        self.others.stack
     }
 
     /// The offset in the file of the path of the program interpreter: that of the first PT_INTERP.
     pub fn interpreter_offset(&self) -> Option<u64>
         ensures { result ≡ option_map (λ segment. segment.offset) (interpreter_of self.now.file) }
     {
-        self.first_interpreter().map(|segment| segment.offset)
+        self.first_interpreter().map(|path| path.start)
     }
 
     /// The path of the program interpreter, which lives as long as the input: the bytes of the first
     /// PT_INTERP up to the first zero.
-    #[tactic(auto, using(crate::proofs::FileChecks::passes_path))]
+    #[tactic(auto, using(crate::proofs::FileChecks::passes_path, crate::proofs::FileChecks::path_none))]
     pub fn interpreter(&self) -> Option<&'a [u8]>
         ensures missing { IfNone result (interpreter_of self.now.file ≡ None) }
         ensures found { IfSome result (λ path. MatchOption (interpreter_of self.now.file) ⊥
             (λ segment. EndsInZero self.now.file.input.now segment.offset path.now
             × LiesAt self.now.file.input segment.offset path)) }
     {
-        let segment = self.first_interpreter()?;
-        match bytes_up_to_zero(self.file.input, segment.offset as usize) {
+        let place = self.first_interpreter()?;
+        match bytes_up_to_zero(self.file.input, place.start as usize) {
             Ok(path) => Some(path),
             Err(_) => unreachable!(),
         }

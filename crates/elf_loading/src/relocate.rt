@@ -22,8 +22,8 @@ ghost use Rattle.elf_loading.specs.declared.error.LoadError.TheVariants.{CopySou
 ghost use Rattle.xmas_elf.specs.ProgramTable.{program_table_file};
 
 use crate::LoadError;
+use crate::file_loads::file_loads;
 use crate::pages::{down, end_down};
-use crate::segments::loads_of;
 use crate::value::{Origin, Value};
 use crate::words::{Binding, Relocated, Word, Words, binds_lazily, needs_symbol};
 use elf_base::bytes::Record;
@@ -190,7 +190,7 @@ fn first_start(page: u64, table: ProgramTable<'_, '_>) -> u64
     requires { 0 < page }
     ensures { result ≡ first_start page (loads_of (program_table_file table.entry)) }
 {
-    match loads_of(table).next() {
+    match file_loads(table).next() {
         Some(load) => down(page, load.virtual_addr),
         None => 0,
     }
@@ -216,7 +216,7 @@ fn last_end(page: u64, table: ProgramTable<'_, '_>) -> u128
     ensures { result ≡ last_end page 0 (loads_of (program_table_file table.entry)) }
 {
     let mut end = 0;
-    for load in loads_of(table) {
+    for load in file_loads(table) {
         end = end_up(page, load.virtual_addr, load.mem_size);
     }
     end

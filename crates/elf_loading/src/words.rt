@@ -18,9 +18,9 @@ ghost use Rattle.elf_loading.specs.WordsLeft.{words_index, words_lazy, words_lef
 ghost use Rattle.elf_loading.specs.WordsLeft.{words_of, words_own};
 
 use crate::LoadError;
+use crate::file_loads::file_loads;
 use crate::formulas::{Formula, formula_of, width_of};
 use crate::in_order::{InOrder, Relocation};
-use crate::segments::loads_of;
 use crate::value::{Terms, Value, bytes_of, value_of};
 use elf_base::bytes::Record;
 use elf_linking::references::Reference;
@@ -214,7 +214,7 @@ fn has_zeros(address: u64, width: u64, load: &ProgramHeader64) -> bool
 fn is_in_zeros(file: &ElfFile<'_>, address: u64, width: u64) -> bool
     ensures { result ≡ list_any (has_zeros address width) (loads_of file.now) }
 {
-    for load in loads_of(file.program_table()) {
+    for load in file_loads(file.program_table()) {
         if has_zeros(address, width, &load) {
             return true;
         }

@@ -1,8 +1,6 @@
 use Rattle.elf_loading.proofs.LoadPasses.{IsLeft}
 use Rattle.elf_loading.specs.Loads.{loads_rest}
-use Rattle.elf_loading.specs.Segments.{loads_of}
-use Rattle.xmas_elf.specs.ProgramTable.{program_table_file}
 use Rattle.elf_loading.proofs.load_pass.pass_loads.Given as goal
 
 abbrev pub invariant-loop-load : goal.invariant-loop-load
-invariant-loop-load l = IsLeft l.page l.limit l.len l.wanted (loads_of (program_table_file l.fn.table)) l.pass (loads_rest l.load-iterator)
+invariant-loop-load l = IsLeft l.page l.limit l.len l.wanted (loads_rest l.fn.loads) l.pass (loads_rest l.load-iterator)

@@ -1,8 +1,7 @@
-use Rattle.std.proofs.Common.{sym}
 use Rattle.elf_loading.proofs.FileChecks.{passes_path}
 use Rattle.elf_loading.proofs.plan.LoadPlan.interpreter.Goals as goal
 
 pub unreachable-requires : goal.unreachable-requires
 unreachable-requires c =
     let plan = c.args.self.now in
-    passes_path plan.file plan.page plan.limit plan.end c.in_ok-segment.segment c.in-Err.field-0 plan.checked (sym c.in_ok-segment.ensures) c.in-Err.ensures.refused
+    passes_path plan.file plan.page plan.limit plan.end c.in_ok-place.place c.in-Err.field-0 plan.checked c.in_ok-place.ensures c.in-Err.ensures.refused
