@@ -122,3 +122,25 @@ once_at size fields sources None when before after (Err reason) there relocation
 once_at size fields sources (Some own) when before after result there relocation =
     let order = file_order (object_file own).header in
     once_of size fields (sources order) own (binds_lazily (view_entries (object_view own)) when) before after (there order) result relocation
+
+-- the relocation of an image keeps its length
+module _ {E : Type 0} {r : _} (fields : E → SymbolFields) (before after : List ℕ) where
+  pub kept_size : (sources : Sources E r) (own : DynamicObject E r) (lazy : Bool) (result : Result ℕ LoadError) → IsRelocation fields sources own lazy before after result
+      → length after ≡ length before
+  kept_size sources own lazy result relocation = by_sizes (sized_relocations sources own (length before)) relocation
+    where
+      by_writing : (relocations : List Relocation) → IsWriting fields sources own lazy relocations before after result → length after ≡ length before
+      by_writing relocations (all items number is written done) = written.same_size
+      by_writing relocations (some items number item rest reason is written has can_not stopped) = written.same_size
+
+      by_sizes : (sized : Result (List Relocation) LoadError)
+          → MatchResult sized (λ relocations. IsWriting fields sources own lazy relocations before after result) (λ reason. (result ≡ Err reason) × (after ≡ before))
+          → length after ≡ length before
+      by_sizes (Ok relocations) writing = by_writing relocations writing
+      by_sizes (Err reason) (refused, same) = ap length same
+
+  pub kept_size_at : (sources : Order → Sources E r) (there : Option (DynamicObject E r)) (when : Binding) (result : Result ℕ LoadError)
+      → IsRelocationAt fields sources there when before after result → length after ≡ length before
+  kept_size_at sources None when result (refused, same) = ap length same
+  kept_size_at sources (Some own) when result relocation =
+      kept_size (sources (file_order (object_file own).header)) own (binds_lazily (view_entries (object_view own)) when) result relocation

@@ -99,7 +99,8 @@ impl<'s, 'a, E: LinkedSymbol> LoadScope for Scope<'s, 'a, E> {
     /// Errors: `Link` with `ObjectIndex` if there is no object at `of`; `ImageSize` if `image` is not
     /// of the size of the span, or there are not as many places or images as objects; `Link` with
     /// those of `words`; then of the first word that has one, `WordType` or `Link`, `Unresolved`,
-    /// `WordAddress` and `CopySource`. The words before it are written.
+    /// `WordAddress` and `CopySource`. The words before it are written, and the bytes of that word and of
+    /// those after it stay as they are.
     fn relocate(
         &self,
         of: usize,
@@ -114,6 +115,7 @@ impl<'s, 'a, E: LinkedSymbol> LoadScope for Scope<'s, 'a, E> {
             others.entry image.old image.new result }
         ensures once { IfOk result (λ count. IsByOneWordIn E.SIZE E.fields (scope_objects self.now)
             of when page places.entry others.entry image.old image.new) }
+        ensures len { length image.new ≡ length image.old }
         ensures errors { IfErr result (λ error. let objects = (scope_objects self.now).now in
             HasErrorLeft E.SIZE E.fields objects of (slice_get objects of) when page error) }
     {
