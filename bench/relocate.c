@@ -1,0 +1,76 @@
+/* relocate RUNS PROGRAM [LIBRARY ..]: the cycles of the time stamp counter that relocation and its check take for a program and its
+ * libraries, in the order in which they are loaded, with all symbols bound: the least of RUNS. `relocate.py` runs it. */
+#include <stdio.h>
+#include <stdlib.h>
+#include <string.h>
+#include <x86intrin.h>
+#include <xmas_elf.h>
+
+#define LARGEST 64 /* objects */
+
+static xmas_elf_load_object_t loads[LARGEST];
+static uint8_t *planned[LARGEST], *images[LARGEST], *marks;
+static size_t sizes[LARGEST], count;
+
+static void check(uint32_t status, size_t index)
+{
+    if (status == XMAS_ELF_OK) return;
+    fprintf(stderr, "object %zu: %s\n", index, xmas_elf_status_text(status).text);
+    exit(1);
+}
+
+static void read_file(size_t index, const char *path)
+{
+    xmas_elf_header_t header;
+    xmas_elf_load_plan_t plan;
+    FILE *stream = fopen(path, "rb");
+    if (stream == NULL) perror(path), exit(1);
+    fseek(stream, 0, SEEK_END);
+    size_t size = (size_t)ftell(stream);
+    uint8_t *bytes = malloc(size);
+    rewind(stream);
+    size = fread(bytes, 1, size, stream);
+    fclose(stream);
+    check(xmas_elf_open(bytes, size, &header), index);
+    check(xmas_elf_load_plan(bytes, size, &header, 4096, 0, &plan), index);
+    sizes[index] = plan.span.end - plan.span.start;
+    planned[index] = malloc(sizes[index]), images[index] = malloc(sizes[index]);
+    check(xmas_elf_load_image(bytes, size, &header, 4096, 0, index != 0, planned[index], sizes[index]), index);
+    uint64_t base = header.type == 2 ? 0 : (index + 1) << 40;
+    loads[index] = (xmas_elf_load_object_t){bytes, size, NULL, 0, base, index + 1, -(index + 1) * 4096};
+}
+
+static uint64_t relocate(void)
+{
+    uint64_t left;
+    for (size_t i = 0; i < count; i++) memcpy(images[i], planned[i], sizes[i]), loads[i].image = NULL, loads[i].image_size = 0;
+    uint64_t began = __rdtsc();
+    for (size_t i = count; i-- > 0;) {
+        check(xmas_elf_relocate(loads, count, i, 0, 4096, images[i], sizes[i], &left), i);
+        loads[i].image = images[i], loads[i].image_size = sizes[i];
+    }
+    return __rdtsc() - began;
+}
+
+static uint64_t check_all(void)
+{
+    uint64_t began = __rdtsc();
+    for (size_t i = 0; i < count; i++) check(xmas_elf_check_image(loads, count, i, marks, sizes[i] / 8 + 1), i);
+    return __rdtsc() - began;
+}
+
+int main(int argc, char **argv)
+{
+    uint64_t least = UINT64_MAX, checks = UINT64_MAX;
+    size_t most = 0;
+    if (argc < 3 || argc - 2 > LARGEST) return 2;
+    count = (size_t)argc - 2;
+    for (size_t i = 0; i < count; i++) read_file(i, argv[i + 2]);
+    for (size_t i = 0; i < count; i++) most = sizes[i] > most ? sizes[i] : most;
+    marks = malloc(most / 8 + 1);
+    for (int run = atoi(argv[1]); run > 0; run--) {
+        uint64_t one = relocate(), other = check_all();
+        least = one < least ? one : least, checks = other < checks ? other : checks;
+    }
+    printf("%zu %llu %llu\n", count, (unsigned long long)least, (unsigned long long)checks);
+}
