@@ -226,6 +226,33 @@ CALL(symbol_pieces) /* the addresses of a symbol are its own; a word less is ref
 }
 CALL(load_plan) { return xmas_elf_load_plan(FILE_OF(a), a->index, 0, &out->of.load_plan); }
 CALL_MANY(load_mappings, load_mappings, 4096, 0, 0, a->index)
+static uint8_t image[1 << 24], marks[sizeof image / 8 + 1];
+#define OBJECT_OF(asked) &(xmas_elf_load_object_t){.file = (asked)->bytes, .file_size = (asked)->size}, 1
+CALL(load_image) /* a byte less is refused */
+{
+    xmas_elf_load_plan_t plan = {.span = {0, 1}};
+    uint32_t status = xmas_elf_load_plan(FILE_OF(a), a->index, 0, &plan);
+    size_t size = (size_t)(plan.span.end - plan.span.start);
+    (void)out;
+    if (status == XMAS_ELF_OK && xmas_elf_load_image(FILE_OF(a), a->index, 0, 0, image, size - 1) != XMAS_ELF_LOAD_IMAGE_SIZE) return 999;
+    if (status != xmas_elf_load_image(FILE_OF(a), a->index, 0, 0, image, size)) return 998;
+    return status != XMAS_ELF_OK || memcmp(image, a->bytes, 64) == 0 ? status : 997;
+}
+CALL(check_image)
+{
+    (void)out;
+    if (a->index == 0 && a->size > 0 && xmas_elf_check_image(OBJECT_OF(a), 0, marks, 1) != XMAS_ELF_LOAD_FEW_MARKS) return 999;
+    return xmas_elf_check_image(OBJECT_OF(a), a->index, marks, sizeof marks);
+}
+CALL(relocate) /* without its library the program has a symbol that nothing has */
+{
+    xmas_elf_load_plan_t plan;
+    uint32_t status = xmas_elf_load_plan(FILE_OF(a), 0, 0, &plan);
+    size_t size = status == XMAS_ELF_OK ? (size_t)(plan.span.end - plan.span.start) : 0;
+    if (status == XMAS_ELF_OK && xmas_elf_load_image(FILE_OF(a), 0, 0, 0, image, size) != XMAS_ELF_OK) return 999;
+    status = xmas_elf_relocate(OBJECT_OF(a), a->index, 0, 0, image, size, &out->count);
+    return status == XMAS_ELF_LOAD_UNRESOLVED ? XMAS_ELF_OK : status;
+}
 CALL(message) /* OK where the status `index` has a text */
 {
     size_t whole = xmas_elf_message((uint32_t)a->index, NULL, 0);
@@ -287,6 +314,9 @@ static const struct row {
     {"symbol_pieces", symbol_pieces_call, NONE, 0, FAR, XMAS_ELF_DATA_RANGE, XMAS_ELF_DATA_RANGE},
     {"load_plan", load_plan_call, NONE, 0, FAR, XMAS_ELF_LOAD_OVERLAP, XMAS_ELF_LOAD_TABLE},
     {"load_mappings", load_mappings_call, NONE, 1, FAR, XMAS_ELF_NO_RECORD, XMAS_ELF_LOAD_TABLE},
+    {"load_image", load_image_call, NONE, 0, FAR, XMAS_ELF_LOAD_OVERLAP, XMAS_ELF_LOAD_TABLE},
+    {"check_image", check_image_call, NONE, 0, FAR, XMAS_ELF_LINK_OBJECT_INDEX, XMAS_ELF_SHORT_PART_1},
+    {"relocate", relocate_call, NONE, 0, FAR, XMAS_ELF_LINK_OBJECT_INDEX, XMAS_ELF_SHORT_PART_1},
     {"message", message_call, NONE, XMAS_ELF_NOT_FOUND, 0, XMAS_ELF_NOT_FOUND, XMAS_ELF_OK},
 };
 
