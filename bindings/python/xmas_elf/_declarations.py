@@ -992,8 +992,6 @@ class Status(IntEnum):
     """A table has no record with this index."""
     NOT_FOUND = 203
     """Nothing has this name."""
-    MANY_OBJECTS = 204
-    """There are more objects than one call takes."""
     LOAD_TYPE = 301
     """Type is neither executable nor shared object."""
     LOAD_ENTRY_SIZE = 302

@@ -154,8 +154,6 @@ pub enum Error {
     NoRecord,
     /// Nothing has this name.
     NotFound,
-    /// There are more objects than one call takes.
-    ManyObjects,
     /// Type is neither executable nor shared object.
     LoadType,
     /// Program headers are not of the size of the class.
@@ -309,7 +307,6 @@ impl Error {
             201 => Error::OtherData,
             202 => Error::NoRecord,
             203 => Error::NotFound,
-            204 => Error::ManyObjects,
             301 => Error::LoadType,
             302 => Error::LoadEntrySize,
             303 => Error::LoadCount,
@@ -427,7 +424,6 @@ impl Error {
             Error::OtherData => 201,
             Error::NoRecord => 202,
             Error::NotFound => 203,
-            Error::ManyObjects => 204,
             Error::LoadType => 301,
             Error::LoadEntrySize => 302,
             Error::LoadCount => 303,

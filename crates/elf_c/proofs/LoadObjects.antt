@@ -19,17 +19,17 @@ object_or_refused class size bytes file (Ok object) input header is = record { f
 object_or_refused class size bytes file (Err error) input header is = no_object file error input header is
 
 -- the object of the bytes of a file is that of the file at an index, or that of one file is refused
-pub object_at_or_refused : {E : Type 0} {r : _} (class size : ℕ) (loads : List LoadObject) (index : ℕ) (file : Bor (List ℕ)) (result : Result (DynamicObject E r) LinkError) → IfSome (slice_get loads index) (λ load. file ≡ load.file) → IsOneFile loads file → MatchResult result (IsObjectOfBytes class size file.now) (IsRefusedAsObject class size file.now) → MatchResult result (IsObjectAt class size loads index) (IsOneRefused class size loads)
+pub object_at_or_refused : {C E : Type 0} {r : _} (class size : ℕ) (loads : List LoadObject) (index : ℕ) (file : Bor (List ℕ)) (result : Result (DynamicObject E r) LinkError) → IfSome (slice_get loads index) (λ load. file ≡ load.file) → (C → IsOneFile loads file) → MatchResult result (IsObjectOfBytes class size file.now) (IsRefusedAsObject class size file.now) → MatchResult result (IsObjectAt class size loads index) (λ error. C → IsOneRefused class size loads error)
 object_at_or_refused class size loads index file (Ok object) own one is = go (slice_get loads index) own
   where
     go : (found : Option LoadObject) → IfSome found (λ load. file ≡ load.file) → IfSome found (λ load. IsObjectOfBytes class size load.file.now object)
     go None none = tt
     go (Some load) same = subst (λ (lent : Bor (List ℕ)). IsObjectOfBytes class size lent.now object) same is
-object_at_or_refused class size loads index file (Err error) own one is = record {
-  index = one.index;
-  load = one.load;
-  load_is = one.load_is;
-  why = subst (λ (lent : Bor (List ℕ)). IsRefusedAsObject class size lent.now error) one.file_is is;
+object_at_or_refused class size loads index file (Err error) own one is = λ holds. record {
+  index = (one holds).index;
+  load = (one holds).load;
+  load_is = (one holds).load_is;
+  why = subst (λ (lent : Bor (List ℕ)). IsRefusedAsObject class size lent.now error) (one holds).file_is is;
 }
 
 -- an item of a list that is long enough, by what is said of it with any other in its place where there is none

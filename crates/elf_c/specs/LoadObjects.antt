@@ -8,6 +8,7 @@ use Rattle.elf_linking.specs.declared.error.LinkError.{LinkError}
 use Rattle.elf_linking.specs.declared.error.LinkError.TheVariants.{Elf, ObjectIndex}
 use Rattle.elf_linking.specs.declared.object.DynamicObject.{DynamicObject}
 use Rattle.elf_loading.specs.declared.error.LoadError.{LoadError}
+use Rattle.elf_loading.specs.declared.error.LoadError.TheVariants.{ImageSize}
 use Rattle.elf_loading.specs.declared.relocate.Place.{Place}
 use Rattle.elf_loading.specs.declared.words.Binding.{Binding}
 use Rattle.elf_loading.specs.declared.words.Binding.TheVariants.{Lazy, Now}
@@ -16,7 +17,7 @@ use Rattle.xmas_elf.specs.declared.ElfFile.{ElfFile}
 use Rattle.elf_c.specs.declared.load_objects.LoadObject.{LoadObject}
 use Rattle.elf_c.specs.declared.load_objects.TheConstants.{MOST_OBJECTS}
 use Rattle.elf_c.specs.declared.status.Refusal.{Refusal}
-use Rattle.elf_c.specs.declared.status.Refusal.TheVariants.{Link, Load, ManyObjects}
+use Rattle.elf_c.specs.declared.status.Refusal.TheVariants.{Link, Load}
 
 -- a header is of class 32
 abbrev pub is_narrow_header : Result Header ElfError → Bool
@@ -105,5 +106,5 @@ as_refusal (Err error) = Err (Load error)
 -- same then; otherwise one by the class of the first file
 abbrev pub ByClass : {A : Type 0} → List LoadObject → Type 0 → (Result A Refusal → Type 0) → (Result A Refusal → Type 0) → Result A Refusal → Type 0
 ByClass loads Same Narrow Wide result = if length loads == 0 then (result ≡ Err (Link ObjectIndex)) × Same
-    else (if nat_lt MOST_OBJECTS (length loads) then (result ≡ Err ManyObjects) × Same
+    else (if nat_lt MOST_OBJECTS (length loads) then (result ≡ Err (Load ImageSize)) × Same
     else (if is_first_narrow loads then Narrow result else Wide result))

@@ -20,7 +20,7 @@ use elf_base::bytes::Record;
 use elf_linking::LinkError;
 use elf_linking::scope::Scope;
 use elf_linking::view::LinkedSymbol;
-use elf_loading::{Binding, LoadPlan, LoadScope, Loader};
+use elf_loading::{Binding, LoadError, LoadPlan, LoadScope, Loader};
 use xmas_elf::ElfFile;
 use xmas_elf::symbol_table::{DynEntry32, DynEntry64};
 
@@ -83,7 +83,7 @@ fn check_objects<E: LinkedSymbol>(
 ) -> Result<(), Refusal>
     requires some { 0 < length loads.now }
     requires fit { length loads.now ≤ MOST_OBJECTS }
-    ensures { ChecksAs E.Record E.CLASS E.SIZE E.fields loads.now of (8 * length marks.old) result }
+    ensures { ChecksAs {E = E} E.Record E.CLASS E.SIZE E.fields loads.now of (8 * length marks.old) result }
 {
     let objects = match objects_of::<E>(loads) {
         Ok(objects) => objects,
@@ -104,7 +104,7 @@ fn check(loads: &[LoadObject<'_>], of: usize, marks: &mut [u8]) -> Result<(), Re
         return Err(Refusal::Link(LinkError::ObjectIndex));
     }
     if loads.len() > MOST_OBJECTS {
-        return Err(Refusal::ManyObjects);
+        return Err(Refusal::Load(LoadError::ImageSize));
     }
     if is_first_narrow(loads) {
         check_objects::<DynEntry32>(loads, of, marks)
@@ -120,7 +120,7 @@ fn check(loads: &[LoadObject<'_>], of: usize, marks: &mut [u8]) -> Result<(), Re
 /// `marks` has a bit for each byte of the span of the object's plan, so a byte for each eight, and one
 /// more; what it holds is overwritten.
 ///
-/// Errors: `ManyObjects` if there are more than 64 objects; those of `DynamicObject::read_reached` for
+/// Errors: `ImageSize` if there are more than 64 objects; those of `DynamicObject::read_reached` for
 /// one of the files; those of the check.
 #[unsafe(no_mangle)]
 pub extern "C" fn xmas_elf_check_image(
@@ -146,7 +146,7 @@ fn relocate_objects<E: LinkedSymbol>(
     requires some { 0 < length loads.now }
     requires fit { length loads.now ≤ MOST_OBJECTS }
     requires paged { 0 < page }
-    ensures exact { RelocatesAs E.Record E.CLASS E.SIZE E.fields loads.now of when page image.old
+    ensures exact { RelocatesAs {E = E} E.Record E.CLASS E.SIZE E.fields loads.now of when page image.old
         image.new result }
     ensures len { length image.new ≡ length image.old }
 {
@@ -180,7 +180,7 @@ fn relocate(
         return Err(Refusal::Link(LinkError::ObjectIndex));
     }
     if loads.len() > MOST_OBJECTS {
-        return Err(Refusal::ManyObjects);
+        return Err(Refusal::Load(LoadError::ImageSize));
     }
     if is_first_narrow(loads) {
         relocate_objects::<DynEntry32>(loads, of, when, page, image)
@@ -198,7 +198,7 @@ fn relocate(
 /// and is no part of the `image` of an object. `lazy` is 1 if jump slots get their symbols when a
 /// function is called first, and any other number if they get them now.
 ///
-/// Errors: `ManyObjects` if there are more than 64 objects; those of `DynamicObject::read_reached` for
+/// Errors: `ImageSize` if there are more than 64 objects; those of `DynamicObject::read_reached` for
 /// one of the files; those of the library's call. `count` is then unchanged, and the words before the
 /// first that can't be written are written.
 #[unsafe(no_mangle)]

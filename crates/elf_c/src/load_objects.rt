@@ -7,7 +7,6 @@ ghost use Rattle.elf_c.specs.LoadObjects.{IsImageOf, IsObjectAt, IsObjectOfBytes
 ghost use Rattle.elf_c.specs.LoadObjects.{IsOneRefused, IsRefusedAsObject, is_first_narrow};
 ghost use Rattle.elf_c.specs.LoadObjects.{is_narrow_header, place_of, when_of};
 
-use elf_base::bytes::Record;
 use elf_linking::view::LinkedSymbol;
 use elf_linking::{DynamicObject, LinkError};
 use elf_loading::{Binding, Place};
@@ -76,31 +75,30 @@ fn read_object<'a, E: LinkedSymbol>(bytes: &'a [u8]) -> Result<DynamicObject<'a,
     }
 }
 
-// The bytes of the file at an index, or of the last file.
-fn file_at<'a>(loads: &[LoadObject<'a>], index: usize) -> &'a [u8]
-    requires { 0 < length loads.now }
+// The bytes of the file at an index, or others if there is none.
+fn file_at<'a>(loads: &[LoadObject<'a>], others: &'a [u8], index: usize) -> &'a [u8]
     ensures own { IfSome (slice_get loads.now index) (λ load. result ≡ load.file) }
-    ensures one { IsOneFile loads.now result }
+    ensures one { IsOneFile loads.now others.entry → IsOneFile loads.now result }
 {
     match loads.get(index) {
         Some(load) => load.file,
-        None => loads[loads.len() - 1].file,
+        None => others,
     }
 }
 
-// The object of the file at an index, or of the last file.
+// The object of the file at an index, or of other bytes if there is none.
 fn object_at<'a, E: LinkedSymbol>(
     loads: &[LoadObject<'a>],
+    others: &'a [u8],
     index: usize,
 ) -> Result<DynamicObject<'a, E>, LinkError>
-    requires { 0 < length loads.now }
     ensures { MatchResult result (IsObjectAt E.CLASS E.SIZE loads.now index)
-        (IsOneRefused E.CLASS E.SIZE loads.now) }
+        (λ error. IsOneFile loads.now others.entry → IsOneRefused E.CLASS E.SIZE loads.now error) }
 {
-    read_object(file_at(loads, index))
+    read_object(file_at(loads, others, index))
 }
 
-// The objects of the files in their order; after them the object of the last file again.
+// The objects of the files in their order; after them the object of the first file again.
 pub(crate) fn objects_of<'a, E: LinkedSymbol>(
     loads: &[LoadObject<'a>],
 ) -> Result<[DynamicObject<'a, E>; MOST_OBJECTS], LinkError>
@@ -110,12 +108,8 @@ pub(crate) fn objects_of<'a, E: LinkedSymbol>(
         (IsObjectAt E.CLASS E.SIZE loads.now index))) }
     ensures refused { IfErr result (IsOneRefused E.CLASS E.SIZE loads.now) }
 {
-    array::try_from_fn(
-        |index| -> Result<DynamicObject<'a, E>, LinkError>
-            ensures { MatchResult result (IsObjectAt E.CLASS E.SIZE loads.now index)
-                (IsOneRefused E.CLASS E.SIZE loads.now) }
-        { object_at(loads, index) },
-    )
+    let first = loads[0].file;
+    array::try_from_fn(|index| object_at(loads, first, index))
 }
 
 // The place of the object at an index; zeros if there is none.
@@ -142,11 +136,7 @@ pub(crate) fn places_of(loads: &[LoadObject<'_>]) -> [Place; MOST_OBJECTS]
     ensures each { (index : ℕ) → index < MOST_OBJECTS
         → slice_get result index ≡ Some (place_of (slice_get loads.now index)) }
 {
-    array::from_fn(
-        |index| -> Place
-            ensures { result ≡ place_of (slice_get loads.now index) }
-        { place_at(loads, index) },
-    )
+    array::from_fn(|index| place_at(loads, index))
 }
 
 // The image of the object at an index; no bytes if there is none.
@@ -165,9 +155,5 @@ pub(crate) fn images_of<'a>(loads: &[LoadObject<'a>]) -> [&'a [u8]; MOST_OBJECTS
     ensures each { (index : ℕ) → index < MOST_OBJECTS
         → IsSomeAnd (slice_get result index) (IsImageOf (slice_get loads.now index)) }
 {
-    array::from_fn(
-        |index| -> &'a [u8]
-            ensures { IsImageOf (slice_get loads.now index) result }
-        { image_at(loads, index) },
-    )
+    array::from_fn(|index| image_at(loads, index))
 }

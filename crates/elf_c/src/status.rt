@@ -33,8 +33,6 @@ pub enum Refusal {
     NoRecord,
     /// Nothing has this name.
     NotFound,
-    /// There are more objects than a call takes.
-    ManyObjects,
 }
 
 impl From<ElfError> for Refusal {
@@ -130,7 +128,6 @@ impl Numbered for Refusal {
             Refusal::OtherData => 201,
             Refusal::NoRecord => 202,
             Refusal::NotFound => 203,
-            Refusal::ManyObjects => 204,
         }
     }
 }
