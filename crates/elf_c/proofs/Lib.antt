@@ -19,3 +19,4 @@ pub mod AddressIndexes
 pub mod LoadPlans
 pub mod ListedPieces
 pub mod LoadObjects
+pub mod LoadImages

@@ -1,36 +1,39 @@
 -- The objects of files, their places and their images, in a slice of an array.
-use Rattle.std.proofs.Common.{◌≡◌, ◌<◌, ◌≤◌, ℕ, zero, suc, List, [], ◌∷◌, get_or, length, take, Option, None, Some, Result, Ok, Err, refl, sym, ap, subst, ◌∙◌, arith}
+use Rattle.std.proofs.Common.{◌≡◌, ◌≢◌, ◌<◌, ◌≤◌, ◌+◌, ℕ, zero, suc, ◌⊎◌, ⊎_elim, inl, inr, List, [], ◌∷◌, get_or, length, take, Option, None, Some, Result, Ok, Err, refl, sym, ap, subst, ◌∙◌, arith}
 use Rattle.std.specs.Borrow.{Bor}
-use Rattle.std.specs.Prelude.{IfSome, IsSomeAnd, MatchResult, slice_get}
-use Rattle.std.proofs.lemmas.List.{length-take-le}
-use Rattle.std.proofs.lemmas.Option.{slice_get_within}
+use Rattle.std.specs.Fn.{Called, Mut}
+use Rattle.std.specs.List.{IsAmong}
+use Rattle.std.specs.Prelude.{IfErr, IfOk, IsSomeAnd, MatchResult, replicate, slice_get, slice_set}
+use Rattle.std.proofs.lemmas.Bool.{cases_order}
+use Rattle.std.proofs.lemmas.List.{length-replicate, length-set, length-take-le}
+use Rattle.std.proofs.lemmas.Option.{get_or_from_slice_get, slice_get_read, slice_get_within}
 use Rattle.elf_base.specs.FileHeader.{header_of}
 use Rattle.elf_linking.specs.DynamicObject.{IsReachedObject, IsReachedRefused}
 use Rattle.elf_linking.specs.declared.error.LinkError.{LinkError}
 use Rattle.elf_linking.specs.declared.object.DynamicObject.{DynamicObject}
 use Rattle.elf_loading.specs.declared.relocate.Place.{Place}
 use Rattle.xmas_elf.specs.declared.ElfFile.{ElfFile}
-use Rattle.elf_c.specs.LoadObjects.{AreImagesOf, AreObjectsOf, ArePlacesOf, IsImageOf, IsObjectAt, IsObjectOfBytes, IsOneFile, IsOneRefused, IsRefusedAsObject, no_object, place_of}
+use Rattle.elf_c.proofs.Batches.{put_elsewhere, put_there}
+use Rattle.elf_c.specs.LoadObjects.{AreImagesOf, AreObjectsOf, ArePadded, ArePlacesOf, IsObjectOfBytes, IsOneRefused, IsRefusedAsObject, no_object, place_of}
 use Rattle.elf_c.specs.declared.load_objects.LoadObject.{LoadObject}
+use Rattle.elf_c.specs.declared.load_objects.TheConstants.{MOST_OBJECTS}
 
 -- what is read of a file is read of its bytes
 pub object_or_refused : {E : Type 0} {r : _} (class size : ℕ) (bytes : List ℕ) (file : ElfFile) (result : Result (DynamicObject E r) LinkError) → file.input.now ≡ bytes → header_of bytes ≡ Ok file.header → MatchResult result (IsReachedObject class size file) (IsReachedRefused class size file) → MatchResult result (IsObjectOfBytes class size bytes) (IsRefusedAsObject class size bytes)
 object_or_refused class size bytes file (Ok object) input header is = record { file = file; bytes_are = input; header_is = header; object_is = is }
 object_or_refused class size bytes file (Err error) input header is = no_object file error input header is
 
--- the object of the bytes of a file is that of the file at an index, or that of one file is refused
-pub object_at_or_refused : {C E : Type 0} {r : _} (class size : ℕ) (loads : List LoadObject) (index : ℕ) (file : Bor (List ℕ)) (result : Result (DynamicObject E r) LinkError) → IfSome (slice_get loads index) (λ load. file ≡ load.file) → (C → IsOneFile loads file) → MatchResult result (IsObjectOfBytes class size file.now) (IsRefusedAsObject class size file.now) → MatchResult result (IsObjectAt class size loads index) (λ error. C → IsOneRefused class size loads error)
-object_at_or_refused class size loads index file (Ok object) own one is = go (slice_get loads index) own
-  where
-    go : (found : Option LoadObject) → IfSome found (λ load. file ≡ load.file) → IfSome found (λ load. IsObjectOfBytes class size load.file.now object)
-    go None none = tt
-    go (Some load) same = subst (λ (lent : Bor (List ℕ)). IsObjectOfBytes class size lent.now object) same is
-object_at_or_refused class size loads index file (Err error) own one is = λ holds. record {
-  index = (one holds).index;
-  load = (one holds).load;
-  load_is = (one holds).load_is;
-  why = subst (λ (lent : Bor (List ℕ)). IsRefusedAsObject class size lent.now error) (one holds).file_is is;
-}
+-- what holds of each call holds of one
+pub by_call : {F A R : Type 0} (g : Mut F A R) (P : A → R → Type 0) → ((a : A) (r : R) (f f' : F) → Called g f a r f' → P a r) → (a : A) (r : R) → ((f : F) × (f' : F) × Called g f a r f') → P a r
+by_call g P each a r called = each a r called.0 called.1 called.2
+
+pub if_ok : {A B : Type 0} (P Q : A → Type 0) → ((x : A) → P x → Q x) → (result : Result A B) → IfOk result P → IfOk result Q
+if_ok P Q each (Ok x) holds = each x holds
+if_ok P Q each (Err e) holds = tt
+
+pub if_err : {A B : Type 0} (P Q : B → Type 0) → ((e : B) → P e → Q e) → (result : Result A B) → IfErr result P → IfErr result Q
+if_err P Q each (Ok x) holds = tt
+if_err P Q each (Err e) holds = each e holds
 
 -- an item of a list that is long enough, by what is said of it with any other in its place where there is none
 pub some_at : {T : Type 0} (P : T → Type 0) (xs : List T) (i : ℕ) → i < length xs → ((other : T) → P (get_or xs i other)) → IsSomeAnd (slice_get xs i) P
@@ -38,40 +41,93 @@ some_at P [] i below at = absurd (omega (arith, below))
 some_at P (x ∷ xs) zero below at = at x
 some_at P (x ∷ xs) (suc i) below at = some_at P xs i (omega (arith, below)) at
 
+some_same : {T : Type 0} (x y : T) → Some x ≡ Some y → x ≡ y
+some_same x y is = cc
+
+pub some_is : {T : Type 0} (found : Option T) (x : T) → IsSomeAnd found (λ y. y ≡ x) → found ≡ Some x
+some_is None x is = absurd is
+some_is (Some y) x is = ap (λ z. Some z) is
+
 take_get : {T : Type 0} (xs : List T) (n i : ℕ) → i < n → slice_get (take n xs) i ≡ slice_get xs i
 take_get xs zero i below = absurd (omega (arith, below))
 take_get [] (suc n) i below = refl
 take_get (x ∷ xs) (suc n) zero below = refl
 take_get (x ∷ xs) (suc n) (suc i) below = take_get xs n i (omega (arith, below))
 
-module _ (loads : List LoadObject) (most : ℕ) (fit : length loads ≤ most) where
-  pub objects_are : {E : Type 0} {r : _} (class size : ℕ) (all : List (DynamicObject E r)) → length all ≡ most → ((index : ℕ) → index < most → IsSomeAnd (slice_get all index) (IsObjectAt class size loads index)) → AreObjectsOf class size loads (take (length loads) all)
-  objects_are class size all long at = record {
-    same_count = length-take-le (length loads) all (omega (arith, fit, long));
-    each = λ index load is.
-        let below : index < length loads = slice_get_within loads index load is in
-        subst (λ found. IsSomeAnd found (IsObjectOfBytes class size load.file.now)) (sym (take_get all (length loads) index below))
-        (subst (λ found. IsSomeAnd (slice_get all index) (λ object. IfSome found (λ (one : LoadObject). IsObjectOfBytes class size one.file.now object))) is
-        (at index (omega (arith, below, fit))));
+repeated : {T : Type 0} (n i : ℕ) (x y : T) → slice_get (replicate n x) i ≡ Some y → x ≡ y
+repeated zero i x y is = absurd (cc)
+repeated (suc n) zero x y is = some_same x y is
+repeated (suc n) (suc i) x y is = repeated n i x y is
+
+-- the first one in each place
+pub padded_none : (loads : List LoadObject) (first : LoadObject) → slice_get loads 0 ≡ Some first → ArePadded loads (replicate MOST_OBJECTS first) 0
+padded_none loads first is = record {
+  long = length-replicate MOST_OBJECTS first;
+  own = λ index below. absurd (omega (arith, below));
+  one = λ index load there. (0, is ∙ ap (λ x. Some x) (repeated MOST_OBJECTS index first load there));
+}
+
+-- one more in its place
+pub padded_more : (loads all : List LoadObject) (place : ℕ) (load : LoadObject) → place < length all → slice_get loads place ≡ Some load → ArePadded loads all place → ArePadded loads (slice_set all place load) (place + 1)
+padded_more loads all place load below is padded = record {
+  long = length-set all place load ∙ padded.long;
+  own = λ index here. own index (order index here);
+  one = λ index other there. one index other there (cases_order index place);
+}
+  where
+    order : (index : ℕ) → index < place + 1 → (index < place) ⊎ (index ≡ place)
+    order index here = ⊎_elim (λ same. inr same) (λ apart. ⊎_elim (λ before. inl before) (λ behind. absurd (omega (arith, here, behind))) apart) (cases_order index place)
+
+    own : (index : ℕ) → ((index < place) ⊎ (index ≡ place)) → slice_get (slice_set all place load) index ≡ slice_get loads index
+    own index (inl before) = put_elsewhere all place index load (λ same. absurd (omega (arith, before, same))) ∙ padded.own index before
+    own index (inr same) = ap (λ i. slice_get (slice_set all place load) i) same ∙ put_there all place load below ∙ sym is ∙ ap (λ i. slice_get loads i) (sym same)
+
+    away : (index : ℕ) (other : LoadObject) → index ≢ place → slice_get (slice_set all place load) index ≡ Some other → (from : ℕ) × (slice_get loads from ≡ Some other)
+    away index other apart there = padded.one index other (sym (put_elsewhere all place index load apart) ∙ there)
+
+    one : (index : ℕ) (other : LoadObject) → slice_get (slice_set all place load) index ≡ Some other → ((index ≡ place) ⊎ ((index < place) ⊎ (place < index))) → (from : ℕ) × (slice_get loads from ≡ Some other)
+    one index other there (inl same) = (place, is ∙ sym (put_there all place load below) ∙ ap (λ i. slice_get (slice_set all place load) i) (sym same) ∙ there)
+    one index other there (inr (inl before)) = away index other (λ same. absurd (omega (arith, before, same))) there
+    one index other there (inr (inr behind)) = away index other (λ same. absurd (omega (arith, behind, same))) there
+
+-- What is made of each of all, one by one, is made of each of these.
+module _ (loads all : List LoadObject) (fit : length loads ≤ MOST_OBJECTS) (padded : ArePadded loads all (length loads)) where
+  -- what holds of the item that was made of an object
+  made : {T : Type 0} (P : LoadObject → T → Type 0) (results : List T) → length results ≡ MOST_OBJECTS → ((i : ℕ) (d : LoadObject) (e : T) → i < MOST_OBJECTS → P (get_or all i d) (get_or results i e))
+      → (index : ℕ) (load : LoadObject) → slice_get loads index ≡ Some load → IsSomeAnd (slice_get (take (length loads) results) index) (P load)
+  made P results long at index load is =
+      let below : index < length loads = slice_get_within loads index load is in
+      let within : index < MOST_OBJECTS = omega (arith, below, fit) in
+      let same : get_or all index load ≡ load = get_or_from_slice_get all index load load (padded.own index below ∙ is) in
+      subst (λ found. IsSomeAnd found (P load)) (sym (take_get results (length loads) index below))
+      (some_at (P load) results index (omega (arith, within, long))
+      (λ other. subst (λ x. P x (get_or results index other)) same (at index load other within)))
+
+  counted : {T : Type 0} (results : List T) → length results ≡ MOST_OBJECTS → length (take (length loads) results) ≡ length loads
+  counted results long = length-take-le (length loads) results (omega (arith, fit, long))
+
+  pub objects_are : {E : Type 0} {r : _} (class size : ℕ) (objects : List (DynamicObject E r)) → length objects ≡ MOST_OBJECTS → ((i : ℕ) (d : LoadObject) (e : DynamicObject E r) → i < MOST_OBJECTS → IsObjectOfBytes class size (get_or all i d).file.now (get_or objects i e)) → AreObjectsOf class size loads (take (length loads) objects)
+  objects_are class size objects long at = record {
+    same_count = counted objects long;
+    each = made (λ load object. IsObjectOfBytes class size load.file.now object) objects long at;
   }
 
-  pub places_are : (all : List Place) → length all ≡ most → ((index : ℕ) → index < most → slice_get all index ≡ Some (place_of (slice_get loads index))) → ArePlacesOf loads (take (length loads) all)
-  places_are all long at = record {
-    same_count = length-take-le (length loads) all (omega (arith, fit, long));
-    each = λ index load is.
-        let below : index < length loads = slice_get_within loads index load is in
-        take_get all (length loads) index below ∙ at index (omega (arith, below, fit)) ∙ ap (λ found. Some (place_of found)) is;
+  pub places_are : (places : List Place) → length places ≡ MOST_OBJECTS → ((i : ℕ) (d : LoadObject) (e : Place) → i < MOST_OBJECTS → get_or places i e ≡ place_of (get_or all i d)) → ArePlacesOf loads (take (length loads) places)
+  places_are places long at = record {
+    same_count = counted places long;
+    each = λ index load is. some_is (slice_get (take (length loads) places) index) (place_of load) (made (λ one place. place ≡ place_of one) places long at index load is);
   }
 
-  own_image : (found : Option (Bor (List ℕ))) (load : LoadObject) → IsSomeAnd found (IsImageOf (Some load)) → found ≡ Some load.image
-  own_image None load is = absurd is
-  own_image (Some image) load is = ap (λ lent. Some lent) is
-
-  pub images_are : (all : List (Bor (List ℕ))) → length all ≡ most → ((index : ℕ) → index < most → IsSomeAnd (slice_get all index) (IsImageOf (slice_get loads index))) → AreImagesOf loads (take (length loads) all)
-  images_are all long at = record {
-    same_count = length-take-le (length loads) all (omega (arith, fit, long));
-    each = λ index load is.
-        let below : index < length loads = slice_get_within loads index load is in
-        take_get all (length loads) index below ∙ own_image (slice_get all index) load
-        (subst (λ found. IsSomeAnd (slice_get all index) (IsImageOf found)) is (at index (omega (arith, below, fit))));
+  pub images_are : (images : List (Bor (List ℕ))) → length images ≡ MOST_OBJECTS → ((i : ℕ) (d : LoadObject) (e : Bor (List ℕ)) → i < MOST_OBJECTS → get_or images i e ≡ (get_or all i d).image) → AreImagesOf loads (take (length loads) images)
+  images_are images long at = record {
+    same_count = counted images long;
+    each = λ index load is. some_is (slice_get (take (length loads) images) index) load.image (made (λ one image. image ≡ one.image) images long at index load is);
   }
+
+  -- why one of all is no object, is why one of these is none
+  one_refused : (class size : ℕ) (error : LinkError) (load : LoadObject) (index : ℕ) → slice_get all index ≡ Some load → IsRefusedAsObject class size load.file.now error → IsOneRefused class size loads error
+  one_refused class size error load index there why = let from = padded.one index load there in
+      record { index = from.0; load = load; load_is = from.1; why = why }
+
+  pub among_refused : (class size : ℕ) (error : LinkError) (load : LoadObject) → IsAmong all load → IsRefusedAsObject class size load.file.now error → IsOneRefused class size loads error
+  among_refused class size error load (i, below, is) why = one_refused class size error load i (slice_get_read all (length all) i load refl below is) why

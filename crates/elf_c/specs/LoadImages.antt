@@ -1,7 +1,8 @@
 -- The images of objects, and their relocation, by the files of the objects (this project's own).
-use Rattle.std.specs.Prelude.{◌≡◌, ℕ, ◌+◌, ◌-◌, ◌==◌, List, length, IfOk, Result, Ok, Err, if◌then◌else◌, ⊤}
+use Rattle.std.specs.Prelude.{◌≡◌, ℕ, ◌+◌, ◌-◌, ◌==◌, ◌<◌, ◌≤◌, true, false, List, length, IfOk, Result, Ok, Err, if◌then◌else◌}
 use Rattle.std.specs.Borrow.{Bor}
 use Rattle.elf_linking.specs.declared.error.LinkError.{LinkError}
+use Rattle.elf_linking.specs.declared.error.LinkError.TheVariants.{ObjectIndex}
 use Rattle.elf_linking.specs.declared.object.DynamicObject.{DynamicObject}
 use Rattle.elf_loading.specs.Bytes.{byte_number, byte_of}
 use Rattle.elf_loading.specs.FileCheck.{check_file}
@@ -17,9 +18,10 @@ use Rattle.elf_loading.specs.declared.relocate.Place.{Place}
 use Rattle.elf_loading.specs.declared.words.Binding.{Binding}
 use Rattle.xmas_elf.specs.Symbol.{SymbolFields, dyn_entry_32_fields, dyn_entry_64_fields}
 use Rattle.xmas_elf.specs.Types.{DynEntry32, DynEntry64, ElfFile}
-use Rattle.elf_c.specs.LoadObjects.{AreImagesOf, AreObjectsOf, ArePlacesOf, ByClass, IsOneRefused, as_refusal}
+use Rattle.elf_c.specs.LoadObjects.{AreImagesOf, AreObjectsOf, ArePlacesOf, IsOneRefused, as_refusal, is_first_narrow}
 use Rattle.elf_c.specs.LoadPlans.{if_checked}
 use Rattle.elf_c.specs.declared.load_objects.LoadObject.{LoadObject}
+use Rattle.elf_c.specs.declared.load_objects.TheConstants.{MOST_OBJECTS}
 use Rattle.elf_c.specs.declared.status.Refusal.{Refusal}
 use Rattle.elf_c.specs.declared.status.Refusal.TheVariants.{Link, Load}
 
@@ -40,14 +42,20 @@ pub data ChecksAs {E : Type 0} (r : _) (class size : ℕ) (fields : E → Symbol
   checked : (objects : List (DynamicObject E r)) (answer : Result (Unit {0}) LoadError) → AreObjectsOf class size loads objects
       → IsImageCheck size fields objects of bits answer → result ≡ as_refusal answer
       → ChecksAs r class size fields loads of bits result
-  refused : (error : LinkError) → IsOneRefused class size loads error → result ≡ Err (Link error)
+  unchecked : (error : LinkError) → IsOneRefused class size loads error → result ≡ Err (Link error)
       → ChecksAs r class size fields loads of bits result
 
--- the result by the class of the first file; the first two arguments say how the record of a symbol of each class is read
-abbrev pub Checks : (narrow_record wide_record : _) → List LoadObject → ℕ → ℕ → Result (Unit {0}) Refusal → Type 0
-Checks narrow_record wide_record loads of bits = ByClass loads ⊤
-    (ChecksAs {E = DynEntry32} narrow_record 1 16 dyn_entry_32_fields loads of bits)
-    (ChecksAs {E = DynEntry64} wide_record 2 24 dyn_entry_64_fields loads of bits)
+-- the result: without an object, or with more than a call takes, an error; otherwise one by the class of the first file.
+-- The first two arguments say how the record of a symbol of each class is read
+pub data Checks (narrow_record wide_record : _) (loads : List LoadObject) (of bits : ℕ) (result : Result (Unit {0}) Refusal) : Type 0 where
+  checks_none : length loads ≡ 0 → result ≡ Err (Link ObjectIndex) → Checks narrow_record wide_record loads of bits result
+  checks_many : MOST_OBJECTS < length loads → result ≡ Err (Load ImageSize) → Checks narrow_record wide_record loads of bits result
+  checks_narrow : length loads ≤ MOST_OBJECTS → is_first_narrow loads ≡ true
+      → ChecksAs {E = DynEntry32} narrow_record 1 16 dyn_entry_32_fields loads of bits result
+      → Checks narrow_record wide_record loads of bits result
+  checks_wide : 0 < length loads → length loads ≤ MOST_OBJECTS → is_first_narrow loads ≡ false
+      → ChecksAs {E = DynEntry64} wide_record 2 24 dyn_entry_64_fields loads of bits result
+      → Checks narrow_record wide_record loads of bits result
 
 -- The relocation of an image.
 
@@ -58,11 +66,18 @@ pub data RelocatesAs {E : Type 0} (r : _) (class size : ℕ) (fields : E → Sym
       → AreImagesOf loads images.now → IsRelocationIn fields objects of when page places images before after answer
       → IfOk answer (λ count. IsByOneWordIn size fields objects of when page places images before after)
       → result ≡ as_refusal answer → RelocatesAs r class size fields loads of when page before after result
-  refused : (error : LinkError) → IsOneRefused class size loads error → result ≡ Err (Link error) → after ≡ before
+  unrelocated : (error : LinkError) → IsOneRefused class size loads error → result ≡ Err (Link error) → after ≡ before
       → RelocatesAs r class size fields loads of when page before after result
 
--- the result by the class of the first file
-abbrev pub Relocates : (narrow_record wide_record : _) → List LoadObject → ℕ → Binding → ℕ → List ℕ → List ℕ → Result ℕ Refusal → Type 0
-Relocates narrow_record wide_record loads of when page before after = ByClass loads (after ≡ before)
-    (RelocatesAs {E = DynEntry32} narrow_record 1 16 dyn_entry_32_fields loads of when page before after)
-    (RelocatesAs {E = DynEntry64} wide_record 2 24 dyn_entry_64_fields loads of when page before after)
+-- the result: without an object, or with more than a call takes, an error; otherwise one by the class of the first file
+pub data Relocates (narrow_record wide_record : _) (loads : List LoadObject) (of : ℕ) (when : Binding) (page : ℕ) (before after : List ℕ) (result : Result ℕ Refusal) : Type 0 where
+  relocates_none : length loads ≡ 0 → result ≡ Err (Link ObjectIndex) → after ≡ before
+      → Relocates narrow_record wide_record loads of when page before after result
+  relocates_many : MOST_OBJECTS < length loads → result ≡ Err (Load ImageSize) → after ≡ before
+      → Relocates narrow_record wide_record loads of when page before after result
+  relocates_narrow : length loads ≤ MOST_OBJECTS → is_first_narrow loads ≡ true
+      → RelocatesAs {E = DynEntry32} narrow_record 1 16 dyn_entry_32_fields loads of when page before after result
+      → Relocates narrow_record wide_record loads of when page before after result
+  relocates_wide : 0 < length loads → length loads ≤ MOST_OBJECTS → is_first_narrow loads ≡ false
+      → RelocatesAs {E = DynEntry64} wide_record 2 24 dyn_entry_64_fields loads of when page before after result
+      → Relocates narrow_record wide_record loads of when page before after result

@@ -1,14 +1,13 @@
 -- The objects of a process: a program and its libraries, in the order in which they are loaded (this project's own).
-use Rattle.std.specs.Prelude.{◌≡◌, ℕ, ◌==◌, Bool, false, List, length, slice_get, IfSome, IsSomeAnd, Option, Some, None, Result, Ok, Err, nat_lt, if◌then◌else◌, ⊤}
+use Rattle.std.specs.Prelude.{◌≡◌, ℕ, ◌==◌, ◌<◌, Bool, false, List, length, slice_get, IsSomeAnd, Option, Some, None, Result, Ok, Err, if◌then◌else◌}
 use Rattle.std.specs.Borrow.{Bor}
 use Rattle.elf_base.specs.FileHeader.{file_class, header_of}
 use Rattle.elf_base.specs.declared.error.ElfError.{ElfError}
 use Rattle.elf_linking.specs.DynamicObject.{IsReachedObject, IsReachedRefused}
 use Rattle.elf_linking.specs.declared.error.LinkError.{LinkError}
-use Rattle.elf_linking.specs.declared.error.LinkError.TheVariants.{Elf, ObjectIndex}
+use Rattle.elf_linking.specs.declared.error.LinkError.TheVariants.{Elf}
 use Rattle.elf_linking.specs.declared.object.DynamicObject.{DynamicObject}
 use Rattle.elf_loading.specs.declared.error.LoadError.{LoadError}
-use Rattle.elf_loading.specs.declared.error.LoadError.TheVariants.{ImageSize}
 use Rattle.elf_loading.specs.declared.relocate.Place.{Place}
 use Rattle.elf_loading.specs.declared.words.Binding.{Binding}
 use Rattle.elf_loading.specs.declared.words.Binding.TheVariants.{Lazy, Now}
@@ -17,7 +16,7 @@ use Rattle.xmas_elf.specs.declared.ElfFile.{ElfFile}
 use Rattle.elf_c.specs.declared.load_objects.LoadObject.{LoadObject}
 use Rattle.elf_c.specs.declared.load_objects.TheConstants.{MOST_OBJECTS}
 use Rattle.elf_c.specs.declared.status.Refusal.{Refusal}
-use Rattle.elf_c.specs.declared.status.Refusal.TheVariants.{Link, Load}
+use Rattle.elf_c.specs.declared.status.Refusal.TheVariants.{Load}
 
 -- a header is of class 32
 abbrev pub is_narrow_header : Result Header ElfError → Bool
@@ -46,23 +45,18 @@ pub data IsRefusedAsObject (class size : ℕ) (bytes : List ℕ) : LinkError →
   no_object : (file : ElfFile) (error : LinkError) → file.input.now ≡ bytes → header_of bytes ≡ Ok file.header
       → IsReachedRefused class size file error → IsRefusedAsObject class size bytes error
 
--- the object is that of the file at an index, if there is one
-abbrev pub IsObjectAt : {E : Type 0} → {r : _} → ℕ → ℕ → List LoadObject → ℕ → DynamicObject E r → Type 0
-IsObjectAt class size loads index object =
-    IfSome (slice_get loads index) (λ load. IsObjectOfBytes class size load.file.now object)
+-- the first `count` of all are these, and each of all is one of these
+pub record ArePadded (loads all : List LoadObject) (count : ℕ) : Type 0 where
+  pub long : length all ≡ MOST_OBJECTS
+  pub own : (index : ℕ) → index < count → slice_get all index ≡ slice_get loads index
+  pub one : (index : ℕ) (load : LoadObject) → slice_get all index ≡ Some load
+      → (place : ℕ) × (slice_get loads place ≡ Some load)
 
 -- the objects are those of the files, in order
 pub record AreObjectsOf {E : Type 0} {r : _} (class size : ℕ) (loads : List LoadObject) (objects : List (DynamicObject E r)) : Type 0 where
   pub same_count : length objects ≡ length loads
   pub each : (index : ℕ) (load : LoadObject) → slice_get loads index ≡ Some load
       → IsSomeAnd (slice_get objects index) (IsObjectOfBytes class size load.file.now)
-
--- bytes are those of one of the files
-pub record IsOneFile (loads : List LoadObject) (file : Bor (List ℕ)) : Type 0 where
-  pub index : ℕ
-  pub load : LoadObject
-  pub load_is : slice_get loads index ≡ Some load
-  pub file_is : file ≡ load.file
 
 -- one of the files is none of an object of this class, and why
 pub record IsOneRefused (class size : ℕ) (loads : List LoadObject) (error : LinkError) : Type 0 where
@@ -71,21 +65,15 @@ pub record IsOneRefused (class size : ℕ) (loads : List LoadObject) (error : Li
   pub load_is : slice_get loads index ≡ Some load
   pub why : IsRefusedAsObject class size load.file.now error
 
--- where an object is loaded; zeros if there is none
-abbrev pub place_of : Option LoadObject → Place
-place_of None = record { base = 0; «module» = 0; thread = 0 }
-place_of (Some load) = record { base = load.base; «module» = load.«module»; thread = load.thread }
+-- where an object is loaded
+abbrev pub place_of : LoadObject → Place
+place_of load = record { base = load.base; «module» = load.«module»; thread = load.thread }
 
 -- the places are those of the objects, in order
 pub record ArePlacesOf (loads : List LoadObject) (places : List Place) : Type 0 where
   pub same_count : length places ≡ length loads
   pub each : (index : ℕ) (load : LoadObject) → slice_get loads index ≡ Some load
-      → slice_get places index ≡ Some (place_of (Some load))
-
--- bytes are the image of an object, if there is one
-abbrev pub IsImageOf : Option LoadObject → Bor (List ℕ) → Type 0
-IsImageOf None image = ⊤
-IsImageOf (Some load) image = image ≡ load.image
+      → slice_get places index ≡ Some (place_of load)
 
 -- the images are those of the objects, in order
 pub record AreImagesOf (loads : List LoadObject) (images : List (Bor (List ℕ))) : Type 0 where
@@ -101,10 +89,3 @@ when_of lazy = if lazy == 1 then Lazy else Now
 abbrev pub as_refusal : {A : Type 0} → Result A LoadError → Result A Refusal
 as_refusal (Ok value) = Ok value
 as_refusal (Err error) = Err (Load error)
-
--- a result for the objects of some files: without an object, or with more than a call takes, an error, and what is the
--- same then; otherwise one by the class of the first file
-abbrev pub ByClass : {A : Type 0} → List LoadObject → Type 0 → (Result A Refusal → Type 0) → (Result A Refusal → Type 0) → Result A Refusal → Type 0
-ByClass loads Same Narrow Wide result = if length loads == 0 then (result ≡ Err (Link ObjectIndex)) × Same
-    else (if nat_lt MOST_OBJECTS (length loads) then (result ≡ Err (Load ImageSize)) × Same
-    else (if is_first_narrow loads then Narrow result else Wide result))

@@ -123,11 +123,7 @@ fn check(loads: &[LoadObject<'_>], of: usize, marks: &mut [u8]) -> Result<(), Re
 /// Errors: `ImageSize` if there are more than 64 objects; those of `DynamicObject::read_reached` for
 /// one of the files; those of the check.
 #[unsafe(no_mangle)]
-pub extern "C" fn xmas_elf_check_image(
-    objects: &[LoadObject<'_>],
-    of: u64,
-    marks: &mut [u8],
-) -> u32
+pub extern "C" fn xmas_elf_check_image(objects: &[LoadObject<'_>], of: u64, marks: &mut [u8]) -> u32
     ensures { (answer : Result (Unit {0}) Refusal)
         × Checks ⟦<DynEntry32 as Record>⟧ ⟦<DynEntry64 as Record>⟧ objects.now of
         (8 * length marks.old) answer × GivesHere answer tt result tt }

@@ -1,16 +1,14 @@
 //! The objects of a process: the program and its libraries, with their files, and where they are loaded.
 
-ghost use Rattle.std.specs.Prelude.{◌≡◌, ◌<◌, ℕ, IfErr, IfOk, IfSome, IsSomeAnd, MatchResult, Some};
-ghost use Rattle.std.specs.Prelude.{length, slice_get};
+ghost use Rattle.std.specs.Prelude.{◌≡◌, ◌<◌, ◌≤◌, IfErr, IfOk, MatchResult, length, take};
 ghost use Rattle.elf_base.specs.FileHeader.{header_of};
-ghost use Rattle.elf_c.specs.LoadObjects.{IsImageOf, IsObjectAt, IsObjectOfBytes, IsOneFile};
-ghost use Rattle.elf_c.specs.LoadObjects.{IsOneRefused, IsRefusedAsObject, is_first_narrow};
-ghost use Rattle.elf_c.specs.LoadObjects.{is_narrow_header, place_of, when_of};
+ghost use Rattle.elf_c.specs.LoadObjects.{AreImagesOf, AreObjectsOf, ArePadded, ArePlacesOf};
+ghost use Rattle.elf_c.specs.LoadObjects.{IsObjectOfBytes, IsOneRefused, IsRefusedAsObject};
+ghost use Rattle.elf_c.specs.LoadObjects.{is_first_narrow, is_narrow_header, place_of, when_of};
 
 use elf_linking::view::LinkedSymbol;
 use elf_linking::{DynamicObject, LinkError};
 use elf_loading::{Binding, Place};
-use std::array;
 use xmas_elf::ElfFile;
 
 /// The most objects that a call takes.
@@ -75,85 +73,57 @@ fn read_object<'a, E: LinkedSymbol>(bytes: &'a [u8]) -> Result<DynamicObject<'a,
     }
 }
 
-// The bytes of the file at an index, or others if there is none.
-fn file_at<'a>(loads: &[LoadObject<'a>], others: &'a [u8], index: usize) -> &'a [u8]
-    ensures own { IfSome (slice_get loads.now index) (λ load. result ≡ load.file) }
-    ensures one { IsOneFile loads.now others.entry → IsOneFile loads.now result }
+// The objects in a room for the most; after them the first one again.
+fn padded<'a>(loads: &[LoadObject<'a>]) -> [LoadObject<'a>; MOST_OBJECTS]
+    requires some { 0 < length loads.now }
+    requires fit { length loads.now ≤ MOST_OBJECTS }
+    ensures { ArePadded loads.now result (length loads.now) }
 {
-    match loads.get(index) {
-        Some(load) => load.file,
-        None => others,
+    let mut all = [loads[0]; MOST_OBJECTS];
+    for index in 0..loads.len() {
+        all[index] = loads[index];
     }
-}
-
-// The object of the file at an index, or of other bytes if there is none.
-fn object_at<'a, E: LinkedSymbol>(
-    loads: &[LoadObject<'a>],
-    others: &'a [u8],
-    index: usize,
-) -> Result<DynamicObject<'a, E>, LinkError>
-    ensures { MatchResult result (IsObjectAt E.CLASS E.SIZE loads.now index)
-        (λ error. IsOneFile loads.now others.entry → IsOneRefused E.CLASS E.SIZE loads.now error) }
-{
-    read_object(file_at(loads, others, index))
+    all
 }
 
 // The objects of the files in their order; after them the object of the first file again.
 pub(crate) fn objects_of<'a, E: LinkedSymbol>(
     loads: &[LoadObject<'a>],
 ) -> Result<[DynamicObject<'a, E>; MOST_OBJECTS], LinkError>
-    requires { 0 < length loads.now }
-    ensures objects { IfOk result (λ objects. (length objects ≡ MOST_OBJECTS) × ((index : ℕ)
-        → index < MOST_OBJECTS → IsSomeAnd (slice_get objects index)
-        (IsObjectAt E.CLASS E.SIZE loads.now index))) }
+    requires some { 0 < length loads.now }
+    requires fit { length loads.now ≤ MOST_OBJECTS }
+    ensures objects { IfOk result (λ objects. AreObjectsOf E.CLASS E.SIZE loads.now
+        (take (length loads.now) objects)) }
     ensures refused { IfErr result (IsOneRefused E.CLASS E.SIZE loads.now) }
 {
-    let first = loads[0].file;
-    array::try_from_fn(|index| object_at(loads, first, index))
+    padded(loads).try_map(|load| read_object(load.file))
 }
 
-// The place of the object at an index; zeros if there is none.
-fn place_at(loads: &[LoadObject<'_>], index: usize) -> Place
-    ensures { result ≡ place_of (slice_get loads.now index) }
+// The place of an object.
+fn place_of(load: LoadObject<'_>) -> Place
+    ensures { result ≡ place_of load.entry }
 {
-    match loads.get(index) {
-        Some(load) => Place {
-            base: load.base,
-            module: load.module,
-            thread: load.thread,
-        },
-        None => Place {
-            base: 0,
-            module: 0,
-            thread: 0,
-        },
+    Place {
+        base: load.base,
+        module: load.module,
+        thread: load.thread,
     }
 }
 
-// The places of the objects; after them zeros.
+// The places of the objects in their order; after them that of the first one again.
 pub(crate) fn places_of(loads: &[LoadObject<'_>]) -> [Place; MOST_OBJECTS]
-    ensures long { length result ≡ MOST_OBJECTS }
-    ensures each { (index : ℕ) → index < MOST_OBJECTS
-        → slice_get result index ≡ Some (place_of (slice_get loads.now index)) }
+    requires some { 0 < length loads.now }
+    requires fit { length loads.now ≤ MOST_OBJECTS }
+    ensures { ArePlacesOf loads.now (take (length loads.now) result) }
 {
-    array::from_fn(|index| place_at(loads, index))
+    padded(loads).map(|load| place_of(load))
 }
 
-// The image of the object at an index; no bytes if there is none.
-fn image_at<'a>(loads: &[LoadObject<'a>], index: usize) -> &'a [u8]
-    ensures { IsImageOf (slice_get loads.now index) result }
-{
-    match loads.get(index) {
-        Some(load) => load.image,
-        None => &[],
-    }
-}
-
-// The images of the objects; after them no bytes.
+// The images of the objects in their order; after them that of the first one again.
 pub(crate) fn images_of<'a>(loads: &[LoadObject<'a>]) -> [&'a [u8]; MOST_OBJECTS]
-    ensures long { length result ≡ MOST_OBJECTS }
-    ensures each { (index : ℕ) → index < MOST_OBJECTS
-        → IsSomeAnd (slice_get result index) (IsImageOf (slice_get loads.now index)) }
+    requires some { 0 < length loads.now }
+    requires fit { length loads.now ≤ MOST_OBJECTS }
+    ensures { AreImagesOf loads.now (take (length loads.now) result) }
 {
-    array::from_fn(|index| image_at(loads, index))
+    padded(loads).map(|load| load.image)
 }
