@@ -3,7 +3,7 @@ use Rattle.std.proofs.Common.{◌≡◌, ◌≢◌, ◌<◌, ◌≤◌, ◌+◌,
 use Rattle.std.specs.Borrow.{Bor}
 use Rattle.std.specs.Fn.{Called, Mut}
 use Rattle.std.specs.List.{IsAmong}
-use Rattle.std.specs.Prelude.{IfErr, IfOk, IsSomeAnd, MatchResult, replicate, slice_get, slice_set}
+use Rattle.std.specs.Prelude.{IsSomeAnd, MatchResult, replicate, slice_get, slice_set}
 use Rattle.std.proofs.lemmas.Bool.{cases_order}
 use Rattle.std.proofs.lemmas.List.{length-replicate, length-set, length-take-le}
 use Rattle.std.proofs.lemmas.Option.{get_or_from_slice_get, slice_get_read, slice_get_within}
@@ -22,18 +22,6 @@ use Rattle.elf_c.specs.declared.load_objects.TheConstants.{MOST_OBJECTS}
 pub object_or_refused : {E : Type 0} {r : _} (class size : ℕ) (bytes : List ℕ) (file : ElfFile) (result : Result (DynamicObject E r) LinkError) → file.input.now ≡ bytes → header_of bytes ≡ Ok file.header → MatchResult result (IsReachedObject class size file) (IsReachedRefused class size file) → MatchResult result (IsObjectOfBytes class size bytes) (IsRefusedAsObject class size bytes)
 object_or_refused class size bytes file (Ok object) input header is = record { file = file; bytes_are = input; header_is = header; object_is = is }
 object_or_refused class size bytes file (Err error) input header is = no_object file error input header is
-
--- what holds of each call holds of one
-pub by_call : {F A R : Type 0} (g : Mut F A R) (P : A → R → Type 0) → ((a : A) (r : R) (f f' : F) → Called g f a r f' → P a r) → (a : A) (r : R) → ((f : F) × (f' : F) × Called g f a r f') → P a r
-by_call g P each a r called = each a r called.0 called.1 called.2
-
-pub if_ok : {A B : Type 0} (P Q : A → Type 0) → ((x : A) → P x → Q x) → (result : Result A B) → IfOk result P → IfOk result Q
-if_ok P Q each (Ok x) holds = each x holds
-if_ok P Q each (Err e) holds = tt
-
-pub if_err : {A B : Type 0} (P Q : B → Type 0) → ((e : B) → P e → Q e) → (result : Result A B) → IfErr result P → IfErr result Q
-if_err P Q each (Ok x) holds = tt
-if_err P Q each (Err e) holds = each e holds
 
 -- an item of a list that is long enough, by what is said of it with any other in its place where there is none
 pub some_at : {T : Type 0} (P : T → Type 0) (xs : List T) (i : ℕ) → i < length xs → ((other : T) → P (get_or xs i other)) → IsSomeAnd (slice_get xs i) P
@@ -106,19 +94,19 @@ module _ (loads all : List LoadObject) (fit : length loads ≤ MOST_OBJECTS) (pa
   counted : {T : Type 0} (results : List T) → length results ≡ MOST_OBJECTS → length (take (length loads) results) ≡ length loads
   counted results long = length-take-le (length loads) results (omega (arith, fit, long))
 
-  pub objects_are : {E : Type 0} {r : _} (class size : ℕ) (objects : List (DynamicObject E r)) → length objects ≡ MOST_OBJECTS → ((i : ℕ) (d : LoadObject) (e : DynamicObject E r) → i < MOST_OBJECTS → IsObjectOfBytes class size (get_or all i d).file.now (get_or objects i e)) → AreObjectsOf class size loads (take (length loads) objects)
+  objects_are : {E : Type 0} {r : _} (class size : ℕ) (objects : List (DynamicObject E r)) → length objects ≡ MOST_OBJECTS → ((i : ℕ) (d : LoadObject) (e : DynamicObject E r) → i < MOST_OBJECTS → IsObjectOfBytes class size (get_or all i d).file.now (get_or objects i e)) → AreObjectsOf class size loads (take (length loads) objects)
   objects_are class size objects long at = record {
     same_count = counted objects long;
     each = made (λ load object. IsObjectOfBytes class size load.file.now object) objects long at;
   }
 
-  pub places_are : (places : List Place) → length places ≡ MOST_OBJECTS → ((i : ℕ) (d : LoadObject) (e : Place) → i < MOST_OBJECTS → get_or places i e ≡ place_of (get_or all i d)) → ArePlacesOf loads (take (length loads) places)
+  places_are : (places : List Place) → length places ≡ MOST_OBJECTS → ((i : ℕ) (d : LoadObject) (e : Place) → i < MOST_OBJECTS → get_or places i e ≡ place_of (get_or all i d)) → ArePlacesOf loads (take (length loads) places)
   places_are places long at = record {
     same_count = counted places long;
     each = λ index load is. some_is (slice_get (take (length loads) places) index) (place_of load) (made (λ one place. place ≡ place_of one) places long at index load is);
   }
 
-  pub images_are : (images : List (Bor (List ℕ))) → length images ≡ MOST_OBJECTS → ((i : ℕ) (d : LoadObject) (e : Bor (List ℕ)) → i < MOST_OBJECTS → get_or images i e ≡ (get_or all i d).image) → AreImagesOf loads (take (length loads) images)
+  images_are : (images : List (Bor (List ℕ))) → length images ≡ MOST_OBJECTS → ((i : ℕ) (d : LoadObject) (e : Bor (List ℕ)) → i < MOST_OBJECTS → get_or images i e ≡ (get_or all i d).image) → AreImagesOf loads (take (length loads) images)
   images_are images long at = record {
     same_count = counted images long;
     each = λ index load is. some_is (slice_get (take (length loads) images) index) load.image (made (λ one image. image ≡ one.image) images long at index load is);
@@ -129,5 +117,33 @@ module _ (loads all : List LoadObject) (fit : length loads ≤ MOST_OBJECTS) (pa
   one_refused class size error load index there why = let from = padded.one index load there in
       record { index = from.0; load = load; load_is = from.1; why = why }
 
-  pub among_refused : (class size : ℕ) (error : LinkError) (load : LoadObject) → IsAmong all load → IsRefusedAsObject class size load.file.now error → IsOneRefused class size loads error
+  among_refused : (class size : ℕ) (error : LinkError) (load : LoadObject) → IsAmong all load → IsRefusedAsObject class size load.file.now error → IsOneRefused class size loads error
   among_refused class size error load (i, below, is) why = one_refused class size error load i (slice_get_read all (length all) i load refl below is) why
+
+  -- the same by the calls that made them
+  pub objects_by : {E F : Type 0} {r : _} (g : Mut F (LoadObject × Unit {0}) (Result (DynamicObject E r) LinkError)) (class size : ℕ) (objects : List (DynamicObject E r)) → length objects ≡ MOST_OBJECTS
+      → ((i : ℕ) (d : LoadObject) (e : DynamicObject E r) → i < MOST_OBJECTS → (f : F) × (f' : F) × Called g f (get_or all i d, tt) (Ok (get_or objects i e)) f')
+      → ((a : LoadObject × Unit {0}) (answer : Result (DynamicObject E r) LinkError) (f f' : F) → Called g f a answer f' → MatchResult answer (IsObjectOfBytes class size a.0.file.now) (IsRefusedAsObject class size a.0.file.now))
+      → AreObjectsOf class size loads (take (length loads) objects)
+  objects_by g class size objects long at each = objects_are class size objects long
+      (λ i d e below. let call = at i d e below in each (get_or all i d, tt) (Ok (get_or objects i e)) call.0 call.1 call.2)
+
+  pub refused_by : {E F : Type 0} {r : _} (g : Mut F (LoadObject × Unit {0}) (Result (DynamicObject E r) LinkError)) (class size : ℕ) (error : LinkError)
+      → ((load : LoadObject) × IsAmong all load × (f : F) × (f' : F) × Called g f (load, tt) (Err error) f')
+      → ((a : LoadObject × Unit {0}) (answer : Result (DynamicObject E r) LinkError) (f f' : F) → Called g f a answer f' → MatchResult answer (IsObjectOfBytes class size a.0.file.now) (IsRefusedAsObject class size a.0.file.now))
+      → IsOneRefused class size loads error
+  refused_by g class size error (load, among, f, f', called) each = among_refused class size error load among (each (load, tt) (Err error) f f' called)
+
+  pub places_by : {F : Type 0} (g : Mut F (LoadObject × Unit {0}) Place) (places : List Place) → length places ≡ MOST_OBJECTS
+      → ((i : ℕ) (d : LoadObject) (e : Place) → i < MOST_OBJECTS → (f : F) × (f' : F) × Called g f (get_or all i d, tt) (get_or places i e) f')
+      → ((a : LoadObject × Unit {0}) (place : Place) (f f' : F) → Called g f a place f' → place ≡ place_of a.0)
+      → ArePlacesOf loads (take (length loads) places)
+  places_by g places long at each = places_are places long
+      (λ i d e below. let call = at i d e below in each (get_or all i d, tt) (get_or places i e) call.0 call.1 call.2)
+
+  pub images_by : {F : Type 0} (g : Mut F (LoadObject × Unit {0}) (Bor (List ℕ))) (images : List (Bor (List ℕ))) → length images ≡ MOST_OBJECTS
+      → ((i : ℕ) (d : LoadObject) (e : Bor (List ℕ)) → i < MOST_OBJECTS → (f : F) × (f' : F) × Called g f (get_or all i d, tt) (get_or images i e) f')
+      → ((a : LoadObject × Unit {0}) (image : Bor (List ℕ)) (f f' : F) → Called g f a image f' → image ≡ a.0.image)
+      → AreImagesOf loads (take (length loads) images)
+  images_by g images long at each = images_are images long
+      (λ i d e below. let call = at i d e below in each (get_or all i d, tt) (get_or images i e) call.0 call.1 call.2)

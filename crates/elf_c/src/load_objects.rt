@@ -1,6 +1,6 @@
 //! The objects of a process: the program and its libraries, with their files, and where they are loaded.
 
-ghost use Rattle.std.specs.Prelude.{◌≡◌, ◌<◌, ◌≤◌, IfErr, IfOk, MatchResult, length, take};
+ghost use Rattle.std.specs.Prelude.{◌≡◌, ◌<◌, ◌≤◌, MatchResult, length, take};
 ghost use Rattle.elf_base.specs.FileHeader.{header_of};
 ghost use Rattle.elf_c.specs.LoadObjects.{AreImagesOf, AreObjectsOf, ArePadded, ArePlacesOf};
 ghost use Rattle.elf_c.specs.LoadObjects.{IsObjectOfBytes, IsOneRefused, IsRefusedAsObject};
@@ -92,11 +92,14 @@ pub(crate) fn objects_of<'a, E: LinkedSymbol>(
 ) -> Result<[DynamicObject<'a, E>; MOST_OBJECTS], LinkError>
     requires some { 0 < length loads.now }
     requires fit { length loads.now ≤ MOST_OBJECTS }
-    ensures objects { IfOk result (λ objects. AreObjectsOf E.CLASS E.SIZE loads.now
-        (take (length loads.now) objects)) }
-    ensures refused { IfErr result (IsOneRefused E.CLASS E.SIZE loads.now) }
+    ensures { MatchResult result
+        (λ objects. AreObjectsOf E.CLASS E.SIZE loads.now (take (length loads.now) objects))
+        (IsOneRefused E.CLASS E.SIZE loads.now) }
 {
-    padded(loads).try_map(|load| read_object(load.file))
+    match padded(loads).try_map(|load| read_object(load.file)) {
+        Ok(objects) => Ok(objects),
+        Err(error) => Err(error),
+    }
 }
 
 // The place of an object.

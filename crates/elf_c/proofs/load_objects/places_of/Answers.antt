@@ -1,8 +1,7 @@
-use Rattle.std.proofs.Common.{◌≡◌, rules, of_calls}
-use Rattle.elf_c.specs.LoadObjects.{place_of}
-use Rattle.elf_c.proofs.LoadObjects.{by_call, places_are}
+use Rattle.std.proofs.Common.{rules, of_calls}
+use Rattle.elf_c.proofs.LoadObjects.{places_by}
 use Rattle.elf_c.proofs.load_objects.places_of.Goals as goal
 
 pub returns : goal.returns
-returns c = places_are c.args.loads.now c.padded.result c.requires.fit c.padded.ensures c.map.result c.map.ensures.items.long
-    (λ i d e below. by_call _ (λ a place. place ≡ place_of a.0) (λ a r f f' called. search (rules, of_calls)) _ _ (c.map.ensures.items.at i d e below))
+returns c = places_by c.args.loads.now c.padded.result c.requires.fit c.padded.ensures _ c.map.result c.map.ensures.items.long c.map.ensures.items.at
+    (λ a made f f' called. search (rules, of_calls))
