@@ -14,7 +14,7 @@ from conftest import LIBRARIES, PYTHON, system_files
 from elftools.elf.gnuversions import GNUVerDefSection, GNUVerNeedSection
 
 import xmas_elf
-from xmas_elf import Contents, ElfError, ElfFile, Loader, Owner, Status, VersionKind, constants
+from xmas_elf import Contents, ElfError, ElfFile, Loader, LoadObject, Owner, Status, VersionKind, check_image, constants, relocate
 from xmas_elf.constants import SHF, SHT, STB, STT
 
 FOLDER = pathlib.Path("/lib/x86_64-linux-gnu")
