@@ -1,9 +1,10 @@
 -- The objects of files, their places and their images, in a slice of an array.
 use Rattle.std.proofs.Common.{◌≡◌, ◌≢◌, ◌<◌, ◌≤◌, ◌+◌, ℕ, zero, suc, ◌⊎◌, ⊎_elim, inl, inr, List, [], ◌∷◌, get_or, length, take, Option, None, Some, Result, Ok, Err, refl, sym, ap, subst, ◌∙◌, arith}
+use Rattle.std.specs.Array.{AllZipBelow}
 use Rattle.std.specs.Borrow.{Bor}
 use Rattle.std.specs.Fn.{Called, Mut}
 use Rattle.std.specs.List.{IsAmong}
-use Rattle.std.specs.Prelude.{IsSomeAnd, MatchResult, replicate, slice_get, slice_set}
+use Rattle.std.specs.Prelude.{IfErr, IfOk, IsSomeAnd, MatchResult, replicate, slice_get, slice_set}
 use Rattle.std.proofs.lemmas.Bool.{cases_order}
 use Rattle.std.proofs.lemmas.List.{length-replicate, length-set, length-take-le}
 use Rattle.std.proofs.lemmas.Option.{get_or_from_slice_get, slice_get_read, slice_get_within}
@@ -118,21 +119,29 @@ module _ (loads all : List LoadObject) (fit : length loads ≤ MOST_OBJECTS) (pa
       record { index = from.0; load = load; load_is = from.1; why = why }
 
   among_refused : (class size : ℕ) (error : LinkError) (load : LoadObject) → IsAmong all load → IsRefusedAsObject class size load.file.now error → IsOneRefused class size loads error
-  among_refused class size error load (i, below, is) why = one_refused class size error load i (slice_get_read all (length all) i load refl below is) why
+  among_refused class size error load (i, (below, is)) why = one_refused class size error load i (slice_get_read all (length all) i load refl below is) why
 
   -- the same by the calls that made them
-  pub objects_by : {E F : Type 0} {r : _} (g : Mut F (LoadObject × Unit {0}) (Result (DynamicObject E r) LinkError)) (class size : ℕ) (objects : List (DynamicObject E r)) → length objects ≡ MOST_OBJECTS
+  objects_by : {E F : Type 0} {r : _} (g : Mut F (LoadObject × Unit {0}) (Result (DynamicObject E r) LinkError)) (class size : ℕ) (objects : List (DynamicObject E r)) → length objects ≡ MOST_OBJECTS
       → ((i : ℕ) (d : LoadObject) (e : DynamicObject E r) → i < MOST_OBJECTS → (f : F) × (f' : F) × Called g f (get_or all i d, tt) (Ok (get_or objects i e)) f')
       → ((a : LoadObject × Unit {0}) (answer : Result (DynamicObject E r) LinkError) (f f' : F) → Called g f a answer f' → MatchResult answer (IsObjectOfBytes class size a.0.file.now) (IsRefusedAsObject class size a.0.file.now))
       → AreObjectsOf class size loads (take (length loads) objects)
   objects_by g class size objects long at each = objects_are class size objects long
       (λ i d e below. let call = at i d e below in each (get_or all i d, tt) (Ok (get_or objects i e)) call.0 call.1 call.2)
 
-  pub refused_by : {E F : Type 0} {r : _} (g : Mut F (LoadObject × Unit {0}) (Result (DynamicObject E r) LinkError)) (class size : ℕ) (error : LinkError)
+  refused_by : {E F : Type 0} {r : _} (g : Mut F (LoadObject × Unit {0}) (Result (DynamicObject E r) LinkError)) (class size : ℕ) (error : LinkError)
       → ((load : LoadObject) × IsAmong all load × (f : F) × (f' : F) × Called g f (load, tt) (Err error) f')
       → ((a : LoadObject × Unit {0}) (answer : Result (DynamicObject E r) LinkError) (f f' : F) → Called g f a answer f' → MatchResult answer (IsObjectOfBytes class size a.0.file.now) (IsRefusedAsObject class size a.0.file.now))
       → IsOneRefused class size loads error
   refused_by g class size error (load, among, f, f', called) each = among_refused class size error load among (each (load, tt) (Err error) f f' called)
+
+  pub all_by : {E F : Type 0} {r : _} (g : Mut F (LoadObject × Unit {0}) (Result (DynamicObject E r) LinkError)) (class size : ℕ) (result : Result (List (DynamicObject E r)) LinkError)
+      → IfOk result (λ objects. AllZipBelow (λ x y. (f : F) × (f' : F) × Called g f (x, tt) (Ok y) f') all objects MOST_OBJECTS)
+      → IfErr result (λ error. (load : LoadObject) × IsAmong all load × (f : F) × (f' : F) × Called g f (load, tt) (Err error) f')
+      → ((a : LoadObject × Unit {0}) (answer : Result (DynamicObject E r) LinkError) (f f' : F) → Called g f a answer f' → MatchResult answer (IsObjectOfBytes class size a.0.file.now) (IsRefusedAsObject class size a.0.file.now))
+      → MatchResult result (λ objects. AreObjectsOf class size loads (take (length loads) objects)) (IsOneRefused class size loads)
+  all_by g class size (Ok objects) zip fails each = objects_by g class size objects zip.long zip.at each
+  all_by g class size (Err error) zip fails each = refused_by g class size error fails each
 
   pub places_by : {F : Type 0} (g : Mut F (LoadObject × Unit {0}) Place) (places : List Place) → length places ≡ MOST_OBJECTS
       → ((i : ℕ) (d : LoadObject) (e : Place) → i < MOST_OBJECTS → (f : F) × (f' : F) × Called g f (get_or all i d, tt) (get_or places i e) f')

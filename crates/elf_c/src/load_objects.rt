@@ -96,10 +96,7 @@ pub(crate) fn objects_of<'a, E: LinkedSymbol>(
         (λ objects. AreObjectsOf E.CLASS E.SIZE loads.now (take (length loads.now) objects))
         (IsOneRefused E.CLASS E.SIZE loads.now) }
 {
-    match padded(loads).try_map(|load| read_object(load.file)) {
-        Ok(objects) => Ok(objects),
-        Err(error) => Err(error),
-    }
+    padded(loads).try_map(|load| read_object(load.file))
 }
 
 // The place of an object.
