@@ -226,7 +226,8 @@ CALL(symbol_pieces) /* the addresses of a symbol are its own; a word less is ref
 }
 CALL(load_plan) { return xmas_elf_load_plan(FILE_OF(a), a->index, 0, &out->of.load_plan); }
 CALL_MANY(load_mappings, load_mappings, 4096, 0, 0, a->index)
-static uint8_t image[1 << 24], marks[sizeof image / 8 + 1];
+#define LARGEST ((size_t)1 << 24)
+static uint8_t *image, *marks; /* of the file in memory, which has them in no segment */
 #define OBJECT_OF(asked) &(xmas_elf_load_object_t){.file = (asked)->bytes, .file_size = (asked)->size}, 1
 CALL(load_image) /* a byte less is refused */
 {
@@ -242,7 +243,7 @@ CALL(check_image)
 {
     (void)out;
     if (a->index == 0 && a->size > 0 && xmas_elf_check_image(OBJECT_OF(a), 0, marks, 1) != XMAS_ELF_LOAD_FEW_MARKS) return 999;
-    return xmas_elf_check_image(OBJECT_OF(a), a->index, marks, sizeof marks);
+    return xmas_elf_check_image(OBJECT_OF(a), a->index, marks, LARGEST / 8 + 1);
 }
 CALL(relocate) /* without its library the program has a symbol that nothing has */
 {
@@ -442,10 +443,11 @@ int main(int argc, char **argv)
 {
     struct asked file = {0};
     FILE *stream = argc == 2 ? fopen(argv[1], "rb") : NULL;
-    uint8_t *bytes = malloc(2 * ((size_t)1 << 24) + 1);
-    if (stream == NULL || bytes == NULL) return 2;
+    uint8_t *bytes = malloc(2 * LARGEST + 1);
+    image = malloc(LARGEST), marks = malloc(LARGEST / 8 + 1);
+    if (stream == NULL || bytes == NULL || image == NULL || marks == NULL) return 2;
     file.bytes = bytes;
-    file.size = fread(bytes, 1, (size_t)1 << 24, stream);
+    file.size = fread(bytes, 1, LARGEST, stream);
     fclose(stream);
     uint8_t *unaligned = bytes + file.size + 1 + file.size % 2;
     memcpy(unaligned, bytes, file.size);
@@ -464,7 +466,7 @@ int main(int argc, char **argv)
     for (size_t i = 0; i < sizeof rows / sizeof *rows; i++) visit(&rows[i], file, unaligned);
     for (size_t i = 0; i < sizeof every / sizeof *every; i++) visit_any(&every[i], &file, unaligned);
     visit_packed(&file);
-    free(bytes);
+    free(bytes), free(image), free(marks);
     if (sizeof rows / sizeof *rows != sizeof every / sizeof *every) printf("an export has no row\n"), faults++;
     printf("%zu exports, %d faults\n", sizeof every / sizeof *every, faults);
     return faults != 0;

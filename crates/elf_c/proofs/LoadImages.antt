@@ -1,5 +1,5 @@
 -- The images of objects, by what the library's calls say of them.
-use Rattle.std.proofs.Common.{◌≡◌, ℕ, List, Result, Ok, Err, refl, subst, sym}
+use Rattle.std.proofs.Common.{◌≡◌, ℕ, List, Result, refl, subst, sym}
 use Rattle.std.specs.Borrow.{Bor}
 use Rattle.std.specs.Prelude.{IfOk}
 use Rattle.elf_linking.specs.declared.object.DynamicObject.{DynamicObject}
