@@ -457,7 +457,7 @@ def test_words_of_a_program_and_its_library(tmp_path):
     assert relocate(objects, 1, images[1]) == 0
     objects[1] = objects[1]._replace(image=images[1])
     assert relocate(objects, 0, images[0]) == 0
-    value = lambda file, name: file.find_symbol(name).value  # noqa: E731
+    value = lambda file, name: file.symbol(name).value  # noqa: E731
     number_at = value(library, "number_at")
     # The library uses the copy of the program.
     assert int.from_bytes(images[1][number_at : number_at + 8], "little") == 0x10000 + value(program, "number")
