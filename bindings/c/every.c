@@ -226,6 +226,34 @@ CALL(symbol_pieces) /* the addresses of a symbol are its own; a word less is ref
 }
 CALL(load_plan) { return xmas_elf_load_plan(FILE_OF(a), a->index, 0, &out->of.load_plan); }
 CALL_MANY(load_mappings, load_mappings, 4096, 0, 0, a->index)
+#define LARGEST ((size_t)1 << 24)
+static uint8_t *image, *marks; /* of the file in memory, which has them in no segment */
+#define OBJECT_OF(asked) &(xmas_elf_load_object_t){.file = (asked)->bytes, .file_size = (asked)->size}, 1
+CALL(load_image) /* a byte less is refused */
+{
+    xmas_elf_load_plan_t plan = {.span = {0, 1}};
+    uint32_t status = xmas_elf_load_plan(FILE_OF(a), a->index, 0, &plan);
+    size_t size = (size_t)(plan.span.end - plan.span.start);
+    (void)out;
+    if (status == XMAS_ELF_OK && xmas_elf_load_image(FILE_OF(a), a->index, 0, 0, image, size - 1) != XMAS_ELF_LOAD_IMAGE_SIZE) return 999;
+    if (status != xmas_elf_load_image(FILE_OF(a), a->index, 0, 0, image, size)) return 998;
+    return status != XMAS_ELF_OK || memcmp(image, a->bytes, 64) == 0 ? status : 997;
+}
+CALL(check_image)
+{
+    (void)out;
+    if (a->index == 0 && a->size > 0 && xmas_elf_check_image(OBJECT_OF(a), 0, marks, 1) != XMAS_ELF_LOAD_FEW_MARKS) return 999;
+    return xmas_elf_check_image(OBJECT_OF(a), a->index, marks, LARGEST / 8 + 1);
+}
+CALL(relocate) /* without its library the program has a symbol that nothing has */
+{
+    xmas_elf_load_plan_t plan;
+    uint32_t status = xmas_elf_load_plan(FILE_OF(a), 0, 0, &plan);
+    size_t size = status == XMAS_ELF_OK ? (size_t)(plan.span.end - plan.span.start) : 0;
+    if (status == XMAS_ELF_OK && xmas_elf_load_image(FILE_OF(a), 0, 0, 0, image, size) != XMAS_ELF_OK) return 999;
+    status = xmas_elf_relocate(OBJECT_OF(a), a->index, 0, 0, image, size, &out->count);
+    return status == XMAS_ELF_LOAD_UNRESOLVED ? XMAS_ELF_OK : status;
+}
 CALL(message) /* OK where the status `index` has a text */
 {
     size_t whole = xmas_elf_message((uint32_t)a->index, NULL, 0);
@@ -287,6 +315,9 @@ static const struct row {
     {"symbol_pieces", symbol_pieces_call, NONE, 0, FAR, XMAS_ELF_DATA_RANGE, XMAS_ELF_DATA_RANGE},
     {"load_plan", load_plan_call, NONE, 0, FAR, XMAS_ELF_LOAD_OVERLAP, XMAS_ELF_LOAD_TABLE},
     {"load_mappings", load_mappings_call, NONE, 1, FAR, XMAS_ELF_NO_RECORD, XMAS_ELF_LOAD_TABLE},
+    {"load_image", load_image_call, NONE, 0, FAR, XMAS_ELF_LOAD_OVERLAP, XMAS_ELF_LOAD_TABLE},
+    {"check_image", check_image_call, NONE, 0, FAR, XMAS_ELF_LINK_OBJECT_INDEX, XMAS_ELF_SHORT_PART_1},
+    {"relocate", relocate_call, NONE, 0, FAR, XMAS_ELF_LINK_OBJECT_INDEX, XMAS_ELF_SHORT_PART_1},
     {"message", message_call, NONE, XMAS_ELF_NOT_FOUND, 0, XMAS_ELF_NOT_FOUND, XMAS_ELF_OK},
 };
 
@@ -412,10 +443,11 @@ int main(int argc, char **argv)
 {
     struct asked file = {0};
     FILE *stream = argc == 2 ? fopen(argv[1], "rb") : NULL;
-    uint8_t *bytes = malloc(2 * ((size_t)1 << 24) + 1);
-    if (stream == NULL || bytes == NULL) return 2;
+    uint8_t *bytes = malloc(2 * LARGEST + 1);
+    image = malloc(LARGEST), marks = malloc(LARGEST / 8 + 1);
+    if (stream == NULL || bytes == NULL || image == NULL || marks == NULL) return 2;
     file.bytes = bytes;
-    file.size = fread(bytes, 1, (size_t)1 << 24, stream);
+    file.size = fread(bytes, 1, LARGEST, stream);
     fclose(stream);
     uint8_t *unaligned = bytes + file.size + 1 + file.size % 2;
     memcpy(unaligned, bytes, file.size);
@@ -434,7 +466,7 @@ int main(int argc, char **argv)
     for (size_t i = 0; i < sizeof rows / sizeof *rows; i++) visit(&rows[i], file, unaligned);
     for (size_t i = 0; i < sizeof every / sizeof *every; i++) visit_any(&every[i], &file, unaligned);
     visit_packed(&file);
-    free(bytes);
+    free(bytes), free(image), free(marks);
     if (sizeof rows / sizeof *rows != sizeof every / sizeof *every) printf("an export has no row\n"), faults++;
     printf("%zu exports, %d faults\n", sizeof every / sizeof *every, faults);
     return faults != 0;

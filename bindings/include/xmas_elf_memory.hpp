@@ -162,6 +162,42 @@ inline std::vector<xmas_elf_load_mapping_t> load_mappings(const file &of, loader
     }
 }
 
+/// The bytes that a loader maps before relocation, from the start of the span of the plan on; 0 where nothing is mapped.
+inline std::vector<std::uint8_t> load_image(const file &of, loader by, std::uint64_t page = 0, std::uint64_t limit = 0)
+{
+    const xmas_elf_span_t span = load_plan(of, page, limit).span;
+    std::vector<std::uint8_t> image(static_cast<std::size_t>(span.end - span.start));
+    check(of.call(xmas_elf_load_image, page, limit, static_cast<std::uint32_t>(by), image.data(), image.size()));
+    return image;
+}
+
+/// The object of a file at a base, without an image.
+inline xmas_elf_load_object_t load_object(const file &of, std::uint64_t base)
+{
+    xmas_elf_load_object_t object{};
+    object.file = of.bytes().data();
+    object.file_size = of.bytes().size();
+    object.base = base;
+    return object;
+}
+
+/// Throws if the words of the object at index `of` can't be written before the program runs; `size` is that of its image.
+inline void check_image(const std::vector<xmas_elf_load_object_t> &objects, std::size_t of, std::size_t size)
+{
+    std::vector<std::uint8_t> marks(size / 8 + 1);
+    check(xmas_elf_check_image(objects.data(), objects.size(), of, marks.data(), marks.size()));
+}
+
+/// Writes the words of the object at index `of` to its image, which `load_image` gave, and returns how many have no number: what
+/// functions return, and descriptors of thread-local storage.
+inline std::uint64_t relocate(const std::vector<xmas_elf_load_object_t> &objects, std::size_t of, std::vector<std::uint8_t> &image,
+                              bool lazy = false, std::uint64_t page = 0)
+{
+    std::uint64_t count = 0;
+    check(xmas_elf_relocate(objects.data(), objects.size(), of, lazy ? 1 : 0, page, image.data(), image.size(), &count));
+    return count;
+}
+
 } // namespace xmas_elf
 
 #endif

@@ -111,6 +111,8 @@ grep '+0x' "$room/memory_of" | diff - <(middles | cut -d' ' -f2)
 for program in "$room/addresses_c" "$CARGO_TARGET_DIR/release/examples/addresses"; do
     "$program" "$room/mapped" $(middles | cut -d' ' -f1) 0 | diff - <(middles | cut -d' ' -f2; echo '?')
 done
+# Programs that the example in C loads.
+tools/exports/loading.sh "$XMAS_ELF_ARCHIVE"
 # The pieces of a file sum to its size, and its functions are as large as nm says.
 "$room/sizes" "$room/mapped" > "$room/sizes_of"
 [ "$(grep -E ' [0-9]+$' "$room/sizes_of" | awk '{ sum += $1 } END { print sum }')" = "$(stat --format %s "$room/mapped")" ] ||

@@ -76,6 +76,9 @@ def c_struct(struct, listed):
     lines = c_comment(struct.comment) + [f"typedef struct {struct.c_type} {{"]
     for field in struct.fields:
         array = re.fullmatch(r"\[u8; (\d+)\]", field.type)
+        if field.type == listing.LENT:
+            lines += [*c_comment(field.comment, "    "), f"    const uint8_t *{field.c_name};", f"    size_t {field.c_name}_size;"]
+            continue
         member = f"uint8_t {field.c_name}[{array[1]}]" if array else f"{listed.c_type(field.type)} {field.c_name}"
         lines += [*c_comment(field.comment, "    "), f"    {member};"]
     return lines + [f"}} {struct.c_type};", ""]
@@ -106,7 +109,7 @@ def header_text(listed, rows):
 
 # Rust: the structs, and for each export its declaration and a safe call.
 
-RECORDS_HEAD = "//! The structs of the archive. Written by tools/exports/declarations.py."
+RECORDS_HEAD = "//! The structs of the archive. Written by tools/exports/declarations.py.\n\nuse crate::lent::Lent;"
 FFI_HEAD = '''//! The declarations of the archive, and a safe call for each. Written by tools/exports/declarations.py.
 //!
 //! The reason is the same for each `unsafe`. During the call the export reads the slices and records that it is passed,
@@ -132,7 +135,7 @@ def rust_comment(text, indent=""):
 def rust_struct(struct, listed):
     seen, fields_seen = ("pub" if struct.public else "pub(crate)"), ("pub(crate)" if struct.private_fields or not struct.public else "pub")
     lines = ["", *rust_comment(struct.comment), "#[repr(C)]", "#[derive(Clone, Copy, Debug, Default, PartialEq, Eq)]"]
-    lines.append(f"{seen} struct {struct.rust} {{")
+    lines.append(f"{seen} struct {struct.rust}{'<%sa>' % chr(39) if listed.lends(struct.name) else ''} {{")
     for field in struct.fields:
         lines += rust_comment(field.comment, indent="    ") + [f"    {fields_seen} {field.name}: {listed.rust_type(field.type)},"]
     return lines + ["}"]
@@ -205,14 +208,16 @@ pub(crate) fn every(asked: &Asked<'_>, mut heard: impl FnMut(&str, Result<(), Er
     let (input, header, part, table) = (asked.input, &asked.header, &asked.part, &asked.table);
     let (hash, name, ranges) = (&asked.hash, asked.name, &[asked.part]);
     let (address_index, numbers) = (&asked.addresses, &[asked.index, asked.section]);
+    let objects = &[LoadObject { file: input.into(), ..LoadObject::default() }];
 """
 
 
 # What is handed to a parameter: of numbers but the one named `section` the index, of records but these a part of the input, and
 # of slices but these a name.
 PLACES = {"header": "header", "symbol_table": "table", "hash_table": "hash", "address_index": "address_index"}
-C_SLICES = {"input": "a->bytes, a->size", "ranges": "&a->part, 1", "words": "a->words, a->words_count", "addresses": "a->numbers, 2"}
-RUST_SLICES = {"input": "input", "ranges": "ranges", "words": "&[0, 1]", "addresses": "numbers"}
+C_SLICES = {"input": "a->bytes, a->size", "ranges": "&a->part, 1", "words": "a->words, a->words_count", "addresses": "a->numbers, 2",
+    "objects": "&(xmas_elf_load_object_t){.file = a->bytes, .file_size = a->size}, 1"}
+RUST_SLICES = {"input": "input", "ranges": "ranges", "words": "&[0, 1]", "addresses": "numbers", "objects": "objects"}
 
 
 def number_for(parameter):
@@ -282,7 +287,7 @@ STRUCT = re.compile(r"#\[repr\(C\)\]\s+(?:#\[[^\]]*\]\s+)*pub struct (\w+)(?:<[^
 def parts_of(text, listed):
     """The `name: type` items of a list of parameters or fields, with the structs by their names in the list."""
     names = {struct.source: struct.name for struct in listed.structs}
-    lines = " ".join(line.split("//")[0] for line in text.splitlines())
+    lines = re.sub(r"<'\w+>|'\w+ ", "", " ".join(line.split("//")[0] for line in text.splitlines()))
     found = re.findall(r"(?:pub )?(\w+): (&(?:mut )?(?:\[\w+\]|\w+)|\[[^\]]*\]|\w+)", lines)
     return [f"{name}: " + re.sub(r"\b[A-Z]\w*", lambda word: names.get(word[0], word[0]), kind) for name, kind in found]
 

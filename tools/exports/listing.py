@@ -3,7 +3,8 @@
     for struct in listing.read().structs: struct.name, struct.fields[0].name, struct.fields[0].type
     for function in listing.read().functions: function.export, function.parameters[0].type, function.statuses
 
-A type is a number (`u8` .. `u64`, `usize`), an array of bytes (`[u8; 7]`) or the name of a struct of the list. A parameter's
+A type is a number (`u8` .. `u64`, `usize`), an array of bytes (`[u8; 7]`), bytes that a field lends (`&[u8]`: a pointer and a
+size) or the name of a struct of the list. A parameter's
 `kind` says how it crosses: VALUE a number; IN a pointer to one value that is read; OUT a pointer to one value that is written
 where the call is OK; SLICE a pointer and a count of values that are read; FILLED one of values that are written in part."""
 import pathlib
@@ -29,6 +30,7 @@ Function = namedtuple("Function", "name parameters result statuses item_statuses
 Constant = namedtuple("Constant", "name value type group prefix is_flag comment")
 
 
+LENT, LENT_IN_RUST = "&[u8]", "Lent<{}>"
 C_NUMBERS = {"u8": "uint8_t", "u16": "uint16_t", "u32": "uint32_t", "u64": "uint64_t", "usize": "size_t"}
 
 
@@ -40,7 +42,13 @@ class Listed(namedtuple("Listed", "structs functions")):
         return C_NUMBERS.get(name) or self.struct(name).c_type
 
     def rust_type(self, name: str) -> str:
-        return name if name in SIZES or name.startswith("[") else self.struct(name).rust
+        """The type in Rust; a struct that lends bytes has a lifetime."""
+        if name in SIZES or name.startswith("["):
+            return name
+        return LENT_IN_RUST.format("'a") if name == LENT else self.struct(name).rust + "<'_>" * self.lends(name)
+
+    def lends(self, name: str) -> bool:
+        return name not in SIZES and any(field.type == LENT for field in self.struct(name).fields)
 
 
 SHAPES = ((r"&mut \[(\w+)\]", FILLED), (r"&mut (\w+)", OUT), (r"&\[(\w+)\]", SLICE), (r"&(\w+)", IN), (r"(\w+)", VALUE))

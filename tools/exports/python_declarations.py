@@ -72,7 +72,10 @@ def flat(struct, listed):
     letters, fields = "", []
     for field in struct.fields:
         name = "name_index" if field.name == "name" and field.type in LETTERS else field.c_name
-        if array := re.fullmatch(r"\[u8; (\d+)\]", field.type):
+        if field.type == listing.LENT:
+            letters += "PN"
+            fields += [(name, "int", f"{field.comment} Their address."), (f"{name}_size", "int", "How many they are.")]
+        elif array := re.fullmatch(r"\[u8; (\d+)\]", field.type):
             letters += f"{array[1]}x"
         elif field.type in LETTERS:
             letters += LETTERS[field.type]

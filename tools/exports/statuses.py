@@ -23,7 +23,7 @@ FIRST, LAST = "/* The statuses, written by tools/exports/declarations.py. */", "
 
 ENUMS = {"ElfError": "", "LinkError": "Link", "LoadError": "Load", "IndexError": "Index", "Refusal": ""}
 # Variants that hold an error of another enum.
-HOLDERS = {("LinkError", "Elf"), ("Refusal", "Elf"), ("Refusal", "Link"), ("Refusal", "Load"), ("Refusal", "Index")}
+HOLDERS = {("LinkError", "Elf"), ("Refusal", "Elf"), ("Refusal", "Link"), ("Refusal", "Load"), ("Refusal", "Index"), ("LoadError", "Link")}
 ERRORS = {
     "ElfError": "crates/elf_base/src/error.rt",
     "LinkError": "crates/elf_linking/src/error.rt",

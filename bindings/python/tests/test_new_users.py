@@ -14,7 +14,7 @@ from conftest import LIBRARIES, PYTHON, system_files
 from elftools.elf.gnuversions import GNUVerDefSection, GNUVerNeedSection
 
 import xmas_elf
-from xmas_elf import Contents, ElfError, ElfFile, Loader, Owner, Status, VersionKind, constants
+from xmas_elf import Contents, ElfError, ElfFile, Loader, LoadObject, Owner, Status, VersionKind, check_image, constants, relocate
 from xmas_elf.constants import SHF, SHT, STB, STT
 
 FOLDER = pathlib.Path("/lib/x86_64-linux-gnu")
@@ -440,6 +440,31 @@ def test_why_a_file_is_not_loaded(tmp_path):
         with pytest.raises(ElfError) as raised:
             file.load_plan(**words)
         assert raised.value.status == status
+
+
+def test_words_of_a_program_and_its_library(tmp_path):
+    """The library's function is called by the program, which has a copy of its number."""
+    (tmp_path / "b.c").write_text("int number = 7; int *number_at = &number; int twice(void) { return 2 * *number_at; }\n")
+    (tmp_path / "a.c").write_text("extern int number; int twice(void); void _start(void) { number += twice(); }\n")
+    build = lambda *words: subprocess.run(["gcc", "-O1", "-nostdlib", *words], check=True, cwd=tmp_path)  # noqa: E731
+    build("-shared", "-fPIC", "b.c", "-o", "libb.so")
+    build("-pie", "-fno-stack-protector", "a.c", "-o", "a", "-L.", "-lb")
+    program, library = (ElfFile.load_from_path(tmp_path / it) for it in ("a", "libb.so"))
+    objects = [LoadObject(program, 0x10000), LoadObject(library, 0x20000)]
+    for index in (0, 1):
+        check_image(objects, index)
+    images = [program.load_image(), library.load_image(Loader.GLIBC)]
+    assert relocate(objects, 1, images[1]) == 0
+    objects[1] = objects[1]._replace(image=images[1])
+    assert relocate(objects, 0, images[0]) == 0
+    value = lambda file, name: file.symbol(name).value  # noqa: E731
+    number_at = value(library, "number_at")
+    # The library uses the copy of the program.
+    assert int.from_bytes(images[1][number_at : number_at + 8], "little") == 0x10000 + value(program, "number")
+    assert images[0][value(program, "number")] == 7
+    with pytest.raises(ElfError) as raised:
+        relocate(objects, 2, images[0])
+    assert raised.value.status == Status.LINK_OBJECT_INDEX
 
 
 # Overviews and surveys.

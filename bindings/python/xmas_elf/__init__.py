@@ -16,11 +16,12 @@ from ._loading import Addresses, Contents, Loader, LoadPlan, Mapping, TlsTemplat
 from ._overview import Overview
 from ._parts import Dynamic, Header, Note, Relocation, Section, Segment, Symbol
 from ._pieces import Owner, Piece, SymbolPiece
+from ._process import LoadObject, check_image, relocate
 from ._survey import elf_files, survey, survey_row
 from ._versions import Version, VersionKind
 
 __all__ = [
-    "Addresses", "Contents", "Dynamic", "ElfError", "ElfFile", "Header", "LoadPlan", "Loader", "Mapping", "Note", "Overview",
-    "Owner", "Piece", "Relocation", "Section", "Segment", "Status", "Symbol", "SymbolAt", "SymbolPiece", "TlsTemplate", "Version",
-    "VersionKind", "elf_files", "survey", "survey_row",
+    "Addresses", "Contents", "Dynamic", "ElfError", "ElfFile", "Header", "LoadObject", "LoadPlan", "Loader", "Mapping", "Note",
+    "Overview", "Owner", "Piece", "Relocation", "Section", "Segment", "Status", "Symbol", "SymbolAt", "SymbolPiece", "TlsTemplate",
+    "Version", "VersionKind", "check_image", "elf_files", "relocate", "survey", "survey_row",
 ]

@@ -758,6 +758,36 @@ _document(
 PIECE_SIZES = Struct("@QQ0Q")
 
 
+class LoadObjectRecord(NamedTuple):
+    """An object of a process: its file, and where it is loaded. Objects are in the order in which they are loaded,
+    the program first."""
+
+    file: int
+    file_size: int
+    image: int
+    image_size: int
+    base: int
+    module: int
+    thread: int
+
+
+_document(
+    LoadObjectRecord,
+    file="The bytes of the file. Their address.",
+    file_size="How many they are.",
+    image=
+        "Its image after relocation, where bytes of it are copied to another object; else it may be empty. "
+        "Their address.",
+    image_size="How many they are.",
+    base="The number that is added to its addresses.",
+    module="The number of its module of thread-local storage.",
+    thread="The offset of its thread-local storage from the thread pointer, modulo 2^64.",
+)
+
+
+LOAD_OBJECT = Struct("@PNPNQQQ0Q")
+
+
 # What each export answers, and its parameters: a slice is a pointer and a count.
 EXPORTS: Dict[str, Tuple[Any, Tuple[Any, ...]]] = {
     "xmas_elf_open": (c_uint32, (c_void_p, c_size_t, c_void_p,)),
@@ -800,6 +830,9 @@ EXPORTS: Dict[str, Tuple[Any, Tuple[Any, ...]]] = {
     "xmas_elf_symbol_pieces": (c_uint32, (c_void_p, c_size_t, c_void_p, c_uint64, c_uint64, c_uint64, c_void_p, c_size_t, c_void_p, c_size_t, c_void_p,)),
     "xmas_elf_load_plan": (c_uint32, (c_void_p, c_size_t, c_void_p, c_uint64, c_uint64, c_void_p,)),
     "xmas_elf_load_mappings": (c_uint32, (c_void_p, c_size_t, c_void_p, c_uint64, c_uint64, c_uint32, c_uint64, c_void_p, c_size_t, c_void_p,)),
+    "xmas_elf_load_image": (c_uint32, (c_void_p, c_size_t, c_void_p, c_uint64, c_uint64, c_uint32, c_void_p, c_size_t,)),
+    "xmas_elf_check_image": (c_uint32, (c_void_p, c_size_t, c_uint64, c_void_p, c_size_t,)),
+    "xmas_elf_relocate": (c_uint32, (c_void_p, c_size_t, c_uint64, c_uint32, c_uint64, c_void_p, c_size_t, c_void_p,)),
     "xmas_elf_message": (c_size_t, (c_uint32, c_void_p, c_size_t,)),
 }
 

@@ -11,12 +11,13 @@ from . import _declarations as declared
 from ._addresses import AddressIndex, SymbolAt
 from ._archive import ElfError, check, library
 from ._declarations import Status
-from ._loading import LoadPlan, load_plan_of
+from ._loading import Loader, LoadPlan, load_plan_of
 from ._numbers import unsigned, utf_8
 from ._overview import Overview, overview_of
 from ._parts import Dynamic, Header, Note, Relocation, Section, Segment, Symbol
 from ._parts import section_of, segment_of, symbols_of
 from ._pieces import Piece, SymbolPiece, pieces_of, symbol_pieces_of
+from ._process import load_image_of
 from ._reading import Reading
 from ._rows import Row, batches, one, rows
 from ._tables import packed_relocations_of, relocations_of
@@ -95,6 +96,11 @@ class ElfFile(Reading):
         power of two, and `limit` the end of the addresses that a loader may use; 0 means 4096, and for the limit of
         Linux on x86-64, or on 386 for a file of class 32."""
         return load_plan_of(self, unsigned(page), unsigned(limit))
+
+    def load_image(self, by: Loader = Loader.LINUX, page: int = 0, limit: int = 0) -> bytearray:
+        """The bytes that a loader maps before relocation, from the start of the span of the plan on; 0 where nothing is
+        mapped."""
+        return load_image_of(self, int(by), unsigned(page), unsigned(limit))
 
     def pieces(self) -> Iterator[Piece]:
         """Which bytes belong to what, in the order of their offsets. Every byte is in exactly one piece, so the sizes sum to

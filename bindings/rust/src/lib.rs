@@ -42,12 +42,14 @@ mod ffi;
 mod hash;
 pub mod header;
 mod items;
+mod lent;
 mod load_plan;
 mod message;
 mod notes;
 #[cfg(feature = "alloc")]
 mod pieces;
 pub mod program;
+mod process;
 mod ranges;
 mod records;
 mod relocations;
@@ -68,9 +70,10 @@ pub use items::{Section, Sections, Segment, Segments};
 pub use load_plan::{Contents, LoadPlan, Loader};
 pub use message::Message;
 pub use notes::{Note, Notes};
+pub use process::{check_image, relocate, Binding};
 pub use records::Range as ByteRange;
 pub use ranges::LookUp;
-pub use records::{Answer, Dynamic, Entry, Header, Mapping, Name, ProgramHeader, Relocation, SectionHeader, Span, SymbolTable, TlsTemplate, Version};
+pub use records::{Answer, Dynamic, Entry, Header, LoadObject, Mapping, Name, ProgramHeader, Relocation, SectionHeader, Span, SymbolTable, TlsTemplate, Version};
 #[cfg(feature = "alloc")]
 pub use pieces::{Owner, Piece, SymbolPiece};
 #[cfg(feature = "alloc")]

@@ -91,6 +91,12 @@ impl<'f, 'a> LoadPlan<'f, 'a> {
         (self.plan.has_interpreter != 0).then(|| self.plan.interpreter.bytes_in(self.file.input()))
     }
 
+    /// Writes the bytes that a loader maps before relocation to `image`, which is as long as the span; what isn't mapped is 0.
+    pub fn fill(&self, by: Loader, image: &mut [u8]) -> Result<(), Error> {
+        let (file, loader) = (self.file, u32::from(by == Loader::Glibc));
+        ffi::load_image(file.input(), file.header(), self.page, self.limit, loader, image)
+    }
+
     /// What a loader maps before relocation, in the order of addresses. No mapping is empty or overlaps another.
     pub fn mappings(&self, by: Loader) -> impl Iterator<Item = Mapping> + 'f {
         let (file, page, limit, loader) = (self.file, self.page, self.limit, u32::from(by == Loader::Glibc));

@@ -1,5 +1,7 @@
 //! The structs of the archive. Written by tools/exports/declarations.py.
 
+use crate::lent::Lent;
+
 /// The ELF header of a file (gABI, "ELF Header").
 #[repr(C)]
 #[derive(Clone, Copy, Debug, Default, PartialEq, Eq)]
@@ -394,4 +396,21 @@ pub(crate) struct PieceSizes {
     pub(crate) words: u64,
     /// The number of all pieces of the file; 0 if the call only found the number of words.
     pub(crate) count: u64,
+}
+
+/// An object of a process: its file, and where it is loaded. Objects are in the order in which they are loaded, the
+/// program first.
+#[repr(C)]
+#[derive(Clone, Copy, Debug, Default, PartialEq, Eq)]
+pub struct LoadObject<'a> {
+    /// The bytes of the file.
+    pub(crate) file: Lent<'a>,
+    /// Its image after relocation, where bytes of it are copied to another object; else it may be empty.
+    pub(crate) image: Lent<'a>,
+    /// The number that is added to its addresses.
+    pub(crate) base: u64,
+    /// The number of its module of thread-local storage.
+    pub(crate) module: u64,
+    /// The offset of its thread-local storage from the thread pointer, modulo 2^64.
+    pub(crate) thread: u64,
 }

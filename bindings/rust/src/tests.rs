@@ -435,6 +435,47 @@ fn plans_are_as_the_kernel_maps() {
     assert_eq!(crate::ElfFile::new(&input[..64]).and_then(|file| file.load_plan().map(|_| ())), Err(Error::LoadTable));
 }
 
+// The files of the process, the test first, each with its base.
+fn objects_of_the_process() -> Vec<(u64, Vec<u8>)> {
+    let own = std::env::current_exe().expect("a path");
+    let maps = std::fs::read_to_string("/proc/self/maps").expect("maps");
+    let mut found: Vec<(u64, &str)> = Vec::new();
+    for line in maps.lines().filter(|line| line.contains(".so") || line.ends_with(own.to_str().expect("a path"))) {
+        let (start, path) = (line.split('-').next().expect("a start"), line.split_whitespace().last().expect("a path"));
+        if found.iter().all(|(_, other)| *other != path) {
+            found.push((u64::from_str_radix(start, 16).expect("an address"), path));
+        }
+    }
+    found.sort_by_key(|(_, path)| own.to_str() != Some(path));
+    found.into_iter().map(|(base, path)| (base, std::fs::read(path).expect("a file"))).collect()
+}
+
+#[test]
+fn words_are_those_of_the_process() {
+    use std::io::{Read, Seek, SeekFrom};
+    let files = objects_of_the_process();
+    let objects: Vec<_> = files.iter().map(|(base, bytes)| crate::LoadObject::new(bytes).at(*base)).collect();
+    let file = crate::ElfFile::new(&files[0].1).expect("an ELF file");
+    let plan = file.load_plan().expect("it runs");
+    let mut image = std::vec![0; (plan.span().end - plan.span().start) as usize];
+    assert_eq!(plan.fill(crate::Loader::Linux, &mut image[1..]), Err(Error::LoadImageSize));
+    plan.fill(crate::Loader::Linux, &mut image).expect("an image of this size");
+    assert_eq!(crate::check_image(&objects, 0, &mut []), Err(Error::LoadFewMarks));
+    crate::check_image(&objects, 0, &mut std::vec![0; image.len() / 8 + 1]).expect("words that can be written");
+    let left = crate::relocate(&objects, 0, crate::Binding::Now, 0, &mut image).expect("all symbols");
+    // What is read-only after relocation is as in memory, but for the words without a number and the dynamic segment.
+    let relro = plan.relro().expect("a part that is read-only after relocation");
+    let (_, dynamic) = section_of_type(&files[0].1, file.header(), SHT_DYNAMIC);
+    let mut memory = std::vec![0; (relro.end - relro.start) as usize];
+    let mut mapped = std::fs::File::open("/proc/self/mem").expect("memory");
+    mapped.seek(SeekFrom::Start(files[0].0 + relro.start)).expect("an address");
+    mapped.read_exact(&mut memory).expect("pages");
+    let words = memory.chunks(8).zip(image[relro.start as usize..].chunks(8)).zip((relro.start..).step_by(8));
+    let others = words.filter(|((one, other), at)| one != other && !(dynamic.address..dynamic.address + dynamic.size).contains(at));
+    assert!(others.count() as u64 <= left);
+    assert_eq!(crate::relocate(&objects, objects.len(), crate::Binding::Lazy, 0, &mut image), Err(Error::LinkObjectIndex));
+}
+
 #[test]
 fn empty_slices() {
     let header = ffi::open(&whole()).expect("an ELF file");

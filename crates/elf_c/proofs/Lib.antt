@@ -18,3 +18,5 @@ pub mod Storing
 pub mod AddressIndexes
 pub mod LoadPlans
 pub mod ListedPieces
+pub mod LoadObjects
+pub mod LoadImages

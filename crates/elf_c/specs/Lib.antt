@@ -19,3 +19,5 @@ pub mod FoundSymbols
 pub mod AddressIndex
 pub mod LoadPlans
 pub mod Pieces
+pub mod LoadObjects
+pub mod LoadImages

@@ -16,6 +16,8 @@ pub mod dynamic_texts;
 pub mod file;
 pub mod found_symbols;
 pub mod hash_tables;
+pub mod load_images;
+pub mod load_objects;
 pub mod load_plans;
 pub mod look_ups;
 pub mod message;

@@ -98,7 +98,7 @@ pub struct LoadMapping {
 
 // The size of a page; 0 means 4096.
 #[inline(always)]
-fn page_of(page: u64) -> u64
+pub(crate) fn page_of(page: u64) -> u64
     ensures value { result ≡ page_of page }
     ensures above { 0 < result }
 {
@@ -107,7 +107,7 @@ fn page_of(page: u64) -> u64
 
 // The end of the addresses that a loader may use; 0 means that of Linux.
 #[inline(always)]
-fn limit_of(file: &ElfFile<'_>, limit: u64) -> u64
+pub(crate) fn limit_of(file: &ElfFile<'_>, limit: u64) -> u64
     ensures { result ≡ limit_of file.now limit }
 {
     if limit != 0 {
@@ -122,7 +122,7 @@ fn limit_of(file: &ElfFile<'_>, limit: u64) -> u64
 
 // The loader of a number.
 #[inline(always)]
-fn loader_of(loader: u32) -> Loader
+pub(crate) fn loader_of(loader: u32) -> Loader
     ensures { result ≡ loader_of loader }
 {
     if loader == 1 {

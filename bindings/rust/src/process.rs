@@ -1,0 +1,48 @@
+//! The objects of a process, and what relocations write to their images.
+
+use crate::records::LoadObject;
+use crate::{ffi, Error};
+
+/// When jump slots get their symbols.
+#[derive(Clone, Copy, Debug, PartialEq, Eq, Hash)]
+pub enum Binding {
+    /// Before the program runs.
+    Now,
+    /// When a function is called first, unless the file asks for `Now`.
+    Lazy,
+}
+
+impl<'a> LoadObject<'a> {
+    /// The object of a file, whose bytes these are, without an image, at base 0.
+    pub fn new(file: &'a [u8]) -> LoadObject<'a> {
+        LoadObject { file: file.into(), ..LoadObject::default() }
+    }
+
+    /// The same at another base.
+    pub fn at(self, base: u64) -> LoadObject<'a> {
+        LoadObject { base, ..self }
+    }
+
+    /// The same with a module of thread-local storage: its number, and the offset of the storage from the thread pointer.
+    pub fn with_thread(self, module: u64, thread: u64) -> LoadObject<'a> {
+        LoadObject { module, thread, ..self }
+    }
+
+    /// The same with its image after relocation, of which bytes are copied to other objects.
+    pub fn with_image(self, image: &'a [u8]) -> LoadObject<'a> {
+        LoadObject { image: image.into(), ..self }
+    }
+}
+
+/// Checks that the words of the object at index `of` can be written before the program runs. `marks` has a bit for each byte of the
+/// span of its plan: so many bytes as an eighth of them, and one more.
+pub fn check_image(objects: &[LoadObject<'_>], of: usize, marks: &mut [u8]) -> Result<(), Error> {
+    ffi::check_image(objects, of as u64, marks)
+}
+
+/// Writes the words of the object at index `of` to its image, which [`LoadPlan::fill`](crate::LoadPlan::fill) filled for pages of
+/// `page` bytes. The result is the number of words without a number, which are left to the caller: results of functions, and
+/// descriptors of thread-local storage.
+pub fn relocate(objects: &[LoadObject<'_>], of: usize, when: Binding, page: u64, image: &mut [u8]) -> Result<u64, Error> {
+    ffi::relocate(objects, of as u64, u32::from(when == Binding::Lazy), page, image)
+}

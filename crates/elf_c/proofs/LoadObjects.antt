@@ -1,0 +1,158 @@
+-- The objects of files, their places and their images, in a slice of an array.
+use Rattle.std.proofs.Common.{◌≡◌, ◌≢◌, ◌<◌, ◌≤◌, ◌+◌, ℕ, zero, suc, ◌⊎◌, ⊎_elim, inl, inr, List, [], ◌∷◌, get_or, length, take, Option, None, Some, Result, Ok, Err, refl, sym, ap, subst, ◌∙◌, arith}
+use Rattle.std.specs.Array.{AllZipBelow}
+use Rattle.std.specs.Borrow.{Bor}
+use Rattle.std.specs.Fn.{Called, Mut}
+use Rattle.std.specs.List.{IsAmong}
+use Rattle.std.specs.Prelude.{IfErr, IfOk, IsSomeAnd, MatchResult, replicate, slice_get, slice_set}
+use Rattle.std.proofs.lemmas.Bool.{cases_order}
+use Rattle.std.proofs.lemmas.List.{length-replicate, length-set, length-take-le}
+use Rattle.std.proofs.lemmas.Option.{get_or_from_slice_get, slice_get_read, slice_get_within}
+use Rattle.elf_base.specs.FileHeader.{header_of}
+use Rattle.elf_linking.specs.DynamicObject.{IsReachedObject, IsReachedRefused}
+use Rattle.elf_linking.specs.declared.error.LinkError.{LinkError}
+use Rattle.elf_linking.specs.declared.object.DynamicObject.{DynamicObject}
+use Rattle.elf_loading.specs.declared.relocate.Place.{Place}
+use Rattle.xmas_elf.specs.declared.ElfFile.{ElfFile}
+use Rattle.elf_c.proofs.Batches.{put_elsewhere, put_there}
+use Rattle.elf_c.specs.LoadObjects.{AreImagesOf, AreObjectsOf, ArePadded, ArePlacesOf, IsObjectOfBytes, IsOneRefused, IsRefusedAsObject, no_object, place_of}
+use Rattle.elf_c.specs.declared.load_objects.LoadObject.{LoadObject}
+use Rattle.elf_c.specs.declared.load_objects.TheConstants.{MOST_OBJECTS}
+
+-- what is read of a file is read of its bytes
+pub object_or_refused : {E : Type 0} {r : _} (class size : ℕ) (bytes : List ℕ) (file : ElfFile) (result : Result (DynamicObject E r) LinkError) → file.input.now ≡ bytes → header_of bytes ≡ Ok file.header → MatchResult result (IsReachedObject class size file) (IsReachedRefused class size file) → MatchResult result (IsObjectOfBytes class size bytes) (IsRefusedAsObject class size bytes)
+object_or_refused class size bytes file (Ok object) input header is = record { file = file; bytes_are = input; header_is = header; object_is = is }
+object_or_refused class size bytes file (Err error) input header is = no_object file error input header is
+
+-- an item of a list that is long enough, by what is said of it with any other in its place where there is none
+pub some_at : {T : Type 0} (P : T → Type 0) (xs : List T) (i : ℕ) → i < length xs → ((other : T) → P (get_or xs i other)) → IsSomeAnd (slice_get xs i) P
+some_at P [] i below at = absurd (omega (arith, below))
+some_at P (x ∷ xs) zero below at = at x
+some_at P (x ∷ xs) (suc i) below at = some_at P xs i (omega (arith, below)) at
+
+some_same : {T : Type 0} (x y : T) → Some x ≡ Some y → x ≡ y
+some_same x y is = cc
+
+pub some_is : {T : Type 0} (found : Option T) (x : T) → IsSomeAnd found (λ y. y ≡ x) → found ≡ Some x
+some_is None x is = absurd is
+some_is (Some y) x is = ap (λ z. Some z) is
+
+take_get : {T : Type 0} (xs : List T) (n i : ℕ) → i < n → slice_get (take n xs) i ≡ slice_get xs i
+take_get xs zero i below = absurd (omega (arith, below))
+take_get [] (suc n) i below = refl
+take_get (x ∷ xs) (suc n) zero below = refl
+take_get (x ∷ xs) (suc n) (suc i) below = take_get xs n i (omega (arith, below))
+
+repeated : {T : Type 0} (n i : ℕ) (x y : T) → slice_get (replicate n x) i ≡ Some y → x ≡ y
+repeated zero i x y is = absurd (cc)
+repeated (suc n) zero x y is = some_same x y is
+repeated (suc n) (suc i) x y is = repeated n i x y is
+
+-- the first one in each place
+pub padded_none : (loads : List LoadObject) (first : LoadObject) → slice_get loads 0 ≡ Some first → ArePadded loads (replicate MOST_OBJECTS first) 0
+padded_none loads first is = record {
+  long = length-replicate MOST_OBJECTS first;
+  own = λ index below. absurd (omega (arith, below));
+  one = λ index load there. (0, is ∙ ap (λ x. Some x) (repeated MOST_OBJECTS index first load there));
+}
+
+-- one more in its place
+pub padded_more : (loads all : List LoadObject) (place : ℕ) (load : LoadObject) → place < length all → slice_get loads place ≡ Some load → ArePadded loads all place → ArePadded loads (slice_set all place load) (place + 1)
+padded_more loads all place load below is padded = record {
+  long = length-set all place load ∙ padded.long;
+  own = λ index here. own index (order index here);
+  one = λ index other there. one index other there (cases_order index place);
+}
+  where
+    order : (index : ℕ) → index < place + 1 → (index < place) ⊎ (index ≡ place)
+    order index here = ⊎_elim (λ same. inr same) (λ apart. ⊎_elim (λ before. inl before) (λ behind. absurd (omega (arith, here, behind))) apart) (cases_order index place)
+
+    own : (index : ℕ) → ((index < place) ⊎ (index ≡ place)) → slice_get (slice_set all place load) index ≡ slice_get loads index
+    own index (inl before) = put_elsewhere all place index load (λ same. absurd (omega (arith, before, same))) ∙ padded.own index before
+    own index (inr same) = ap (λ i. slice_get (slice_set all place load) i) same ∙ put_there all place load below ∙ sym is ∙ ap (λ i. slice_get loads i) (sym same)
+
+    away : (index : ℕ) (other : LoadObject) → index ≢ place → slice_get (slice_set all place load) index ≡ Some other → (from : ℕ) × (slice_get loads from ≡ Some other)
+    away index other apart there = padded.one index other (sym (put_elsewhere all place index load apart) ∙ there)
+
+    one : (index : ℕ) (other : LoadObject) → slice_get (slice_set all place load) index ≡ Some other → ((index ≡ place) ⊎ ((index < place) ⊎ (place < index))) → (from : ℕ) × (slice_get loads from ≡ Some other)
+    one index other there (inl same) = (place, is ∙ sym (put_there all place load below) ∙ ap (λ i. slice_get (slice_set all place load) i) (sym same) ∙ there)
+    one index other there (inr (inl before)) = away index other (λ same. absurd (omega (arith, before, same))) there
+    one index other there (inr (inr behind)) = away index other (λ same. absurd (omega (arith, behind, same))) there
+
+-- What is made of each of all, one by one, is made of each of these.
+module _ (loads all : List LoadObject) (fit : length loads ≤ MOST_OBJECTS) (padded : ArePadded loads all (length loads)) where
+  -- what holds of the item that was made of an object
+  made : {T : Type 0} (P : LoadObject → T → Type 0) (results : List T) → length results ≡ MOST_OBJECTS → ((i : ℕ) (d : LoadObject) (e : T) → i < MOST_OBJECTS → P (get_or all i d) (get_or results i e))
+      → (index : ℕ) (load : LoadObject) → slice_get loads index ≡ Some load → IsSomeAnd (slice_get (take (length loads) results) index) (P load)
+  made P results long at index load is =
+      let below : index < length loads = slice_get_within loads index load is in
+      let within : index < MOST_OBJECTS = omega (arith, below, fit) in
+      let same : get_or all index load ≡ load = get_or_from_slice_get all index load load (padded.own index below ∙ is) in
+      subst (λ found. IsSomeAnd found (P load)) (sym (take_get results (length loads) index below))
+      (some_at (P load) results index (omega (arith, within, long))
+      (λ other. subst (λ x. P x (get_or results index other)) same (at index load other within)))
+
+  counted : {T : Type 0} (results : List T) → length results ≡ MOST_OBJECTS → length (take (length loads) results) ≡ length loads
+  counted results long = length-take-le (length loads) results (omega (arith, fit, long))
+
+  objects_are : {E : Type 0} {r : _} (class size : ℕ) (objects : List (DynamicObject E r)) → length objects ≡ MOST_OBJECTS → ((i : ℕ) (d : LoadObject) (e : DynamicObject E r) → i < MOST_OBJECTS → IsObjectOfBytes class size (get_or all i d).file.now (get_or objects i e)) → AreObjectsOf class size loads (take (length loads) objects)
+  objects_are class size objects long at = record {
+    same_count = counted objects long;
+    each = made (λ load object. IsObjectOfBytes class size load.file.now object) objects long at;
+  }
+
+  places_are : (places : List Place) → length places ≡ MOST_OBJECTS → ((i : ℕ) (d : LoadObject) (e : Place) → i < MOST_OBJECTS → get_or places i e ≡ place_of (get_or all i d)) → ArePlacesOf loads (take (length loads) places)
+  places_are places long at = record {
+    same_count = counted places long;
+    each = λ index load is. some_is (slice_get (take (length loads) places) index) (place_of load) (made (λ one place. place ≡ place_of one) places long at index load is);
+  }
+
+  images_are : (images : List (Bor (List ℕ))) → length images ≡ MOST_OBJECTS → ((i : ℕ) (d : LoadObject) (e : Bor (List ℕ)) → i < MOST_OBJECTS → get_or images i e ≡ (get_or all i d).image) → AreImagesOf loads (take (length loads) images)
+  images_are images long at = record {
+    same_count = counted images long;
+    each = λ index load is. some_is (slice_get (take (length loads) images) index) load.image (made (λ one image. image ≡ one.image) images long at index load is);
+  }
+
+  -- why one of all is no object, is why one of these is none
+  one_refused : (class size : ℕ) (error : LinkError) (load : LoadObject) (index : ℕ) → slice_get all index ≡ Some load → IsRefusedAsObject class size load.file.now error → IsOneRefused class size loads error
+  one_refused class size error load index there why = let from = padded.one index load there in
+      record { index = from.0; load = load; load_is = from.1; why = why }
+
+  among_refused : (class size : ℕ) (error : LinkError) (load : LoadObject) → IsAmong all load → IsRefusedAsObject class size load.file.now error → IsOneRefused class size loads error
+  among_refused class size error load (i, (below, is)) why = one_refused class size error load i (slice_get_read all (length all) i load refl below is) why
+
+  -- the same by the calls that made them
+  objects_by : {E F : Type 0} {r : _} (g : Mut F (LoadObject × Unit {0}) (Result (DynamicObject E r) LinkError)) (class size : ℕ) (objects : List (DynamicObject E r)) → length objects ≡ MOST_OBJECTS
+      → ((i : ℕ) (d : LoadObject) (e : DynamicObject E r) → i < MOST_OBJECTS → (f : F) × (f' : F) × Called g f (get_or all i d, tt) (Ok (get_or objects i e)) f')
+      → ((a : LoadObject × Unit {0}) (answer : Result (DynamicObject E r) LinkError) (f f' : F) → Called g f a answer f' → MatchResult answer (IsObjectOfBytes class size a.0.file.now) (IsRefusedAsObject class size a.0.file.now))
+      → AreObjectsOf class size loads (take (length loads) objects)
+  objects_by g class size objects long at each = objects_are class size objects long
+      (λ i d e below. let call = at i d e below in each (get_or all i d, tt) (Ok (get_or objects i e)) call.0 call.1 call.2)
+
+  refused_by : {E F : Type 0} {r : _} (g : Mut F (LoadObject × Unit {0}) (Result (DynamicObject E r) LinkError)) (class size : ℕ) (error : LinkError)
+      → ((load : LoadObject) × IsAmong all load × (f : F) × (f' : F) × Called g f (load, tt) (Err error) f')
+      → ((a : LoadObject × Unit {0}) (answer : Result (DynamicObject E r) LinkError) (f f' : F) → Called g f a answer f' → MatchResult answer (IsObjectOfBytes class size a.0.file.now) (IsRefusedAsObject class size a.0.file.now))
+      → IsOneRefused class size loads error
+  refused_by g class size error (load, among, f, f', called) each = among_refused class size error load among (each (load, tt) (Err error) f f' called)
+
+  pub all_by : {E F : Type 0} {r : _} (g : Mut F (LoadObject × Unit {0}) (Result (DynamicObject E r) LinkError)) (class size : ℕ) (result : Result (List (DynamicObject E r)) LinkError)
+      → IfOk result (λ objects. AllZipBelow (λ x y. (f : F) × (f' : F) × Called g f (x, tt) (Ok y) f') all objects MOST_OBJECTS)
+      → IfErr result (λ error. (load : LoadObject) × IsAmong all load × (f : F) × (f' : F) × Called g f (load, tt) (Err error) f')
+      → ((a : LoadObject × Unit {0}) (answer : Result (DynamicObject E r) LinkError) (f f' : F) → Called g f a answer f' → MatchResult answer (IsObjectOfBytes class size a.0.file.now) (IsRefusedAsObject class size a.0.file.now))
+      → MatchResult result (λ objects. AreObjectsOf class size loads (take (length loads) objects)) (IsOneRefused class size loads)
+  all_by g class size (Ok objects) zip fails each = objects_by g class size objects zip.long zip.at each
+  all_by g class size (Err error) zip fails each = refused_by g class size error fails each
+
+  pub places_by : {F : Type 0} (g : Mut F (LoadObject × Unit {0}) Place) (places : List Place) → length places ≡ MOST_OBJECTS
+      → ((i : ℕ) (d : LoadObject) (e : Place) → i < MOST_OBJECTS → (f : F) × (f' : F) × Called g f (get_or all i d, tt) (get_or places i e) f')
+      → ((a : LoadObject × Unit {0}) (place : Place) (f f' : F) → Called g f a place f' → place ≡ place_of a.0)
+      → ArePlacesOf loads (take (length loads) places)
+  places_by g places long at each = places_are places long
+      (λ i d e below. let call = at i d e below in each (get_or all i d, tt) (get_or places i e) call.0 call.1 call.2)
+
+  pub images_by : {F : Type 0} (g : Mut F (LoadObject × Unit {0}) (Bor (List ℕ))) (images : List (Bor (List ℕ))) → length images ≡ MOST_OBJECTS
+      → ((i : ℕ) (d : LoadObject) (e : Bor (List ℕ)) → i < MOST_OBJECTS → (f : F) × (f' : F) × Called g f (get_or all i d, tt) (get_or images i e) f')
+      → ((a : LoadObject × Unit {0}) (image : Bor (List ℕ)) (f f' : F) → Called g f a image f' → image ≡ a.0.image)
+      → AreImagesOf loads (take (length loads) images)
+  images_by g images long at each = images_are images long
+      (λ i d e below. let call = at i d e below in each (get_or all i d, tt) (get_or images i e) call.0 call.1 call.2)

@@ -1,0 +1,83 @@
+-- The images of objects, and their relocation, by the files of the objects (this project's own).
+use Rattle.std.specs.Prelude.{◌≡◌, ℕ, ◌+◌, ◌-◌, ◌==◌, ◌<◌, true, false, List, length, IfOk, Result, Ok, Err, if◌then◌else◌}
+use Rattle.std.specs.Borrow.{Bor}
+use Rattle.elf_linking.specs.declared.error.LinkError.{LinkError}
+use Rattle.elf_linking.specs.declared.error.LinkError.TheVariants.{ObjectIndex}
+use Rattle.elf_linking.specs.declared.object.DynamicObject.{DynamicObject}
+use Rattle.elf_loading.specs.Bytes.{byte_number, byte_of}
+use Rattle.elf_loading.specs.FileCheck.{check_file}
+use Rattle.elf_loading.specs.ImageWords.{IsImageCheck}
+use Rattle.elf_loading.specs.OneWord.{IsByOneWordIn}
+use Rattle.elf_loading.specs.Relocate.{IsRelocationIn}
+use Rattle.elf_loading.specs.Segments.{loads_of}
+use Rattle.elf_loading.specs.Spans.{span_of}
+use Rattle.elf_loading.specs.declared.error.LoadError.{LoadError}
+use Rattle.elf_loading.specs.declared.error.LoadError.TheVariants.{ImageSize}
+use Rattle.elf_loading.specs.declared.mapping.Loader.{Loader}
+use Rattle.elf_loading.specs.declared.relocate.Place.{Place}
+use Rattle.elf_loading.specs.declared.words.Binding.{Binding}
+use Rattle.xmas_elf.specs.Symbol.{SymbolFields, dyn_entry_32_fields, dyn_entry_64_fields}
+use Rattle.xmas_elf.specs.Types.{DynEntry32, DynEntry64, ElfFile}
+use Rattle.elf_c.specs.LoadObjects.{AreImagesOf, AreObjectsOf, ArePlacesOf, IsOneRefused, as_refusal, is_first_narrow}
+use Rattle.elf_c.specs.LoadPlans.{if_checked}
+use Rattle.elf_c.specs.declared.load_objects.LoadObject.{LoadObject}
+use Rattle.elf_c.specs.declared.load_objects.TheConstants.{MOST_OBJECTS}
+use Rattle.elf_c.specs.declared.status.Refusal.{Refusal}
+use Rattle.elf_c.specs.declared.status.Refusal.TheVariants.{Link, Load}
+
+-- whether an image of `len` bytes can hold the span of a file, or why not
+abbrev pub image_answer : ElfFile → ℕ → ℕ → ℕ → Result (Unit {0}) Refusal
+image_answer file page limit len = let span = span_of page (loads_of file) in if_checked (check_file file page limit)
+    (if len == span.end - span.start then Ok tt else Err (Load ImageSize))
+
+-- the byte of a file's plan at an index from the start of its span on
+abbrev pub planned_byte : ElfFile → ℕ → Loader → ℕ → ℕ
+planned_byte file page by i = byte_number file.input.now
+    (byte_of page by (length file.input.now) ((span_of page (loads_of file)).start + i) (loads_of file))
+
+-- The check of an image, with `bits` marks.
+
+-- the result for files of one class
+pub data ChecksAs {E : Type 0} (r : _) (class size : ℕ) (fields : E → SymbolFields) (loads : List LoadObject) (of bits : ℕ) (result : Result (Unit {0}) Refusal) : Type 0 where
+  checked : (objects : List (DynamicObject E r)) (answer : Result (Unit {0}) LoadError) → AreObjectsOf class size loads objects
+      → IsImageCheck size fields objects of bits answer → result ≡ as_refusal answer
+      → ChecksAs r class size fields loads of bits result
+  unchecked : (error : LinkError) → IsOneRefused class size loads error → result ≡ Err (Link error)
+      → ChecksAs r class size fields loads of bits result
+
+-- the result: without an object, or with more than a call takes, an error; otherwise one by the class of the first file.
+-- The first two arguments say how the record of a symbol of each class is read
+pub data Checks (narrow_record wide_record : _) (loads : List LoadObject) (of bits : ℕ) (result : Result (Unit {0}) Refusal) : Type 0 where
+  checks_none : length loads ≡ 0 → result ≡ Err (Link ObjectIndex) → Checks narrow_record wide_record loads of bits result
+  checks_many : MOST_OBJECTS < length loads → result ≡ Err (Load ImageSize) → Checks narrow_record wide_record loads of bits result
+  checks_narrow : is_first_narrow loads ≡ true
+      → ChecksAs {E = DynEntry32} narrow_record 1 16 dyn_entry_32_fields loads of bits result
+      → Checks narrow_record wide_record loads of bits result
+  checks_wide : is_first_narrow loads ≡ false
+      → ChecksAs {E = DynEntry64} wide_record 2 24 dyn_entry_64_fields loads of bits result
+      → Checks narrow_record wide_record loads of bits result
+
+-- The relocation of an image.
+
+-- the result for files of one class. If it is Ok, the byte at each address that one word has is that of the word
+pub data RelocatesAs {E : Type 0} (r : _) (class size : ℕ) (fields : E → SymbolFields) (loads : List LoadObject) (of : ℕ) (when : Binding) (page : ℕ) (before after : List ℕ) (result : Result ℕ Refusal) : Type 0 where
+  relocated : (objects : Bor (List (DynamicObject E r))) (places : Bor (List Place)) (images : Bor (List (Bor (List ℕ))))
+      (answer : Result ℕ LoadError) → AreObjectsOf class size loads objects.now → ArePlacesOf loads places.now
+      → AreImagesOf loads images.now → IsRelocationIn fields objects of when page places images before after answer
+      → IfOk answer (λ count. IsByOneWordIn size fields objects of when page places images before after)
+      → result ≡ as_refusal answer → RelocatesAs r class size fields loads of when page before after result
+  unrelocated : (error : LinkError) → IsOneRefused class size loads error → result ≡ Err (Link error) → after ≡ before
+      → RelocatesAs r class size fields loads of when page before after result
+
+-- the result: without an object, or with more than a call takes, an error; otherwise one by the class of the first file
+pub data Relocates (narrow_record wide_record : _) (loads : List LoadObject) (of : ℕ) (when : Binding) (page : ℕ) (before after : List ℕ) (result : Result ℕ Refusal) : Type 0 where
+  relocates_none : length loads ≡ 0 → result ≡ Err (Link ObjectIndex) → after ≡ before
+      → Relocates narrow_record wide_record loads of when page before after result
+  relocates_many : MOST_OBJECTS < length loads → result ≡ Err (Load ImageSize) → after ≡ before
+      → Relocates narrow_record wide_record loads of when page before after result
+  relocates_narrow : is_first_narrow loads ≡ true
+      → RelocatesAs {E = DynEntry32} narrow_record 1 16 dyn_entry_32_fields loads of when page before after result
+      → Relocates narrow_record wide_record loads of when page before after result
+  relocates_wide : is_first_narrow loads ≡ false
+      → RelocatesAs {E = DynEntry64} wide_record 2 24 dyn_entry_64_fields loads of when page before after result
+      → Relocates narrow_record wide_record loads of when page before after result

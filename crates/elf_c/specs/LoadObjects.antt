@@ -1,0 +1,91 @@
+-- The objects of a process: a program and its libraries, in the order in which they are loaded (this project's own).
+use Rattle.std.specs.Prelude.{◌≡◌, ℕ, ◌==◌, ◌<◌, Bool, false, List, length, slice_get, IsSomeAnd, Option, Some, None, Result, Ok, Err, if◌then◌else◌}
+use Rattle.std.specs.Borrow.{Bor}
+use Rattle.elf_base.specs.FileHeader.{file_class, header_of}
+use Rattle.elf_base.specs.declared.error.ElfError.{ElfError}
+use Rattle.elf_linking.specs.DynamicObject.{IsReachedObject, IsReachedRefused}
+use Rattle.elf_linking.specs.declared.error.LinkError.{LinkError}
+use Rattle.elf_linking.specs.declared.error.LinkError.TheVariants.{Elf}
+use Rattle.elf_linking.specs.declared.object.DynamicObject.{DynamicObject}
+use Rattle.elf_loading.specs.declared.error.LoadError.{LoadError}
+use Rattle.elf_loading.specs.declared.relocate.Place.{Place}
+use Rattle.elf_loading.specs.declared.words.Binding.{Binding}
+use Rattle.elf_loading.specs.declared.words.Binding.TheVariants.{Lazy, Now}
+use Rattle.xmas_elf.specs.Types.{Header}
+use Rattle.xmas_elf.specs.declared.ElfFile.{ElfFile}
+use Rattle.elf_c.specs.declared.load_objects.LoadObject.{LoadObject}
+use Rattle.elf_c.specs.declared.load_objects.TheConstants.{MOST_OBJECTS}
+use Rattle.elf_c.specs.declared.status.Refusal.{Refusal}
+use Rattle.elf_c.specs.declared.status.Refusal.TheVariants.{Load}
+
+-- a header is of class 32
+abbrev pub is_narrow_header : Result Header ElfError → Bool
+is_narrow_header (Ok header) = file_class header == 1
+is_narrow_header (Err error) = false
+
+-- an object, if there is one, has a file that is of class 32
+abbrev pub is_narrow_load : Option LoadObject → Bool
+is_narrow_load None = false
+is_narrow_load (Some load) = is_narrow_header (header_of load.file.now)
+
+-- the first file is of class 32
+abbrev pub is_first_narrow : List LoadObject → Bool
+is_first_narrow loads = is_narrow_load (slice_get loads 0)
+
+-- the object is that of a file of this class, which these bytes are
+pub record IsObjectOfBytes {E : Type 0} {r : _} (class size : ℕ) (bytes : List ℕ) (object : DynamicObject E r) : Type 0 where
+  pub file : ElfFile
+  pub bytes_are : file.input.now ≡ bytes
+  pub header_is : header_of bytes ≡ Ok file.header
+  pub object_is : IsReachedObject class size file object
+
+-- why bytes are no such file: an error of their header, or of what a dynamic linker reads of it
+pub data IsRefusedAsObject (class size : ℕ) (bytes : List ℕ) : LinkError → Type 0 where
+  no_header : (error : ElfError) → header_of bytes ≡ Err error → IsRefusedAsObject class size bytes (Elf error)
+  no_object : (file : ElfFile) (error : LinkError) → file.input.now ≡ bytes → header_of bytes ≡ Ok file.header
+      → IsReachedRefused class size file error → IsRefusedAsObject class size bytes error
+
+-- the first `count` of all are these, and each of all is one of these
+pub record ArePadded (loads all : List LoadObject) (count : ℕ) : Type 0 where
+  pub long : length all ≡ MOST_OBJECTS
+  pub own : (index : ℕ) → index < count → slice_get all index ≡ slice_get loads index
+  pub one : (index : ℕ) (load : LoadObject) → slice_get all index ≡ Some load
+      → (place : ℕ) × (slice_get loads place ≡ Some load)
+
+-- the objects are those of the files, in order
+pub record AreObjectsOf {E : Type 0} {r : _} (class size : ℕ) (loads : List LoadObject) (objects : List (DynamicObject E r)) : Type 0 where
+  pub same_count : length objects ≡ length loads
+  pub each : (index : ℕ) (load : LoadObject) → slice_get loads index ≡ Some load
+      → IsSomeAnd (slice_get objects index) (IsObjectOfBytes class size load.file.now)
+
+-- one of the files is none of an object of this class, and why
+pub record IsOneRefused (class size : ℕ) (loads : List LoadObject) (error : LinkError) : Type 0 where
+  pub index : ℕ
+  pub load : LoadObject
+  pub load_is : slice_get loads index ≡ Some load
+  pub why : IsRefusedAsObject class size load.file.now error
+
+-- where an object is loaded
+abbrev pub place_of : LoadObject → Place
+place_of load = record { base = load.base; «module» = load.«module»; thread = load.thread }
+
+-- the places are those of the objects, in order
+pub record ArePlacesOf (loads : List LoadObject) (places : List Place) : Type 0 where
+  pub same_count : length places ≡ length loads
+  pub each : (index : ℕ) (load : LoadObject) → slice_get loads index ≡ Some load
+      → slice_get places index ≡ Some (place_of load)
+
+-- the images are those of the objects, in order
+pub record AreImagesOf (loads : List LoadObject) (images : List (Bor (List ℕ))) : Type 0 where
+  pub same_count : length images ≡ length loads
+  pub each : (index : ℕ) (load : LoadObject) → slice_get loads index ≡ Some load
+      → slice_get images index ≡ Some load.image
+
+-- when jump slots get their symbols: 1 when a function is called first, any other number before the program runs
+abbrev pub when_of : ℕ → Binding
+when_of lazy = if lazy == 1 then Lazy else Now
+
+-- the result of a call of the library as that of an export
+abbrev pub as_refusal : {A : Type 0} → Result A LoadError → Result A Refusal
+as_refusal (Ok value) = Ok value
+as_refusal (Err error) = Err (Load error)

@@ -1,0 +1,218 @@
+//! The images of objects: the bytes of a plan, and what relocations write to them.
+
+ghost use Rattle.std.specs.Prelude.{◌≡◌, ◌*◌, ◌<◌, ◌≤◌, ◌+◌, ℕ, Err, IfErr, IfOk, Result, length};
+ghost use Rattle.std.specs.Prelude.{slice_index};
+ghost use Rattle.elf_c.specs.LoadImages.{Checks, ChecksAs, Relocates, RelocatesAs, image_answer};
+ghost use Rattle.elf_c.specs.LoadImages.{planned_byte};
+ghost use Rattle.elf_c.specs.LoadObjects.{when_of};
+ghost use Rattle.elf_c.specs.LoadPlans.{limit_of, loader_of, page_of};
+ghost use Rattle.elf_c.specs.Parsed.{file_of};
+ghost use Rattle.elf_c.specs.Status.{GivesHere};
+ghost use Rattle.elf_c.specs.declared.status.Refusal.{Refusal};
+
+use crate::file::Parsed;
+use crate::load_objects::{
+    LoadObject, MOST_OBJECTS, images_of, is_first_narrow, objects_of, places_of, when_of,
+};
+use crate::load_plans::{limit_of, loader_of, page_of};
+use crate::status::{Refusal, give};
+use elf_base::bytes::Record;
+use elf_linking::LinkError;
+use elf_linking::scope::Scope;
+use elf_linking::view::LinkedSymbol;
+use elf_loading::{Binding, LoadError, LoadPlan, LoadScope, Loader};
+use xmas_elf::ElfFile;
+use xmas_elf::symbol_table::{DynEntry32, DynEntry64};
+
+// Writes the bytes of a file's plan to an image.
+fn fill_image(
+    file: &ElfFile<'_>,
+    page: u64,
+    limit: u64,
+    by: Loader,
+    image: &mut [u8],
+) -> Result<(), Refusal>
+    requires { 0 < page }
+    ensures exact { result ≡ image_answer file.now page limit (length image.old) }
+    ensures len { length image.new ≡ length image.old }
+    ensures bytes { IfOk result (λ done. (i : ℕ) → i < length image.new
+        → slice_index image.new i ≡ planned_byte file.now page by i) }
+    ensures same { IfErr result (λ error. image.new ≡ image.old) }
+{
+    let plan = LoadPlan::check_load(file, page, limit)?;
+    plan.fill(by, image)?;
+    Ok(())
+}
+
+/// Writes the bytes of the span of a file's plan to `image`, as a loader maps them before relocation.
+/// Byte `i` is that at the start of the span plus `i`, and 0 where no load segment has a page.
+///
+/// `page` and `limit` are as in `xmas_elf_load_plan`, and `loader` as in `xmas_elf_load_mappings`.
+/// Errors: those of `xmas_elf_load_plan`; `ImageSize` if `image` is not as long as the span. `image` is
+/// then unchanged.
+#[unsafe(no_mangle)]
+pub extern "C" fn xmas_elf_load_image(
+    input: &[u8],
+    header: &Parsed,
+    page: u64,
+    limit: u64,
+    loader: u32,
+    image: &mut [u8],
+) -> u32
+    ensures exact { let file = file_of input.entry header.now in
+        GivesHere (image_answer file (page_of page) (limit_of file limit) (length image.old)) tt result tt }
+    ensures len { length image.new ≡ length image.old }
+    ensures bytes { result ≡ 0 → let file = file_of input.entry header.now in
+        (i : ℕ) → i < length image.new
+        → slice_index image.new i ≡ planned_byte file (page_of page) (loader_of loader) i }
+    ensures same { 0 < result → image.new ≡ image.old }
+{
+    let file = header.file(input);
+    let limit = limit_of(&file, limit);
+    give(
+        fill_image(&file, page_of(page), limit, loader_of(loader), image),
+        &mut (),
+    )
+}
+
+// Checks that the words of an object of one class can be written.
+fn check_objects<E: LinkedSymbol>(
+    loads: &[LoadObject<'_>],
+    of: usize,
+    marks: &mut [u8],
+) -> Result<(), Refusal>
+    requires some { 0 < length loads.now }
+    requires fit { length loads.now ≤ MOST_OBJECTS }
+    ensures { ChecksAs {E = E} E.Record E.CLASS E.SIZE E.fields loads.now of (8 * length marks.old) result }
+{
+    let objects = match objects_of::<E>(loads) {
+        Ok(objects) => objects,
+        Err(error) => return Err(Refusal::Link(error)),
+    };
+    match Scope::new(&objects[..loads.len()]).check_image(of, marks) {
+        Ok(()) => Ok(()),
+        Err(error) => Err(Refusal::Load(error)),
+    }
+}
+
+// Checks that the words of an object can be written.
+fn check(loads: &[LoadObject<'_>], of: usize, marks: &mut [u8]) -> Result<(), Refusal>
+    ensures { Checks ⟦<DynEntry32 as Record>⟧ ⟦<DynEntry64 as Record>⟧ loads.now of
+        (8 * length marks.old) result }
+{
+    if loads.is_empty() {
+        return Err(Refusal::Link(LinkError::ObjectIndex));
+    }
+    if loads.len() > MOST_OBJECTS {
+        return Err(Refusal::Load(LoadError::ImageSize));
+    }
+    if is_first_narrow(loads) {
+        check_objects::<DynEntry32>(loads, of, marks)
+    } else {
+        check_objects::<DynEntry64>(loads, of, marks)
+    }
+}
+
+/// Checks that the words of the object at index `of` can be written before the program runs: the
+/// result of `elf_loading::LoadScope::check_image` for the files of the objects. Their images and
+/// numbers are not read.
+///
+/// `marks` has a bit for each byte of the span of the object's plan, so a byte for each eight, and one
+/// more; what it holds is overwritten.
+///
+/// Errors: `ImageSize` if there are more than 64 objects; those of `DynamicObject::read_reached` for
+/// one of the files; those of the check.
+#[unsafe(no_mangle)]
+pub extern "C" fn xmas_elf_check_image(objects: &[LoadObject<'_>], of: u64, marks: &mut [u8]) -> u32
+    ensures { (answer : Result (Unit {0}) Refusal)
+        × Checks ⟦<DynEntry32 as Record>⟧ ⟦<DynEntry64 as Record>⟧ objects.now of
+        (8 * length marks.old) answer × GivesHere answer tt result tt }
+{
+    give(check(objects, of as usize, marks), &mut ())
+}
+
+// Writes the words of an object of one class to its image.
+fn relocate_objects<E: LinkedSymbol>(
+    loads: &[LoadObject<'_>],
+    of: usize,
+    when: Binding,
+    page: u64,
+    image: &mut [u8],
+) -> Result<u64, Refusal>
+    requires some { 0 < length loads.now }
+    requires fit { length loads.now ≤ MOST_OBJECTS }
+    requires paged { 0 < page }
+    ensures exact { RelocatesAs {E = E} E.Record E.CLASS E.SIZE E.fields loads.now of when page image.old
+        image.new result }
+    ensures len { length image.new ≡ length image.old }
+{
+    let objects = match objects_of::<E>(loads) {
+        Ok(objects) => objects,
+        Err(error) => return Err(Refusal::Link(error)),
+    };
+    let (places, images) = (places_of(loads), images_of(loads));
+    let count = loads.len();
+    let scope = Scope::new(&objects[..count]);
+    match scope.relocate(of, when, page, &places[..count], &images[..count], image) {
+        Ok(left) => Ok(left),
+        Err(error) => Err(Refusal::Load(error)),
+    }
+}
+
+// Writes the words of an object to its image.
+fn relocate(
+    loads: &[LoadObject<'_>],
+    of: usize,
+    when: Binding,
+    page: u64,
+    image: &mut [u8],
+) -> Result<u64, Refusal>
+    requires { 0 < page }
+    ensures exact { Relocates ⟦<DynEntry32 as Record>⟧ ⟦<DynEntry64 as Record>⟧ loads.now of when page
+        image.old image.new result }
+    ensures len { length image.new ≡ length image.old }
+{
+    if loads.is_empty() {
+        return Err(Refusal::Link(LinkError::ObjectIndex));
+    }
+    if loads.len() > MOST_OBJECTS {
+        return Err(Refusal::Load(LoadError::ImageSize));
+    }
+    if is_first_narrow(loads) {
+        relocate_objects::<DynEntry32>(loads, of, when, page, image)
+    } else {
+        relocate_objects::<DynEntry64>(loads, of, when, page, image)
+    }
+}
+
+/// Writes the words of the object at index `of` to its image: the result of
+/// `elf_loading::LoadScope::relocate` for the files, the places and the images of the objects. `count`
+/// is set to the number of words without a number, whose bytes stay as they are: results of functions,
+/// and descriptors of thread-local storage.
+///
+/// `image` holds the bytes that `xmas_elf_load_image` writes for pages of `page` bytes (0 means 4096),
+/// and is no part of the `image` of an object. `lazy` is 1 if jump slots get their symbols when a
+/// function is called first, and any other number if they get them now.
+///
+/// Errors: `ImageSize` if there are more than 64 objects; those of `DynamicObject::read_reached` for
+/// one of the files; those of the library's call. `count` is then unchanged, and the words before the
+/// first that can't be written are written.
+#[unsafe(no_mangle)]
+pub extern "C" fn xmas_elf_relocate(
+    objects: &[LoadObject<'_>],
+    of: u64,
+    lazy: u32,
+    page: u64,
+    image: &mut [u8],
+    count: &mut u64,
+) -> u32
+    ensures exact { (answer : Result ℕ Refusal)
+        × Relocates ⟦<DynEntry32 as Record>⟧ ⟦<DynEntry64 as Record>⟧ objects.now of (when_of lazy)
+        (page_of page) image.old image.new answer × GivesHere answer count.old result count.new }
+    ensures len { length image.new ≡ length image.old }
+{
+    give(
+        relocate(objects, of as usize, when_of(lazy), page_of(page), image),
+        count,
+    )
+}

@@ -1,0 +1,129 @@
+//! The objects of a process: the program and its libraries, with their files, and where they are loaded.
+
+ghost use Rattle.std.specs.Prelude.{◌≡◌, ◌<◌, ◌≤◌, MatchResult, length, take};
+ghost use Rattle.elf_base.specs.FileHeader.{header_of};
+ghost use Rattle.elf_c.specs.LoadObjects.{AreImagesOf, AreObjectsOf, ArePadded, ArePlacesOf};
+ghost use Rattle.elf_c.specs.LoadObjects.{IsObjectOfBytes, IsOneRefused, IsRefusedAsObject};
+ghost use Rattle.elf_c.specs.LoadObjects.{is_first_narrow, is_narrow_header, place_of, when_of};
+
+use elf_linking::view::LinkedSymbol;
+use elf_linking::{DynamicObject, LinkError};
+use elf_loading::{Binding, Place};
+use xmas_elf::ElfFile;
+
+/// The most objects that a call takes.
+pub const MOST_OBJECTS: usize = 64;
+
+/// An object of a process: its file, and where it is loaded.
+#[repr(C)]
+#[derive(Clone, Copy, Debug)]
+pub struct LoadObject<'a> {
+    /// The bytes of the file.
+    pub file: &'a [u8],
+    /// Its image after relocation, if bytes of it are copied to another; otherwise it may be empty.
+    pub image: &'a [u8],
+    /// The number that is added to its addresses.
+    pub base: u64,
+    /// The number of its module of thread-local storage.
+    pub module: u64,
+    /// The offset of its thread-local storage from the thread pointer, modulo 2^64.
+    pub thread: u64,
+}
+
+// When jump slots get their symbols; 1 means when a function is called first.
+#[inline(always)]
+pub(crate) fn when_of(lazy: u32) -> Binding
+    ensures { result ≡ when_of lazy }
+{
+    if lazy == 1 {
+        Binding::Lazy
+    } else {
+        Binding::Now
+    }
+}
+
+// Whether the first file is of class 32.
+pub(crate) fn is_first_narrow(loads: &[LoadObject<'_>]) -> bool
+    ensures { result ≡ is_first_narrow loads.now }
+{
+    match loads.first() {
+        Some(load) => is_narrow(load.file),
+        None => false,
+    }
+}
+
+// Whether bytes begin with a header of class 32.
+fn is_narrow(bytes: &[u8]) -> bool
+    ensures { result ≡ is_narrow_header (header_of bytes.now) }
+{
+    match ElfFile::new(bytes) {
+        Ok(file) => file.header.pt1.class.raw() == 1,
+        Err(_) => false,
+    }
+}
+
+// The object of a file.
+fn read_object<'a, E: LinkedSymbol>(bytes: &'a [u8]) -> Result<DynamicObject<'a, E>, LinkError>
+    ensures exact { MatchResult result (IsObjectOfBytes E.CLASS E.SIZE bytes.now)
+        (IsRefusedAsObject E.CLASS E.SIZE bytes.now) }
+{
+    match ElfFile::new(bytes) {
+        Ok(file) => DynamicObject::read_reached(&file),
+        Err(error) => Err(LinkError::Elf(error)),
+    }
+}
+
+// The objects in a room for the most; after them the first one again.
+fn padded<'a>(loads: &[LoadObject<'a>]) -> [LoadObject<'a>; MOST_OBJECTS]
+    requires some { 0 < length loads.now }
+    requires fit { length loads.now ≤ MOST_OBJECTS }
+    ensures { ArePadded loads.now result (length loads.now) }
+{
+    let mut all = [loads[0]; MOST_OBJECTS];
+    for index in 0..loads.len() {
+        all[index] = loads[index];
+    }
+    all
+}
+
+// The objects of the files in their order; after them the object of the first file again.
+pub(crate) fn objects_of<'a, E: LinkedSymbol>(
+    loads: &[LoadObject<'a>],
+) -> Result<[DynamicObject<'a, E>; MOST_OBJECTS], LinkError>
+    requires some { 0 < length loads.now }
+    requires fit { length loads.now ≤ MOST_OBJECTS }
+    ensures { MatchResult result
+        (λ objects. AreObjectsOf E.CLASS E.SIZE loads.now (take (length loads.now) objects))
+        (IsOneRefused E.CLASS E.SIZE loads.now) }
+{
+    padded(loads).try_map(|load| read_object(load.file))
+}
+
+// The place of an object.
+fn place_of(load: LoadObject<'_>) -> Place
+    ensures { result ≡ place_of load.entry }
+{
+    Place {
+        base: load.base,
+        module: load.module,
+        thread: load.thread,
+    }
+}
+
+// The places of the objects in their order; after them that of the first one again.
+pub(crate) fn places_of(loads: &[LoadObject<'_>]) -> [Place; MOST_OBJECTS]
+    requires some { 0 < length loads.now }
+    requires fit { length loads.now ≤ MOST_OBJECTS }
+    ensures { ArePlacesOf loads.now (take (length loads.now) result) }
+{
+    padded(loads).map(|load| place_of(load))
+}
+
+// The images of the objects in their order; after them that of the first one again.
+pub(crate) fn images_of<'a>(loads: &[LoadObject<'a>]) -> [&'a [u8]; MOST_OBJECTS]
+    requires some { 0 < length loads.now }
+    requires fit { length loads.now ≤ MOST_OBJECTS }
+    ensures { AreImagesOf loads.now (take (length loads.now) result) }
+{
+    padded(loads).map(|load| load.image)
+}
