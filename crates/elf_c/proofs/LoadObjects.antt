@@ -48,12 +48,12 @@ repeated zero i x y is = absurd (cc)
 repeated (suc n) zero x y is = some_same x y is
 repeated (suc n) (suc i) x y is = repeated n i x y is
 
--- the first one in each place
-pub padded_none : (loads : List LoadObject) (first : LoadObject) → slice_get loads 0 ≡ Some first → ArePadded loads (replicate MOST_OBJECTS first) 0
-padded_none loads first is = record {
-  long = length-replicate MOST_OBJECTS first;
+-- one of them in each place
+pub padded_none : (loads : List LoadObject) (spare : LoadObject) → (place : ℕ) × (slice_get loads place ≡ Some spare) → ArePadded loads (replicate MOST_OBJECTS spare) 0
+padded_none loads spare (place, is) = record {
+  long = length-replicate MOST_OBJECTS spare;
   own = λ index below. absurd (omega (arith, below));
-  one = λ index load there. (0, is ∙ ap (λ x. Some x) (repeated MOST_OBJECTS index first load there));
+  one = λ index load there. (place, is ∙ ap (λ x. Some x) (repeated MOST_OBJECTS index spare load there));
 }
 
 -- one more in its place

@@ -1,6 +1,6 @@
 //! The objects of a process: the program and its libraries, with their files, and where they are loaded.
 
-ghost use Rattle.std.specs.Prelude.{◌≡◌, ◌<◌, ◌≤◌, MatchResult, length, take};
+ghost use Rattle.std.specs.Prelude.{◌≡◌, ◌<◌, ◌≤◌, MatchResult, Some, ℕ, length, slice_get, take};
 ghost use Rattle.elf_base.specs.FileHeader.{header_of};
 ghost use Rattle.elf_c.specs.LoadObjects.{AreImagesOf, AreObjectsOf, ArePadded, ArePlacesOf};
 ghost use Rattle.elf_c.specs.LoadObjects.{IsObjectOfBytes, IsOneRefused, IsRefusedAsObject};
@@ -73,20 +73,34 @@ fn read_object<'a, E: LinkedSymbol>(bytes: &'a [u8]) -> Result<DynamicObject<'a,
     }
 }
 
-// The objects in a room for the most; after them the first one again.
+// The object with the smallest file.
+fn smallest<'a>(loads: &[LoadObject<'a>]) -> LoadObject<'a>
+    requires { 0 < length loads.now }
+    ensures { (place : ℕ) × (slice_get loads.now place ≡ Some result) }
+{
+    let mut found = loads[0];
+    for index in 0..loads.len() {
+        if loads[index].file.len() < found.file.len() {
+            found = loads[index];
+        }
+    }
+    found
+}
+
+// The objects in a room for the most; after them one again, whose file takes the least time to read.
 fn padded<'a>(loads: &[LoadObject<'a>]) -> [LoadObject<'a>; MOST_OBJECTS]
     requires some { 0 < length loads.now }
     requires fit { length loads.now ≤ MOST_OBJECTS }
     ensures { ArePadded loads.now result (length loads.now) }
 {
-    let mut all = [loads[0]; MOST_OBJECTS];
+    let mut all = [smallest(loads); MOST_OBJECTS];
     for index in 0..loads.len() {
         all[index] = loads[index];
     }
     all
 }
 
-// The objects of the files in their order; after them the object of the first file again.
+// The objects of the files in their order; after them the object of the smallest file again.
 pub(crate) fn objects_of<'a, E: LinkedSymbol>(
     loads: &[LoadObject<'a>],
 ) -> Result<[DynamicObject<'a, E>; MOST_OBJECTS], LinkError>
@@ -110,7 +124,7 @@ fn place_of(load: LoadObject<'_>) -> Place
     }
 }
 
-// The places of the objects in their order; after them that of the first one again.
+// The places of the objects in their order; after them that of one of them again.
 pub(crate) fn places_of(loads: &[LoadObject<'_>]) -> [Place; MOST_OBJECTS]
     requires some { 0 < length loads.now }
     requires fit { length loads.now ≤ MOST_OBJECTS }
@@ -119,7 +133,7 @@ pub(crate) fn places_of(loads: &[LoadObject<'_>]) -> [Place; MOST_OBJECTS]
     padded(loads).map(|load| place_of(load))
 }
 
-// The images of the objects in their order; after them that of the first one again.
+// The images of the objects in their order; after them that of one of them again.
 pub(crate) fn images_of<'a>(loads: &[LoadObject<'a>]) -> [&'a [u8]; MOST_OBJECTS]
     requires some { 0 < length loads.now }
     requires fit { length loads.now ≤ MOST_OBJECTS }

@@ -1,6 +1,6 @@
 -- The tables that a dynamic linker reads while it relocates a file, and whether it can (gABI, "Dynamic Section"; what
 -- is asked of them as glibc 2.36 has it).
-use Rattle.std.specs.Prelude.{ℕ, ◌+◌, ◌-◌, ◌*◌, ◌%◌, ◌^◌, ◌==◌, ◌&&◌, ◌||◌, not, min, bit_and, is_none, is_some, Bool, true, false, List, [], ◌∷◌, ◌++◌, length, Option, None, Some, Result, if◌then◌else◌}
+use Rattle.std.specs.Prelude.{ℕ, ◌+◌, ◌-◌, ◌*◌, ◌%◌, ◌^◌, ◌==◌, ◌&&◌, ◌||◌, not, min, max, bit_and, is_none, is_some, Bool, true, false, List, [], ◌∷◌, ◌++◌, length, Option, None, Some, Result, if◌then◌else◌}
 use Rattle.std.specs.List.{list_any}
 use Rattle.elf_base.specs.FileHeader.{file_class}
 use Rattle.elf_base.specs.Refusal.{and_then, unless}
@@ -67,11 +67,15 @@ symbol_tables size object = let entries = view_entries (object_view object) in
     ∷ table_of_size entries (hash_tag (object_table object)) (hash_size (object_file object) (object_table object) count)
     ∷ table_of_size entries DT_VERSYM (2 * count) ∷ []
 
--- the bytes of a segment in memory
+-- the number of bytes of a segment: those in memory, or those in the file if these are more
+abbrev pub segment_size : ProgramHeader64 → ℕ
+segment_size segment = max segment.mem_size segment.file_size
+
+-- the bytes of a segment
 abbrev pub segment_extent : Option ProgramHeader → Extent
 segment_extent None = record { start = None; size = None }
-segment_extent (Some program) =
-    record { start = Some (program_fields program).virtual_addr; size = Some (program_fields program).mem_size }
+segment_extent (Some program) = let segment = program_fields program in
+    record { start = Some segment.virtual_addr; size = Some (segment_size segment) }
 
 -- all tables that a dynamic linker reads while it relocates a file: these, and the dynamic segment
 abbrev pub tables_of : {E : Type 0} → {r : _} → ℕ → DynamicObject E r → List Extent
@@ -131,7 +135,7 @@ holds_dynamic dynamic (Some program) = let load = program_fields program in
 abbrev pub is_dynamic_lost : ElfFile → Option ProgramHeader → Bool
 is_dynamic_lost file None = true
 is_dynamic_lost file (Some program) = let dynamic = program_fields program in
-    not (holds_dynamic dynamic (segment_at_of file dynamic.virtual_addr dynamic.mem_size))
+    not (holds_dynamic dynamic (segment_at_of file dynamic.virtual_addr (segment_size dynamic)))
 
 -- the machine and the class are not those of x86-64 (62), 386 (3) or AArch64 (183)
 abbrev pub is_other_machine : ElfFile → Bool

@@ -163,7 +163,8 @@ fn is_dynamic_lost(file: &ElfFile<'_>, dynamic: &Option<ProgramHeader>) -> bool
         return true;
     };
     let dynamic = fields(program);
-    let holder = segment_at(file, dynamic.virtual_addr, dynamic.mem_size);
+    let size = dynamic.mem_size.max(dynamic.file_size);
+    let holder = segment_at(file, dynamic.virtual_addr, size);
     !holds_dynamic(&dynamic, &holder)
 }
 
@@ -214,7 +215,7 @@ fn hash_tag(table: &AnyTable<'_>) -> u64
     }
 }
 
-// The bytes of a segment in memory.
+// The bytes of a segment, as many as it has in memory or in the file: entries are read in the file.
 fn segment_extent(program: &Option<ProgramHeader>) -> Extent
     ensures { result ≡ segment_extent program.now }
 {
@@ -223,7 +224,7 @@ fn segment_extent(program: &Option<ProgramHeader>) -> Extent
             let segment = fields(program);
             Extent {
                 start: Some(segment.virtual_addr),
-                size: Some(segment.mem_size),
+                size: Some(segment.mem_size.max(segment.file_size)),
             }
         }
         None => Extent {

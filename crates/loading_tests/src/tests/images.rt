@@ -156,6 +156,12 @@ const TABLES_64: &[Row] = &[
         &[(DYNAMIC, program_64::MEM_SIZE, 0x381)],
         Err(LoadError::Dynamic),
     ),
+    // one without bytes in memory still has its entries in the file
+    (&[(DYNAMIC, program_64::MEM_SIZE, 0)], Ok(())),
+    (
+        &[(DYNAMIC, program_64::MEM_SIZE, 0), (FIRST, WIDE, 0x1310)],
+        Err(LoadError::WordInTable),
+    ),
     (&[(LOAD, program_64::FLAGS, 2)], Err(LoadError::Dynamic)),
     (&[(DYNAMIC, program_64::FLAGS, 6)], Ok(())),
     (
