@@ -18,7 +18,8 @@ Jump slots get their symbols at once (LD_BIND_NOW), or with --lazy 1 when they a
 
 Each difference is counted by its cause: `unique`, since glibc merges symbols of type STB_GNU_UNIQUE by name; `linker`, the
 data of the linker itself; `early libc`, what the C library writes before the first constructor; `dynamic`, where the linker adds
-the base to an entry of a dynamic segment, or writes DT_DEBUG. With --lazy 1 also `lazy`, the two words at DT_PLTGOT that are
+the base to an entry of a dynamic segment, or writes DT_DEBUG; `resolver`, what the functions of a file that the linker calls for
+its words write into its zeros, as libgcc does into `__cpu_model`. With --lazy 1 also `lazy`, the two words at DT_PLTGOT that are
 the linker's, and `bound`, slots that have their symbols: those of the linker, and those that the C library has called. Another
 difference is a line, and the exit status is then 1. It needs ptrace on x86-64: where that is not allowed or the machine is
 another, the script says so, and passes.
@@ -317,6 +318,11 @@ def cause_of_byte(file: File, address: int, is_writable: bool, held: bytes, link
     return "early libc" if is_writable and is_early(file) else None
 
 
+def has_calls(words: List[Word]) -> bool:
+    """Whether the linker calls a function of a file for one of its words."""
+    return any(it.value.startswith("call(") for it in words)
+
+
 class Process(NamedTuple):
     """A process that is stopped where relocation is done, and the words of its files if all slots get their symbols at once."""
 
@@ -358,7 +364,9 @@ def differing(one: bytes, other: bytes) -> Iterator[int]:
             yield from (start + place for place, (left, right) in enumerate(zip(*parts)) if left != right)
 
 
-def compare_load(of: Process, file: File, load: Segment, words: Dict[int, bytes], compared: Set[Tuple[str, int]], tally: Tally) -> None:
+def compare_load(
+    of: Process, file: File, load: Segment, words: Dict[int, bytes], calls: bool, compared: Set[Tuple[str, int]], tally: Tally
+) -> None:
     """Compares the bytes of a load segment; of one without words that can't be written once for all processes."""
     start, wanted, size = down(load.address), image_of(file, load), shape_of(file.path).size
     is_writable = bool(load.flags & WRITABLE)
@@ -378,6 +386,8 @@ def compare_load(of: Process, file: File, load: Segment, words: Dict[int, bytes]
         is_open = is_writable and not (relro and down(relro.address) <= start + place < down(relro.address + relro.size))
         first = (start + place) // size * size - start
         cause = cause_of_byte(file, start + place, is_open, memory[first : first + size], of.linker)
+        if calls and is_open and not cause and start + place >= load.address + load.file_size:
+            cause = "resolver"
         if cause:
             tally[f"bytes {cause}"] += 1
         else:
@@ -393,7 +403,7 @@ def compare_memory(of: Process, text: str, compared: Set[Tuple[str, int]], tally
         found = compare_words(of, index, words[index], tally)
         for load in segments_of(file.path):
             if load.kind == LOAD:
-                compare_load(of, file, load, found, compared, tally)
+                compare_load(of, file, load, found, has_calls(words[index]), compared, tally)
     tally["programs"] += 1
     tally["files"] += len(of.files)
 
