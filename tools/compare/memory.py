@@ -1,11 +1,11 @@
 #!/usr/bin/env python3
 """Compare what elfload says of memory with that of programs that Linux and the dynamic linker have loaded.
 
-    tools/compare/memory.py [--elfload PATH] [--lazy 1] PROGRAM..
+    tools/compare/memory.py [--elfload PATH] [--lazy 1] [--root FOLDER] [--step N] [--seconds N] PROGRAM..
 
-The programs are the dynamically linked ones among the files, and in the folders among them. Each is run in a process that
-ptrace stops before the first constructor (`to_relocated`). Its files are those of the linker's list, in that order, without
-linux-vdso. Two things are compared:
+The programs are the dynamically linked ones among the files, and in the folders among them; with --step each Nth, and after
+--seconds those that are left are only counted. Each is run in a process that ptrace stops before the first constructor
+(`to_relocated`). Its files are those of the linker's list, in that order, without linux-vdso. Two things are compared:
 
 - each word that elfload prints of these files, with the bases of the list, and with the numbers of thread-local storage that
   glibc chooses (`thread_offsets`). A word with a function that the linker calls, and a descriptor, has no number;
@@ -13,9 +13,13 @@ linux-vdso. Two things are compared:
 
 Jump slots get their symbols at once (LD_BIND_NOW), or with --lazy 1 when they are called first (elfload --lazy).
 
+--root names a folder with the files of another system, in which the programs are. Those of AArch64 are run by qemu-aarch64
+(`emulated.py`). Those of 386 are run by this system's linker of class 32, which finds their libraries by LD_LIBRARY_PATH.
+
 Each difference is counted by its cause: `unique`, since glibc merges symbols of type STB_GNU_UNIQUE by name; `linker`, the
 data of the linker itself; `early libc`, what the C library writes before the first constructor; `dynamic`, where the linker adds
-the base to an entry of a dynamic segment, or writes DT_DEBUG. With --lazy 1 also `lazy`, the two words at DT_PLTGOT that are
+the base to an entry of a dynamic segment, or writes DT_DEBUG; `resolver`, what the functions of a file that the linker calls for
+its words write into its zeros, as libgcc does into `__cpu_model`. With --lazy 1 also `lazy`, the two words at DT_PLTGOT that are
 the linker's, and `bound`, slots that have their symbols: those of the linker, and those that the C library has called. Another
 difference is a line, and the exit status is then 1. It needs ptrace on x86-64: where that is not allowed or the machine is
 another, the script says so, and passes.
@@ -25,11 +29,13 @@ import os
 import re
 import struct
 import sys
+import time
 from typing import Dict, Iterator, List, NamedTuple, Optional, Set, Tuple
 
 import damage
-from bindings import programs_in, real
+from bindings import linker_of, programs_in, real
 from comparing import LOAD, UNIQUE, Tally, dynamic_symbols, parser_of, run
+from emulated import Emulated, can_emulate
 from loads import PAGE, Stopped, can_trace, content_of, is_narrow, linker_in, to_debug_state, value_of
 
 WORD = re.compile(r"word 0x([0-9a-f]+) (\d+) (\w+) = (.*)")
@@ -42,6 +48,12 @@ NO_NUMBER = re.compile(r"call\((?:base\(\d+\) \+ )?0x[0-9a-f]+\) \+ 0x[0-9a-f]+|
 DYNAMIC, THREAD_LOCAL, RELRO = 2, 7, 0x6474E552
 PLT_GOT, DEBUG = 3, 21
 WRITABLE = 2
+# The most bytes that the resolvers of a file may leave: __cpu_model of libgcc, and the features beside it.
+RESOLVED = 32
+# The machine AArch64 in an ELF header, and how far above the thread pointer its first thread-local storage begins.
+AARCH64, BLOCK = 183, 16
+# The folders of libraries of 386.
+LIBRARIES = ("lib/i386-linux-gnu", "usr/lib/i386-linux-gnu")
 
 
 class Segment(NamedTuple):
@@ -66,6 +78,10 @@ def layout_of(path: str) -> damage.Layout:
 
 def address_size(path: str) -> int:
     return 4 if is_narrow(path) else 8
+
+
+def is_aarch64(path: str) -> bool:
+    return int.from_bytes(content_of(path)[18:20], "little") == AARCH64
 
 
 @functools.lru_cache(maxsize=None)
@@ -126,22 +142,51 @@ def image_of(file: File, load: Segment) -> bytearray:
     return held
 
 
+class Storage(NamedTuple):
+    """The thread-local storage of a file: its index, its size and alignment, and how far its start is below an aligned address."""
+
+    index: int
+    size: int
+    align: int
+    first: int
+
+
+def storages_of(files: List[File]) -> Iterator[Storage]:
+    for index, file in enumerate(files):
+        if segment := last_of(file.path, THREAD_LOCAL):
+            align = max(segment.align, 1)
+            yield Storage(index, segment.size, align, -segment.address % align)
+
+
 def thread_offsets(files: List[File]) -> Dict[int, int]:
     """How far below the thread pointer glibc puts thread-local storage, by the index of its file (_dl_determine_tlsoffset)."""
     found, end, free, free_end = {}, 0, 0, 0
-    for index, file in enumerate(files):
-        storage = last_of(file.path, THREAD_LOCAL)
-        if storage is None:
-            continue
-        align, first = max(storage.align, 1), -storage.address % max(storage.align, 1)
-        place = lambda after: -(-(after + storage.size - first) // align) * align + first
-        if free_end - free >= storage.size and place(free) <= free_end:
+    for index, size, align, first in storages_of(files):
+        place = lambda after: -(-(after + size - first) // align) * align + first
+        if free_end - free >= size and place(free) <= free_end:
             found[index] = free = place(free)
             continue
         at = place(end)
-        if at > end + storage.size + free_end - free:
-            free, free_end = end, at - storage.size
+        if at > end + size + free_end - free:
+            free, free_end = end, at - size
         found[index] = end = at
+    return found
+
+
+def thread_offsets_above(files: List[File]) -> Dict[int, int]:
+    """The same for AArch64, where it is above the thread pointer."""
+    found, end, free, free_end = {}, BLOCK, 0, 0
+    for index, size, align, first in storages_of(files):
+        up_to = lambda after: -(-after // align) * align
+        place = lambda after: up_to(after) + (align if up_to(after) - after < first else 0) - first
+        if size <= free_end - free and place(free) + size <= free_end:
+            found[index] = place(free)
+            free = found[index] + size
+            continue
+        found[index] = place(end)
+        if found[index] - end > free_end - free:
+            free, free_end = end, found[index]
+        end = found[index] + size
     return found
 
 
@@ -149,9 +194,10 @@ class Numbers:
     """The numbers of words by the files of a process."""
 
     def __init__(self, files: List[File]) -> None:
-        threads = thread_offsets(files)
+        is_above = is_aarch64(files[0].path)
+        threads = thread_offsets_above(files) if is_above else {index: -it for index, it in thread_offsets(files).items()}
         self.files, self.modules = files, {index: number for number, index in enumerate(threads, 1)}
-        self.terms = {"base": [it.base for it in files], "thread": {index: -it for index, it in threads.items()}}
+        self.terms = {"base": [it.base for it in files], "thread": threads}
 
     def of(self, word: Word) -> Optional[int]:
         """The number of a word, if it has one."""
@@ -183,8 +229,34 @@ def words_of(text: str) -> List[List[Word]]:
     return found
 
 
-def to_relocated(process: Stopped) -> Optional[Tuple[str, int]]:
+class Root(NamedTuple):
+    """The folder of the system in which programs are: that of this one is empty."""
+
+    path: str
+
+    def start(self, program: str, is_lazy: bool) -> Stopped:
+        """Starts a process, which stops before its first instruction."""
+        variables = {} if is_lazy else {"LD_BIND_NOW": "1"}
+        if self.path and is_aarch64(program):
+            return Emulated(program, self.path, **variables)
+        if self.path:
+            variables["LD_LIBRARY_PATH"] = ":".join(os.path.join(self.path, it) for it in LIBRARIES)
+        return Stopped(program, **variables)
+
+    def holds(self, path: str) -> bool:
+        return not self.path or path.startswith(self.path + "/")
+
+
+def file_of(process: Stopped, name: str) -> str:
+    """The path of a file that a process calls by a name: qemu looks for it in the folder of the system first."""
+    own = process.root + name if isinstance(process, Emulated) else name
+    return real(own if os.path.isfile(own) else name)
+
+
+def to_relocated(process: Stopped, program: str) -> Optional[Tuple[str, int]]:
     """Runs up to where relocation is done and no constructor has run; the linker and its base, if the process gets there."""
+    if isinstance(process, Emulated):
+        return process.to_relocated(file_of(process, linker_of(program) or ""))
     if not process.is_stopped() or not process.to_read_only() or not to_debug_state(process):
         return None
     return linker_in(process, process.maps())
@@ -200,7 +272,8 @@ def files_of(process: Stopped, program: str, linker: str, base: int) -> Iterator
     (at,) = struct.unpack(f"<{form}", process.memory(base + value_of(linker, "_r_debug") + size, size))
     while at:
         moved, name, _, at = struct.unpack(f"<4{form}", process.memory(at, 4 * size))
-        path = real(text_at(process, name) or program)
+        called = text_at(process, name)
+        path = file_of(process, called) if called else program
         if os.path.isfile(path):
             yield File(path, moved, path in (program, linker))
 
@@ -234,6 +307,11 @@ def cause_of_byte(file: File, address: int, is_writable: bool, held: bytes, link
     if file.path == linker:
         return "linker"
     return "early libc" if is_writable and is_early(file) else None
+
+
+def has_calls(words: List[Word]) -> bool:
+    """Whether the linker calls a function of a file for one of its words."""
+    return any(it.value.startswith("call(") for it in words)
 
 
 class Process(NamedTuple):
@@ -277,7 +355,9 @@ def differing(one: bytes, other: bytes) -> Iterator[int]:
             yield from (start + place for place, (left, right) in enumerate(zip(*parts)) if left != right)
 
 
-def compare_load(of: Process, file: File, load: Segment, words: Dict[int, bytes], compared: Set[Tuple[str, int]], tally: Tally) -> None:
+def compare_load(
+    of: Process, file: File, load: Segment, words: Dict[int, bytes], calls: bool, compared: Set[Tuple[str, int]], tally: Tally
+) -> None:
     """Compares the bytes of a load segment; of one without words that can't be written once for all processes."""
     start, wanted, size = down(load.address), image_of(file, load), address_size(file.path)
     is_writable = bool(load.flags & WRITABLE)
@@ -292,11 +372,14 @@ def compare_load(of: Process, file: File, load: Segment, words: Dict[int, bytes]
     tally["bytes"] += len(memory)
     if len(memory) != len(wanted):
         tally.fault(f"{of.program}: {file.path}: of {load} memory has {len(memory)} bytes")
+    resolved = 0
     for place in differing(memory, bytes(wanted)):
         relro = last_of(file.path, RELRO)
         is_open = is_writable and not (relro and down(relro.address) <= start + place < down(relro.address + relro.size))
         first = (start + place) // size * size - start
         cause = cause_of_byte(file, start + place, is_open, memory[first : first + size], of.linker)
+        if calls and is_open and not cause and start + place >= load.address + load.file_size and resolved < RESOLVED:
+            cause, resolved = "resolver", resolved + 1
         if cause:
             tally[f"bytes {cause}"] += 1
         else:
@@ -312,16 +395,16 @@ def compare_memory(of: Process, text: str, compared: Set[Tuple[str, int]], tally
         found = compare_words(of, index, words[index], tally)
         for load in segments_of(file.path):
             if load.kind == LOAD:
-                compare_load(of, file, load, found, compared, tally)
+                compare_load(of, file, load, found, has_calls(words[index]), compared, tally)
     tally["programs"] += 1
     tally["files"] += len(of.files)
 
 
-def compare(program: str, is_lazy: bool, compared: Set[Tuple[str, int]], tally: Tally) -> None:
+def compare(program: str, root: Root, is_lazy: bool, compared: Set[Tuple[str, int]], tally: Tally) -> None:
     """Compares the memory of a program and its libraries."""
-    process = Stopped(program, **({} if is_lazy else {"LD_BIND_NOW": "1"}))
+    process = root.start(program, is_lazy)
     try:
-        linker = to_relocated(process)
+        linker = to_relocated(process, program)
         if linker is None:
             tally["not loaded"] += 1
             return
@@ -338,14 +421,22 @@ def compare(program: str, is_lazy: bool, compared: Set[Tuple[str, int]], tally: 
 
 
 def main() -> int:
-    given = parser_of(__doc__, "elfload", files="+", lazy=0).parse_args()
+    parser = parser_of(__doc__, "elfload", files="+", lazy=0, step=1, seconds=0)
+    parser.add_argument("--root", default="", metavar="FOLDER")
+    given = parser.parse_args()
     if not can_trace():
         print("0 programs, 0 differences: no process can be stopped by ptrace here")
         return 0
+    root, began = Root(given.root and real(given.root)), time.monotonic()
     tally = Tally(given.elfload, "programs", "not loaded", "files", "words", "equal", "without a number", "bytes")
     compared: Set[Tuple[str, int]] = set()
-    for program in programs_in(given.files):
-        compare(program, bool(given.lazy), compared, tally)
+    for program in [it for it in programs_in(given.files) if root.holds(it)][:: given.step]:
+        if given.seconds and time.monotonic() - began > given.seconds:
+            tally["left for want of time"] += 1
+        elif is_aarch64(program) and not can_emulate():
+            tally["left for want of an emulator"] += 1
+        else:
+            compare(program, root, bool(given.lazy), compared, tally)
     return tally.ended()
 
 
