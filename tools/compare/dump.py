@@ -8,8 +8,8 @@ Takes FILE, else 300 files spread over the small ones of the system. Compared ar
 headers: the needed libraries, the name and the run path, the build id, the dynamic symbols with their versions, the versions
 needed and defined, the dynamic entries and the relocations; of each file besides its sections; and for up to 200 names with a
 version the symbol that is found by both, and by the name alone where the version is the default one. The programs in C print
-the build id, these symbols, and the entries and relocations of the dynamic segment. A file without sections, or of debugging
-data alone, is passed over. The archive is that of crates/elf_c/out, or of the folder that XMAS_ELF_ARCHIVE names."""
+the build id, these symbols, and the entries and relocations of the dynamic segment. A file without sections, of debugging
+data alone, or with a dynamic segment without symbols, is passed over. The archive is that of crates/elf_c/out, or of the folder that XMAS_ELF_ARCHIVE names."""
 import concurrent.futures
 import functools
 import itertools
@@ -90,8 +90,10 @@ class Wanted:
             *(f"definition {number(it)} {it['Name']}" for it in parts(said, "VersionDefinitions", "Definition"))]
         packed = {it.section: len(it.packed) for it in relocation_tables(path)}
         count = lambda it: it["Size"] // it["EntrySize"] if raw(it["Type"]) in (4, 9) and it["EntrySize"] else packed.get(it["Name"]["Value"], 0)
-        # A file of debugging data alone has not the bytes of its dynamic segment.
+        # A file of debugging data alone has not the bytes of its dynamic segment. Guile's objects have no symbols in theirs.
         self.is_bare = any(raw(it["Type"]) == 8 and it["Name"]["Value"] == ".dynamic" for it in parts(said, "Sections", "Section"))
+        dynamic = run(["readelf", "-dW", "--", path]).output
+        self.is_bare |= "Dynamic section at" in dynamic and "(SYMTAB)" not in dynamic
         self.sections = [f"section {it['Index']} {it['Name']['Value']} {it['Size']} {count(it)}" for it in parts(said, "Sections", "Section")]
         # What is asked for, and the value, the version and the index that are found.
         self.found, values = {}, {name: value for value, name in self.symbols}

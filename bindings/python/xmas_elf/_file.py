@@ -22,7 +22,8 @@ from ._reading import Reading
 from ._rows import Row, batches, one, rows
 from ._tables import packed_relocations_of, relocations_of
 from ._versions import Version, versions
-from .constants import DT, DT_NEEDED, DT_NULL, DT_RPATH, DT_RUNPATH, DT_SONAME, ELFOSABI, EM, ET, NT_GNU_BUILD_ID, PT_DYNAMIC, PT_NOTE
+from .constants import DT, DT_NEEDED, DT_NULL, DT_RPATH, DT_RUNPATH, DT_SONAME, DT_SYMTAB, ELFOSABI, EM, ET
+from .constants import NT_GNU_BUILD_ID, PT_DYNAMIC, PT_NOTE
 from .constants import SHT_DYNAMIC, SHT_DYNSYM, SHT_NOTE, SHT_REL, SHT_RELA, SHT_RELR, SHT_SYMTAB, SHT_SYMTAB_SHNDX
 
 # A name that is an error only for the type of its section is read from the name table.
@@ -184,7 +185,8 @@ class ElfFile(Reading):
 
     def dynamic_symbols(self) -> Iterator[Symbol]:
         """The symbols of the dynamic segment with their names (DT_SYMTAB), as many as its hash tables count: GNU's alone
-        doesn't count symbols after the last exported one. None if there is no such segment. It needs no sections."""
+        doesn't count symbols after the last exported one. None if there is no such segment, or no DT_SYMTAB in it. It needs
+        no sections."""
         table = self._dynamic_table
         if table is not None:
             yield from symbols_of(self, table)
@@ -394,11 +396,13 @@ class ElfFile(Reading):
 
     @property
     def _dynamic_table(self) -> Any:
-        """The symbols of the dynamic segment, found once; None without a segment."""
+        """The symbols of the dynamic segment, found once; None without a segment, and without an entry DT_SYMTAB in it."""
         try:
             return self._table("xmas_elf_dynamic_symbols_open")
         except ElfError as error:
             if error.status == Status.LINK_NO_DYNAMIC:
+                return None
+            if error.status == Status.LINK_NO_ENTRY and all(it.tag != DT_SYMTAB for it in self._entries_of_segment()):
                 return None
             raise
 
