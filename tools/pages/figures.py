@@ -34,6 +34,7 @@ def of(crate: str, *others: str) -> tuple:
 PATHS = {
     "bench/run.sh": of("elf_c", "bench", "bindings/c/speed.c"),
     "bench/layouts.sh": of("xmas_elf", "bench/here", "bench/peers"),
+    "bench/relocate.py": of("elf_c", "bench/relocate.c"),
     "bench/growth.sh": of("elf_linking", "bench/here", "bench/files.sh", "bench/hostile.py"),
     "elfinfo": of("elfinfo", "bench/hostile.py"),
     **dict.fromkeys((r"\time", "rt"), ("crates/elf_base", "crates/elf_records", "crates/xmas_elf")),

@@ -1,9 +1,9 @@
 -- The plan of a load and its mappings, as numbers.
-use Rattle.std.proofs.Common.{◌≡◌, ◌+◌, ◌≤◌, ℕ, List, length, map, Option, None, Some, MatchOption, option_map, Result, Ok, Err, refl, sym, ap, subst, ◌∙◌, arith}
+use Rattle.std.proofs.Common.{◌≡◌, ◌+◌, ◌≤◌, ℕ, List, length, map, Option, None, Some, MatchOption, option_map, Result, sym, ap, subst, ◌∙◌, arith}
 use Rattle.std.specs.Borrow.{Bor}
 use Rattle.elf_base.proofs.Texts.{bytes-ended, zero_within}
 use Rattle.elf_base.specs.Lent.{LiesAt}
-use Rattle.elf_base.specs.Text.{EndsInZero, bytes_up_to_zero_of}
+use Rattle.elf_base.specs.Text.{EndsInZero}
 use Rattle.elf_loading.specs.Mappings.{mappings_of}
 use Rattle.elf_loading.specs.Plan.{IsPlanOf, plan_loads}
 use Rattle.elf_loading.specs.Segments.{loads_of}
@@ -13,7 +13,7 @@ use Rattle.elf_loading.specs.declared.plan.LoadPlan.{LoadPlan}
 use Rattle.xmas_elf.specs.Types.{ElfFile, ProgramHeader64}
 use Rattle.elf_c.specs.Batch.{Fills}
 use Rattle.elf_c.specs.LoadPlans.{if_checked, mapping_at, mapping_record, mapping_records, path_range, path_size}
-use Rattle.elf_c.specs.Records.{LiesIn, found_in, range_at}
+use Rattle.elf_c.specs.Records.{found_in, range_at}
 use Rattle.elf_c.specs.declared.load_plans.LoadMapping.{LoadMapping}
 use Rattle.elf_c.specs.declared.status.Refusal.{Refusal}
 
