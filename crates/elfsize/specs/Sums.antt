@@ -1,5 +1,5 @@
 -- The bytes of files by kind of part (this project's own).
-use Rattle.std.specs.Prelude.{◌≡◌, ℕ, ◌+◌, ◌-◌, ◌/◌, ◌%◌, ◌==◌, ◌^◌, List, IfOk, if◌then◌else◌, map, min, slice_index}
+use Rattle.std.specs.Prelude.{◌≡◌, ℕ, ◌+◌, ◌-◌, ◌/◌, ◌%◌, ◌==◌, ◌++◌, ◌^◌, List, IfOk, codes, decimal, if◌then◌else◌, map, min, slice_index}
 use Rattle.std.specs.Borrow.{Bor}
 use Rattle.elf_base.specs.FileHeader.{header_of}
 use Rattle.elfsize.specs.Parts.{AreRuns}
@@ -56,3 +56,16 @@ with_sums one other = record {
 abbrev pub all_of : Sums → ℕ
 all_of sums = added (added (added (added (added (added sums.sections sums.segments) sums.elf_headers) sums.program_headers)
     sums.section_headers) sums.between) sums.after
+
+-- what is written of sums: a line for each kind, and one for the bytes of all kinds
+abbrev pub sums_text : Sums → List ℕ
+sums_text sums =
+    codes "all files\n" ++ (decimal sums.sections
+    ++ (codes " sections\n" ++ (decimal sums.segments
+    ++ (codes " segments\n" ++ (decimal sums.elf_headers
+    ++ (codes " ELF headers\n" ++ (decimal sums.program_headers
+    ++ (codes " program headers\n" ++ (decimal sums.section_headers
+    ++ (codes " section headers\n" ++ (decimal sums.between
+    ++ (codes " between parts\n" ++ (decimal sums.after
+    ++ (codes " after all parts\n" ++ (decimal (all_of sums)
+    ++ codes " sum\n")))))))))))))))

@@ -1,8 +1,8 @@
 //! The bytes of files by kind of part.
 
-ghost use Rattle.std.specs.Prelude.{◌≡◌, ◌<◌, ◌^◌, IfOk, map, slice_index};
+ghost use Rattle.std.specs.Prelude.{◌≡◌, ◌<◌, ◌^◌, IfOk, Some, map, slice_index};
 ghost use Rattle.elfsize.specs.Sums.{AreInputSums, AreSums, all_of, kind_of, kind_run, sums_of};
-ghost use Rattle.elfsize.specs.Sums.{with_sums};
+ghost use Rattle.elfsize.specs.Sums.{sums_text, with_sums};
 ghost use Rattle.elfsize.specs.Totals.{AreTotals, all_bytes};
 
 use crate::parts::file_runs;
@@ -75,16 +75,21 @@ impl Sums {
 }
 
 impl Display for Sums {
+    ghost output = { λ sums. Some (sums_text sums) };
+
     fn fmt<W: fmt::Write>(&self, f: &mut fmt::Formatter<W>) -> fmt::Result {
-        writeln!(f, "all files")?;
-        writeln!(f, "{} sections", self.sections)?;
-        writeln!(f, "{} segments", self.segments)?;
-        writeln!(f, "{} ELF headers", self.elf_headers)?;
-        writeln!(f, "{} program headers", self.program_headers)?;
-        writeln!(f, "{} section headers", self.section_headers)?;
-        writeln!(f, "{} between parts", self.between)?;
-        writeln!(f, "{} after all parts", self.after)?;
-        write!(f, "{} sum", self.all())
+        write!(
+            f,
+            "all files\n{} sections\n{} segments\n{} ELF headers\n{} program headers\n{} section headers\n{} between parts\n{} after all parts\n{} sum\n",
+            self.sections,
+            self.segments,
+            self.elf_headers,
+            self.program_headers,
+            self.section_headers,
+            self.between,
+            self.after,
+            self.all()
+        )
     }
 }
 
