@@ -2,7 +2,7 @@
 
 ghost use Rattle.std.specs.Prelude.{◌≡◌, ◌<◌, ◌^◌, IfOk, Some, map, slice_index};
 ghost use Rattle.elfsize.specs.Sums.{AreInputSums, AreSums, all_of, kind_of, kind_run, sums_of};
-ghost use Rattle.elfsize.specs.Sums.{sums_text, with_sums};
+ghost use Rattle.elfsize.specs.Sums.{sums_line, sums_text, with_sums};
 ghost use Rattle.elfsize.specs.Totals.{AreTotals, all_bytes};
 
 use crate::parts::file_runs;
@@ -80,16 +80,29 @@ impl Display for Sums {
     fn fmt<W: fmt::Write>(&self, f: &mut fmt::Formatter<W>) -> fmt::Result {
         write!(
             f,
-            "all files\n{} sections\n{} segments\n{} ELF headers\n{} program headers\n{} section headers\n{} between parts\n{} after all parts\n{} sum\n",
-            self.sections,
-            self.segments,
-            self.elf_headers,
-            self.program_headers,
-            self.section_headers,
-            self.between,
-            self.after,
-            self.all()
+            "all files\n{}{}{}{}{}{}{}{}",
+            Line(self.sections, "sections"),
+            Line(self.segments, "segments"),
+            Line(self.elf_headers, "ELF headers"),
+            Line(self.program_headers, "program headers"),
+            Line(self.section_headers, "section headers"),
+            Line(self.between, "between parts"),
+            Line(self.after, "after all parts"),
+            Line(self.all(), "sum")
         )
+    }
+}
+
+// A number of bytes, and what they belong to.
+#[derive(Clone, Copy)]
+struct Line<'a>(u128, &'a str);
+
+impl Display for Line<'_> {
+    ghost output = { λ line. Some (sums_line line.0 line.1.now) };
+
+    #[tactic(auto, unfolding(crate::specs::Sums::sums_line))]
+    fn fmt<W: fmt::Write>(&self, f: &mut fmt::Formatter<W>) -> fmt::Result {
+        writeln!(f, "{} {}", self.0, self.1)
     }
 }
 
