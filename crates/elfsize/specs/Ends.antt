@@ -103,8 +103,8 @@ pub record AreEnds {R S : Type 0} (view : View) (remaining : R → Option (List 
   pub status_is : status ≡ status_of_all ends
   pub sums_are : sums ≡ sums_of_all ends
 
--- the exit status of the program after files: that of all; after more than one, their sums were appended to what the writer
--- contained; or it is 1, since they could not be written
+-- the exit status of the program after files: 1 if one of them has a fault, otherwise 0, and after more than one their sums
+-- were appended to what the writer contained; or after more than one it is 1, and nothing is known of their sums
 pub data IsStatus {R S W : Type 0} (view : View) (remaining : R → Option (List ℕ)) (text : S → List ℕ) (contents : W → Option (List ℕ)) (paths : List S) (after : W) (status : ℕ) : Type 0 where
   few : (sums : Sums) → length paths ≤ 1 → AreEnds view remaining text paths status sums
       → IsStatus view remaining text contents paths after status
