@@ -1,5 +1,5 @@
 -- The status and the sums of files, one after the other.
-use Rattle.std.proofs.Common.{◌≡◌, ◌<◌, ◌≤◌, ◌+◌, ◌-◌, ◌^◌, ◌∷◌, ◌++◌, [], ℕ, List, Option, Result, Ok, Err, Bool, true, false, ap, arith, get_or, length, min, max, refl, sym, subst, take, ◌∙◌}
+use Rattle.std.proofs.Common.{◌≡◌, ◌<◌, ◌+◌, ◌-◌, ◌^◌, ◌∷◌, ◌++◌, [], ℕ, List, Option, Result, Ok, Err, Bool, true, false, ap, arith, get_or, length, min, max, refl, sym, subst, take, ◌∙◌}
 use Rattle.std.specs.Prelude.{◌||◌, if◌then◌else◌, is_err}
 use Rattle.std.specs.List.{AllZip, list_any, sum_by}
 use Rattle.std.proofs.lemmas.List.{take_more}

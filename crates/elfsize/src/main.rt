@@ -185,14 +185,7 @@ fn run_on_arguments(rt: &HostRuntime) -> io::Result<u8> {
         return Ok(say(&Fault::Usage, &mut rt.stdout()));
     }
     let (mut out, mut err) = (rt.stdout(), rt.stderr());
-    Ok(run_on_paths(
-        rt.alloc(),
-        rt,
-        view,
-        paths,
-        &mut out,
-        &mut err,
-    ))
+    Ok(run_on_paths(rt.alloc(), rt, view, paths, &mut out, &mut err))
 }
 
 // The view and the files that the arguments ask for.

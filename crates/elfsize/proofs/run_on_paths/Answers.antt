@@ -1,4 +1,4 @@
-use Rattle.std.proofs.Common.{◌<◌, ◌≤◌, length, arith}
+use Rattle.std.proofs.Common.{arith}
 use Rattle.elfsize.specs.Ends.{few, summed}
 use Rattle.elfsize.proofs.run_on_paths.Goals as goal
 
