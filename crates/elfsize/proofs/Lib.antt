@@ -1,3 +1,4 @@
+mod FileEnds
 mod NoSections
 mod Inputs
 mod KindRuns

@@ -1,10 +1,12 @@
 -- How the program ends (this project's own).
-use Rattle.std.specs.Prelude.{◌≡◌, ℕ, List, Option, Result, Ok, Err, IfSome, IsSomeAnd, ⊤}
+use Rattle.std.specs.Prelude.{◌≡◌, ℕ, ◌-◌, ◌<◌, ◌≤◌, ◌^◌, List, Option, Result, Ok, Err, IfSome, IsSomeAnd, if◌then◌else◌, is_err, length, min, ⊤}
 use Rattle.std.specs.Borrow.{Bor}
+use Rattle.std.specs.Io.KnownBytes.{Appends}
+use Rattle.std.specs.List.{AllZip, list_any, sum_by}
 use Rattle.elfsize.specs.Lines.{IsInputRefused, IsInputText, IsInputThere}
 use Rattle.elfsize.specs.declared.Fault as faults
 use Rattle.elfsize.specs.declared.Fault.TheVariants as faults_are
-use Rattle.elfsize.specs.Sums.{AreInputSums, with_sums}
+use Rattle.elfsize.specs.Sums.{AreInputSums, sums_text, with_sums}
 use Rattle.elfsize.specs.View.{shown}
 use Rattle.elfsize.specs.declared.sums.Sums.{Sums}
 use Rattle.elfsize.specs.declared.lines.Refusal as refusals
@@ -61,3 +63,52 @@ status_of (Err fault) = 1
 abbrev pub sums_after : Sums → Result Sums faults.Fault → Sums
 sums_after before (Ok sums) = with_sums before sums
 sums_after before (Err fault) = before
+
+-- All files.
+
+-- the file at a path with this text ends so: of what is opened there, or of nothing
+abbrev pub IsEndAt : {R : Type 0} → View → (R → Option (List ℕ)) → List ℕ → Result Sums faults.Fault → Type 0
+IsEndAt {R} view remaining text end =
+    (path : Bor (List ℕ)) × (path.now ≡ text) × (file : Option R) × IsEnd view path remaining file end
+
+-- the exit status of files that end so: 1 if one of them has a fault
+abbrev pub status_of_all : List (Result Sums faults.Fault) → ℕ
+status_of_all ends = if list_any is_err ends then 1 else 0
+
+-- the bytes of a kind of a file that was printed
+abbrev pub printed : (Sums → ℕ) → Result Sums faults.Fault → ℕ
+printed kind (Ok sums) = kind sums
+printed kind (Err fault) = 0
+
+-- the bytes of a kind of all files that were printed; at most 2 to the 128 minus 1
+abbrev pub printed_by_all : (Sums → ℕ) → List (Result Sums faults.Fault) → ℕ
+printed_by_all kind ends = min (sum_by (printed kind) ends) (2 ^ 128 - 1)
+
+-- the sums of all files that were printed
+abbrev pub sums_of_all : List (Result Sums faults.Fault) → Sums
+sums_of_all ends = record {
+  sections = printed_by_all (λ sums. sums.sections) ends;
+  segments = printed_by_all (λ sums. sums.segments) ends;
+  elf_headers = printed_by_all (λ sums. sums.elf_headers) ends;
+  program_headers = printed_by_all (λ sums. sums.program_headers) ends;
+  section_headers = printed_by_all (λ sums. sums.section_headers) ends;
+  between = printed_by_all (λ sums. sums.between) ends;
+  after = printed_by_all (λ sums. sums.after) ends;
+}
+
+-- the files at paths end so, with this exit status and these sums
+pub record AreEnds {R S : Type 0} (view : View) (remaining : R → Option (List ℕ)) (text : S → List ℕ) (paths : List S) (status : ℕ) (sums : Sums) : Type 0 where
+  pub ends : List (Result Sums faults.Fault)
+  pub are : AllZip (λ path end. IsEndAt view remaining (text path) end) paths ends
+  pub status_is : status ≡ status_of_all ends
+  pub sums_are : sums ≡ sums_of_all ends
+
+-- the exit status of the program after files: 1 if one of them has a fault, otherwise 0, and after more than one their sums
+-- were appended to what the writer contained; or after more than one it is 1, and nothing is known of their sums
+pub data IsStatus {R S W : Type 0} (view : View) (remaining : R → Option (List ℕ)) (text : S → List ℕ) (contents : W → Option (List ℕ)) (paths : List S) (after : W) (status : ℕ) : Type 0 where
+  few : (sums : Sums) → length paths ≤ 1 → AreEnds view remaining text paths status sums
+      → IsStatus view remaining text contents paths after status
+  summed : (sums : Sums) (before : W) → 1 < length paths → AreEnds view remaining text paths status sums
+      → Appends (contents before) (contents after) (sums_text sums)
+      → IsStatus view remaining text contents paths after status
+  unwritten : 1 < length paths → status ≡ 1 → IsStatus view remaining text contents paths after status

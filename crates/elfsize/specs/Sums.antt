@@ -1,5 +1,5 @@
 -- The bytes of files by kind of part (this project's own).
-use Rattle.std.specs.Prelude.{◌≡◌, ℕ, ◌+◌, ◌-◌, ◌/◌, ◌%◌, ◌==◌, ◌^◌, List, IfOk, if◌then◌else◌, map, min, slice_index}
+use Rattle.std.specs.Prelude.{◌≡◌, ℕ, ◌+◌, ◌-◌, ◌/◌, ◌%◌, ◌==◌, ◌++◌, ◌^◌, List, IfOk, codes, decimal, if◌then◌else◌, map, min, slice_index}
 use Rattle.std.specs.Borrow.{Bor}
 use Rattle.elf_base.specs.FileHeader.{header_of}
 use Rattle.elfsize.specs.Parts.{AreRuns}
@@ -56,3 +56,19 @@ with_sums one other = record {
 abbrev pub all_of : Sums → ℕ
 all_of sums = added (added (added (added (added (added sums.sections sums.segments) sums.elf_headers) sums.program_headers)
     sums.section_headers) sums.between) sums.after
+
+-- a line of sums: a number of bytes, and what they belong to
+unfoldable pub sums_line : ℕ → List ℕ → List ℕ
+sums_line bytes kind = decimal bytes ++ (codes " " ++ (kind ++ codes "\n"))
+
+-- what is written of sums: a line for each kind, and one for the bytes of all kinds
+abbrev pub sums_text : Sums → List ℕ
+sums_text sums =
+    codes "all files\n" ++ (sums_line sums.sections (codes "sections")
+    ++ (sums_line sums.segments (codes "segments")
+    ++ (sums_line sums.elf_headers (codes "ELF headers")
+    ++ (sums_line sums.program_headers (codes "program headers")
+    ++ (sums_line sums.section_headers (codes "section headers")
+    ++ (sums_line sums.between (codes "between parts")
+    ++ (sums_line sums.after (codes "after all parts")
+    ++ sums_line (all_of sums) (codes "sum"))))))))

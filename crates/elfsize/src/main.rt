@@ -8,7 +8,8 @@
 #![tactic(auto)]
 
 ghost use Rattle.std.specs.Prelude.{◌≡◌, ◌≤◌, IfErr, IfOk, Result};
-ghost use Rattle.elfsize.specs.Ends.{IsBegun, IsEnd, IsFault, OfFile, fault_of, status_of, sums_after};
+ghost use Rattle.elfsize.specs.Ends.{AreEnds, IsBegun, IsEnd, IsEndAt, IsFault, IsStatus, OfFile};
+ghost use Rattle.elfsize.specs.Ends.{fault_of, status_of, sums_after};
 ghost use Rattle.elfsize.specs.Lines.{IsInputRefused, IsInputText};
 ghost use Rattle.elfsize.specs.Sums.{AreInputSums};
 ghost use Rattle.elfsize.specs.declared.sums.Sums.{Sums};
@@ -24,6 +25,7 @@ use std::convert::AsStr;
 use std::fs::File;
 use std::io::{IsTerminal, Read, Write};
 use std::process::ExitCode;
+use std::rt::{Clock, Files};
 use std::time::Instant;
 use std::{env, io};
 use thiserror::Error;
@@ -182,7 +184,8 @@ fn run_on_arguments(rt: &HostRuntime) -> io::Result<u8> {
     if paths.is_empty() {
         return Ok(say(&Fault::Usage, &mut rt.stdout()));
     }
-    Ok(run_on_paths(rt, view, paths))
+    let (mut out, mut err) = (rt.stdout(), rt.stderr());
+    Ok(run_on_paths(rt.alloc(), rt, view, paths, &mut out, &mut err))
 }
 
 // The view and the files that the arguments ask for.
@@ -194,31 +197,78 @@ fn asked<S: AsStr>(arguments: &[S]) -> (View, &[S]) {
     }
 }
 
-// The status for all files: 1 if that of one is.
-fn run_on_paths<S: AsStr>(rt: &HostRuntime, view: View, paths: &[S]) -> u8
-    ensures { result ≤ 1 }
+// Writes the sizes of the files at these paths, and the sums of more than one. The status is 1 if that
+// of a file is, or if the sums can't be written.
+fn run_on_paths<R: Files + Clock, S: AsStr, W: Write, E: Write + IsTerminal>(
+    alloc: Global,
+    rt: &R,
+    view: View,
+    paths: &[S],
+    out: &mut W,
+    err: &mut E,
+) -> u8
+    ensures { IsStatus view R.File.Read.remaining S.text W.contents paths.now out.new result }
 {
-    let (mut out, mut err) = (rt.stdout(), rt.stderr());
+    let (status, sums) = run_on_each(alloc, rt, view, paths, &mut *out, &mut *err);
+    if paths.len() < 2 {
+        return status;
+    }
+    match write!(out, "{}", sums) {
+        Ok(()) => status,
+        Err(_) => say(&Fault::Write, err),
+    }
+}
+
+// Writes the sizes of the files at these paths. The status is 1 if that of one is; and their sums.
+fn run_on_each<R: Files + Clock, S: AsStr, W: Write, E: Write + IsTerminal>(
+    alloc: Global,
+    rt: &R,
+    view: View,
+    paths: &[S],
+    out: &mut W,
+    err: &mut E,
+) -> (u8, Sums)
+    ensures { AreEnds view R.File.Read.remaining S.text paths.now result.0 result.1 }
+{
     let (mut status, mut sums) = (0, Sums::NONE);
     for path in paths {
-        let path = path.as_str();
-        let began = Instant::now(rt);
-        let file = File::open(rt, path).ok();
-        let own = run(rt.alloc(), view, path, file, &mut out, &mut err, &mut sums);
+        let text = path.as_str();
+        let own = run_on_path(alloc, rt, view, text, &mut *out, &mut *err, &mut sums);
         status = own.max(status);
-        tell_progress(rt, began, path);
     }
-    if paths.len() > 1 && writeln!(out, "{}", sums).is_err() {
-        return say(&Fault::Write, &mut err);
-    }
+    (status, sums)
+}
+
+// Writes the sizes of the file at a path, as `run` does.
+fn run_on_path<R: Files + Clock, W: Write, E: Write + IsTerminal>(
+    alloc: Global,
+    rt: &R,
+    view: View,
+    path: &str,
+    out: &mut W,
+    err: &mut E,
+    sums: &mut Sums,
+) -> u8
+    ensures { (end : Result Sums Fault)
+        × IsEndAt view R.File.Read.remaining path.now end × (result ≡ status_of end)
+        × (sums.new ≡ sums_after sums.old end) }
+{
+    let began = Instant::now(rt);
+    let file = File::open(rt, path).ok();
+    let status = run(alloc, view, path, file, &mut *out, &mut *err, sums);
+    tell_progress(rt, began, path, err);
     status
 }
 
-// After a file that took longer than a second, says so where standard error is a terminal.
-fn tell_progress(rt: &HostRuntime, began: io::Result<Instant>, path: &str) {
+// After a file that took longer than a second, says so where `err` is a terminal.
+fn tell_progress<R: Clock, E: Write + IsTerminal>(
+    rt: &R,
+    began: io::Result<Instant>,
+    path: &str,
+    err: &mut E,
+) {
     let Ok(began) = began else { return };
     let Ok(took) = began.elapsed(rt) else { return };
-    let mut err = rt.stderr();
     if took.as_secs() > 0 && err.is_terminal() {
         let _ = writeln!(err, "elfsize: {path}: {} s", took.as_secs());
     }

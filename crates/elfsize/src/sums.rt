@@ -1,8 +1,8 @@
 //! The bytes of files by kind of part.
 
-ghost use Rattle.std.specs.Prelude.{◌≡◌, ◌<◌, ◌^◌, IfOk, map, slice_index};
+ghost use Rattle.std.specs.Prelude.{◌≡◌, ◌<◌, ◌^◌, IfOk, Some, map, slice_index};
 ghost use Rattle.elfsize.specs.Sums.{AreInputSums, AreSums, all_of, kind_of, kind_run, sums_of};
-ghost use Rattle.elfsize.specs.Sums.{with_sums};
+ghost use Rattle.elfsize.specs.Sums.{sums_line, sums_text, with_sums};
 ghost use Rattle.elfsize.specs.Totals.{AreTotals, all_bytes};
 
 use crate::parts::file_runs;
@@ -75,16 +75,34 @@ impl Sums {
 }
 
 impl Display for Sums {
+    ghost output = { λ sums. Some (sums_text sums) };
+
     fn fmt<W: fmt::Write>(&self, f: &mut fmt::Formatter<W>) -> fmt::Result {
-        writeln!(f, "all files")?;
-        writeln!(f, "{} sections", self.sections)?;
-        writeln!(f, "{} segments", self.segments)?;
-        writeln!(f, "{} ELF headers", self.elf_headers)?;
-        writeln!(f, "{} program headers", self.program_headers)?;
-        writeln!(f, "{} section headers", self.section_headers)?;
-        writeln!(f, "{} between parts", self.between)?;
-        writeln!(f, "{} after all parts", self.after)?;
-        write!(f, "{} sum", self.all())
+        write!(
+            f,
+            "all files\n{}{}{}{}{}{}{}{}",
+            Line(self.sections, "sections"),
+            Line(self.segments, "segments"),
+            Line(self.elf_headers, "ELF headers"),
+            Line(self.program_headers, "program headers"),
+            Line(self.section_headers, "section headers"),
+            Line(self.between, "between parts"),
+            Line(self.after, "after all parts"),
+            Line(self.all(), "sum")
+        )
+    }
+}
+
+// A number of bytes, and what they belong to.
+#[derive(Clone, Copy)]
+struct Line<'a>(u128, &'a str);
+
+impl Display for Line<'_> {
+    ghost output = { λ line. Some (sums_line line.0 line.1.now) };
+
+    #[tactic(auto, unfolding(crate::specs::Sums::sums_line))]
+    fn fmt<W: fmt::Write>(&self, f: &mut fmt::Formatter<W>) -> fmt::Result {
+        writeln!(f, "{} {}", self.0, self.1)
     }
 }
 
