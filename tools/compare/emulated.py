@@ -9,6 +9,7 @@ The folder `root` holds the files of a system of AArch64. qemu maps each file at
 import contextlib
 import os
 import shutil
+import signal
 import socket
 import subprocess
 import tempfile
@@ -18,6 +19,8 @@ from typing import Optional, Tuple
 from loads import Stopped, value_of
 
 EMULATOR = "qemu-aarch64"
+# The stub's answers: a breakpoint is set or deleted; the process has stopped by the signal SIGTRAP.
+DONE, STOPPED = "OK", f"T{signal.SIGTRAP:02x}"
 # How long the stub may take to be there, and to answer.
 SECONDS = 60.0
 
@@ -72,8 +75,9 @@ class Emulated(Stopped):
         # The linker calls it before it maps libraries, and once relocation is done.
         at = f"0,{base + state:x},4"
         # A step leaves the address, where the process would stop again.
-        stops = [self.ask(it) for it in (f"Z{at}", "c", f"z{at}", "s", f"Z{at}", "c")]
-        return (linker, base) if [it[:3] for it in stops] == ["OK", "T05", "OK", "T05", "OK", "T05"] else None
+        is_there = all(self.ask(it).startswith(wanted) for it, wanted in (
+            (f"Z{at}", DONE), ("c", STOPPED), (f"z{at}", DONE), ("s", STOPPED), (f"Z{at}", DONE), ("c", STOPPED)))
+        return (linker, base) if is_there else None
 
     def end(self) -> str:
         """Ends the process."""
