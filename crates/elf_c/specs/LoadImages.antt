@@ -1,5 +1,5 @@
 -- The images of objects, and their relocation, by the files of the objects (this project's own).
-use Rattle.std.specs.Prelude.{◌≡◌, ℕ, ◌+◌, ◌-◌, ◌==◌, ◌<◌, true, false, List, length, IfOk, Result, Ok, Err, if◌then◌else◌}
+use Rattle.std.specs.Prelude.{◌≡◌, ℕ, ◌+◌, ◌-◌, ◌==◌, ◌<◌, ◌≤◌, true, false, List, length, IfOk, Result, Ok, Err, if◌then◌else◌}
 use Rattle.std.specs.Borrow.{Bor}
 use Rattle.elf_linking.specs.declared.error.LinkError.{LinkError}
 use Rattle.elf_linking.specs.declared.error.LinkError.TheVariants.{ObjectIndex}
@@ -50,10 +50,10 @@ pub data ChecksAs {E : Type 0} (r : _) (class size : ℕ) (fields : E → Symbol
 pub data Checks (narrow_record wide_record : _) (loads : List LoadObject) (of bits : ℕ) (result : Result (Unit {0}) Refusal) : Type 0 where
   checks_none : length loads ≡ 0 → result ≡ Err (Link ObjectIndex) → Checks narrow_record wide_record loads of bits result
   checks_many : MOST_OBJECTS < length loads → result ≡ Err (Load ImageSize) → Checks narrow_record wide_record loads of bits result
-  checks_narrow : is_first_narrow loads ≡ true
+  checks_narrow : length loads ≤ MOST_OBJECTS → is_first_narrow loads ≡ true
       → ChecksAs {E = DynEntry32} narrow_record 1 16 dyn_entry_32_fields loads of bits result
       → Checks narrow_record wide_record loads of bits result
-  checks_wide : is_first_narrow loads ≡ false
+  checks_wide : length loads ≤ MOST_OBJECTS → is_first_narrow loads ≡ false
       → ChecksAs {E = DynEntry64} wide_record 2 24 dyn_entry_64_fields loads of bits result
       → Checks narrow_record wide_record loads of bits result
 
@@ -75,9 +75,9 @@ pub data Relocates (narrow_record wide_record : _) (loads : List LoadObject) (of
       → Relocates narrow_record wide_record loads of when page before after result
   relocates_many : MOST_OBJECTS < length loads → result ≡ Err (Load ImageSize) → after ≡ before
       → Relocates narrow_record wide_record loads of when page before after result
-  relocates_narrow : is_first_narrow loads ≡ true
+  relocates_narrow : length loads ≤ MOST_OBJECTS → is_first_narrow loads ≡ true
       → RelocatesAs {E = DynEntry32} narrow_record 1 16 dyn_entry_32_fields loads of when page before after result
       → Relocates narrow_record wide_record loads of when page before after result
-  relocates_wide : is_first_narrow loads ≡ false
+  relocates_wide : length loads ≤ MOST_OBJECTS → is_first_narrow loads ≡ false
       → RelocatesAs {E = DynEntry64} wide_record 2 24 dyn_entry_64_fields loads of when page before after result
       → Relocates narrow_record wide_record loads of when page before after result
