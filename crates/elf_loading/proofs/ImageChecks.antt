@@ -20,7 +20,7 @@ use Rattle.elf_loading.specs.Words.{HasWord}
 use Rattle.elf_loading.specs.WordsLeft.{IsSame, relocation_of, words_file, words_index, words_lazy, words_left, words_objects, words_of, words_own}
 use Rattle.elf_loading.specs.declared.error.LoadError.{LoadError}
 use Rattle.elf_loading.specs.declared.error.LoadError.TheVariants.{FewMarks, Link}
-use Rattle.elf_loading.specs.declared.image_tables.Extent.{Extent}
+use Rattle.elf_loading.specs.declared.image_tables.TableLocation.{TableLocation}
 use Rattle.elf_loading.specs.declared.in_order.Relocation.{Relocation}
 use Rattle.elf_loading.specs.declared.words.Relocated.{Relocated}
 use Rattle.elf_loading.specs.declared.words.Word.{Word}
@@ -33,7 +33,7 @@ ok_last : {A E : Type 0} (r : Result A E) → and_then r (λ x. Ok x) ≡ r
 ok_last (Ok x) = refl
 ok_last (Err e) = refl
 
-module _ (loads : List ProgramHeader64) (text : Bool) (tables : List Extent) where
+module _ (loads : List ProgramHeader64) (text : Bool) (tables : List TableLocation) where
   then_by : (r : Result (List Word) LoadError) (words : List (Result Word LoadError)) (word : Result Word LoadError)
       → ((after : List Word) → check_words loads text tables after (words ++ (word ∷ [])) ≡ and_then (check_words loads text tables after words) (λ last. check_word loads text tables last word))
       → and_then r (λ after. check_words loads text tables after (words ++ (word ∷ []))) ≡ and_then (and_then r (λ after. check_words loads text tables after words)) (λ after. check_word loads text tables after word)
@@ -60,7 +60,7 @@ has_word_same fields item objects objects' file file' own own' of of' lazy lazy'
     (subst (λ x. HasWord fields objects' file' own' x lazy item) four
     (subst (λ x. HasWord fields objects' file' own' of' x item) five has))))
 
-module _ {E : Type 0} {r : _} (fields : E → SymbolFields) (loads : List ProgramHeader64) (text : Bool) (tables : List Extent) (start : ℕ) where
+module _ {E : Type 0} {r : _} (fields : E → SymbolFields) (loads : List ProgramHeader64) (text : Bool) (tables : List TableLocation) (start : ℕ) where
   -- the words of these items of an iterator are checked and have marks, and the others are left
   pub record AreCheckedSoFar (all now : Words E r) (marks : List ℕ) : Type 0 where
     pub items : List (Relocated E)
@@ -182,7 +182,7 @@ module _ {E : Type 0} {r : _} (size : ℕ) (fields : E → SymbolFields) (object
     pub image_refused : (error : LoadError) → checked_relocations size own bits ≡ Err error → IsImageCheck size fields objects.now of bits (Err error)
     image_refused error is = subst (λ one. IsCheckAt size fields objects.now of one bits (Err error)) (sym own_is) (refused error is refl)
 
-    pub image_checked : (words : Words E r) (start : ℕ) (loads : List ProgramHeader64) (text : Bool) (tables : List Extent) (result : Result (Unit {0}) LoadError)
+    pub image_checked : (words : Words E r) (start : ℕ) (loads : List ProgramHeader64) (text : Bool) (tables : List TableLocation) (result : Result (Unit {0}) LoadError)
         → IsBegun size objects of own bits words start → loads ≡ loads_of (object_file own) → text ≡ asks_for_text (view_entries (object_view own)) → tables ≡ tables_of size own
         → AreWordsFrom fields loads text tables words result → IsImageCheck size fields objects.now of bits result
     image_checked words start loads text tables result begun loads_are text_is tables_are from =

@@ -14,7 +14,7 @@ use Rattle.elf_loading.specs.ImageWords.{AreWritten, IsCheckAt, IsImageCheck, Is
 use Rattle.elf_loading.specs.Segments.{loads_of}
 use Rattle.elf_loading.specs.WordsLeft.{relocation_of}
 use Rattle.elf_loading.specs.declared.error.LoadError.{LoadError}
-use Rattle.elf_loading.specs.declared.image_tables.Extent.{Extent}
+use Rattle.elf_loading.specs.declared.image_tables.TableLocation.{TableLocation}
 use Rattle.elf_loading.specs.declared.words.Word.{Word}
 use Rattle.elf_loading.proofs.ImageChecks.{relocations_are, then_ok}
 use Rattle.elf_loading.proofs.ImageLoads.{held_within}
@@ -41,7 +41,7 @@ meet_at start size other many address (one, two) (three, four) = lt-ltb _ _ (ome
 true_false : true ≡ false → ⊥
 true_false is = absurd (cc)
 
-module _ (loads : List ProgramHeader64) (text : Bool) (tables : List Extent) where
+module _ (loads : List ProgramHeader64) (text : Bool) (tables : List TableLocation) where
   -- a word with bytes can be written, and meets none of those before it
   pub record IsPassed (before : List Word) (word : Word) : Type 0 where
     pub writable : 0 < word.width → IsWritableWord loads text tables word
@@ -55,7 +55,7 @@ module _ (loads : List ProgramHeader64) (text : Bool) (tables : List Extent) whe
   ArePassed before [] = ⊤
   ArePassed before (word ∷ words) = IsPassed before word × ArePassed (after_word before word) words
 
-  in_no_table : (word : Word) → list_any (touches word) tables ≡ false → (table : Extent) (start size address : ℕ) → Contains tables table → table.start ≡ Some start → table.size ≡ Some size → IsIn word.address word.width address → IsIn start size address → ⊥
+  in_no_table : (word : Word) → list_any (touches word) tables ≡ false → (table : TableLocation) (start size address : ℕ) → Contains tables table → table.start ≡ Some start → table.size ≡ Some size → IsIn word.address word.width address → IsIn start size address → ⊥
   in_no_table word none table start size address has start_is size_is in_word in_table =
       let (k, at) = read_of tables table has in
       let untouched : touches word table ≡ false = none_at (touches word) tables k table none at in

@@ -4,7 +4,7 @@ use Rattle.std.specs.List.{find, list_any}
 use Rattle.elf_loading.specs.ImageTables.{has_flag}
 use Rattle.elf_loading.specs.ImageWords.{HasRoom, check_word, highest, holds_word, marks_start, overlaps, touches}
 use Rattle.elf_loading.specs.declared.error.LoadError.TheVariants.{ReadOnly, WordAddress, WordInTable, WordsOverlap}
-use Rattle.elf_loading.specs.declared.image_tables.Extent.{Extent}
+use Rattle.elf_loading.specs.declared.image_tables.TableLocation.{TableLocation}
 use Rattle.elf_loading.specs.declared.words.Word.{Word}
 use Rattle.elf_loading.proofs.ImageLoads.{held_within}
 use Rattle.xmas_elf.specs.Types.{ProgramHeader64}
@@ -19,7 +19,7 @@ word_room loads start len word load room found =
     let begins : start ≡ marks_start loads = room.begins in
     (omega (arith, above, begins), omega (arith, above, below, fits, begins))
 
-module _ (loads : List ProgramHeader64) (text : Bool) (tables : List Extent) (before : List Word) (word : Word) where
+module _ (loads : List ProgramHeader64) (text : Bool) (tables : List TableLocation) (before : List Word) (word : Word) where
   pub unwritten : word.width == 0 ≡ true → check_word loads text tables before (Ok word) ≡ Ok before
   unwritten none = rw none refl
 

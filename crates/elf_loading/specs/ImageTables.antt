@@ -18,7 +18,7 @@ use Rattle.elf_loading.specs.InOrder.{is_kind, record_size}
 use Rattle.elf_loading.specs.Words.{address_size, flag_in}
 use Rattle.elf_loading.specs.declared.error.LoadError.{LoadError}
 use Rattle.elf_loading.specs.declared.error.LoadError.TheVariants as error
-use Rattle.elf_loading.specs.declared.image_tables.Extent.{Extent}
+use Rattle.elf_loading.specs.declared.image_tables.TableLocation.{TableLocation}
 use Rattle.elf_records.specs.declared.dynamic.Dynamic.{Dynamic}
 use Rattle.xmas_elf.specs.HashTable as gabi
 use Rattle.xmas_elf.specs.ProgramHeader.{program_fields}
@@ -31,7 +31,7 @@ has_flag flag segment = bit_and segment.flags.0 flag == flag
 -- Tables by their entries.
 
 -- a table at the number of one entry, with as many bytes as the number of another
-abbrev pub table_by : List (Dynamic ℕ) → ℕ → ℕ → Extent
+abbrev pub table_by : List (Dynamic ℕ) → ℕ → ℕ → TableLocation
 table_by entries start size = record { start = number_with start entries; size = number_with size entries }
 
 -- the size of a hash table in bytes, for a file with this many symbols: words of 4 bytes, and in GNU's the Bloom words,
@@ -47,11 +47,11 @@ hash_tag (Sysv table) = DT_HASH
 hash_tag (Gnu table) = DT_GNU_HASH
 
 -- a table at the number of an entry, of a known size
-abbrev pub table_of_size : List (Dynamic ℕ) → ℕ → ℕ → Extent
+abbrev pub table_of_size : List (Dynamic ℕ) → ℕ → ℕ → TableLocation
 table_of_size entries start size = record { start = number_with start entries; size = Some size }
 
 -- the table of relocations with addends, of those without, the packed ones, and those of the procedure linkage table
-abbrev pub relocation_tables : List (Dynamic ℕ) → List Extent
+abbrev pub relocation_tables : List (Dynamic ℕ) → List TableLocation
 relocation_tables entries = table_by entries DT_RELA DT_RELASZ ∷ table_by entries DT_REL DT_RELSZ
     ∷ table_by entries DT_RELR DT_RELRSZ ∷ table_by entries DT_JMPREL DT_PLTRELSZ ∷ []
 
@@ -60,7 +60,7 @@ abbrev pub symbol_number : {E : Type 0} → {r : _} → DynamicObject E r → �
 symbol_number object = min (length (table_items (object_records object))) (2 ^ 32)
 
 -- the string table, the symbols, which have this size each, the hash table, and the version numbers of the symbols
-abbrev pub symbol_tables : {E : Type 0} → {r : _} → ℕ → DynamicObject E r → List Extent
+abbrev pub symbol_tables : {E : Type 0} → {r : _} → ℕ → DynamicObject E r → List TableLocation
 symbol_tables size object = let entries = view_entries (object_view object) in
     let count = symbol_number object in
     table_by entries DT_STRTAB DT_STRSZ ∷ table_of_size entries DT_SYMTAB (size * count)
@@ -72,13 +72,13 @@ abbrev pub segment_size : ProgramHeader64 → ℕ
 segment_size segment = max segment.mem_size segment.file_size
 
 -- the bytes of a segment
-abbrev pub segment_extent : Option ProgramHeader → Extent
+abbrev pub segment_extent : Option ProgramHeader → TableLocation
 segment_extent None = record { start = None; size = None }
 segment_extent (Some program) = let segment = program_fields program in
     record { start = Some segment.virtual_addr; size = Some (segment_size segment) }
 
 -- all tables that a dynamic linker reads while it relocates a file: these, and the dynamic segment
-abbrev pub tables_of : {E : Type 0} → {r : _} → ℕ → DynamicObject E r → List Extent
+abbrev pub tables_of : {E : Type 0} → {r : _} → ℕ → DynamicObject E r → List TableLocation
 tables_of size object = relocation_tables (view_entries (object_view object))
     ++ (symbol_tables size object ++ (segment_extent (dynamic_segment_of (object_file object)) ∷ []))
 
@@ -100,7 +100,7 @@ is_unreadable_by file None size = false
 is_unreadable_by file (Some start) size = is_unreadable_at file start size
 
 -- the same for a table
-abbrev pub is_unreadable : ElfFile → Extent → Bool
+abbrev pub is_unreadable : ElfFile → TableLocation → Bool
 is_unreadable file table = is_unreadable_by file table.start table.size
 
 -- a size that is known is no multiple of another
@@ -109,7 +109,7 @@ is_no_multiple each None = false
 is_no_multiple each (Some size) = not (size % each == 0)
 
 -- why a table can't be read; a record has a size, and the number in the entry for that size
-abbrev pub relocation_rows : ElfFile → ℕ → Option ℕ → Extent → List (Bool × LoadError)
+abbrev pub relocation_rows : ElfFile → ℕ → Option ℕ → TableLocation → List (Bool × LoadError)
 relocation_rows file each told table =
     (is_some table.start && not (is_kind each told), error.RelocationSize)
     ∷ (is_some table.start && is_no_multiple each table.size, error.NotMultiple)
@@ -117,7 +117,7 @@ relocation_rows file each told table =
     ∷ []
 
 -- the same for the relocations of the procedure linkage table; `kind` is the number in DT_PLTREL
-abbrev pub slot_rows : ElfFile → Option ℕ → Extent → List (Bool × LoadError)
+abbrev pub slot_rows : ElfFile → Option ℕ → TableLocation → List (Bool × LoadError)
 slot_rows file kind table =
     (is_some table.start && not (is_kind DT_RELA kind || is_kind DT_REL kind), error.SlotKind)
     ∷ (is_some table.start && is_no_multiple (record_size file (if is_kind DT_RELA kind then DT_RELA else DT_REL)) table.size, error.NotMultiple)

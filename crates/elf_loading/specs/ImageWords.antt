@@ -15,7 +15,7 @@ use Rattle.elf_loading.specs.Words.{HasWord}
 use Rattle.elf_loading.specs.WordsLeft.{AreWordsOf, relocation_of, words_file, words_index, words_lazy, words_left, words_objects, words_of, words_own}
 use Rattle.elf_loading.specs.declared.error.LoadError.{LoadError}
 use Rattle.elf_loading.specs.declared.error.LoadError.TheVariants as error
-use Rattle.elf_loading.specs.declared.image_tables.Extent.{Extent}
+use Rattle.elf_loading.specs.declared.image_tables.TableLocation.{TableLocation}
 use Rattle.elf_loading.specs.declared.in_order.Relocation.{Relocation}
 use Rattle.elf_loading.specs.declared.words.Binding.TheVariants.{Now}
 use Rattle.elf_loading.specs.declared.words.Relocated.{Relocated}
@@ -43,7 +43,7 @@ abbrev pub touches_at : Word → Option ℕ → Option ℕ → Bool
 touches_at word (Some start) (Some size) = meet word.address word.width start size
 touches_at word _ _ = false
 
-abbrev pub touches : Word → Extent → Bool
+abbrev pub touches : Word → TableLocation → Bool
 touches word table = touches_at word table.start table.size
 
 -- the memory of a load has all bytes of a word
@@ -60,7 +60,7 @@ is_shut (Some load) = not (has_flag 2 load)
 
 -- why a word can't be written, after earlier ones: by the loads, whether the file asks for writes where they are not
 -- writable, and the tables
-abbrev pub word_rows : List ProgramHeader64 → Bool → List Extent → List Word → Word → List (Bool × LoadError)
+abbrev pub word_rows : List ProgramHeader64 → Bool → List TableLocation → List Word → Word → List (Bool × LoadError)
 word_rows loads text tables before word = let load = find (holds_word word) loads in
     (is_none load, error.WordAddress)
     ∷ (not text && is_shut load, error.ReadOnly)
@@ -69,13 +69,13 @@ word_rows loads text tables before word = let load = find (holds_word word) load
     ∷ []
 
 -- the words with one more, or why it is not known or can't be written; a word without bytes is not written
-abbrev pub check_word : List ProgramHeader64 → Bool → List Extent → List Word → Result Word LoadError → Result (List Word) LoadError
+abbrev pub check_word : List ProgramHeader64 → Bool → List TableLocation → List Word → Result Word LoadError → Result (List Word) LoadError
 check_word loads text tables before (Err error) = Err error
 check_word loads text tables before (Ok word) =
     if word.width == 0 then Ok before else unless (word_rows loads text tables before word) (word ∷ before)
 
 -- the words that are written, the last first, or the first reason why one can't be
-unfoldable pub check_words : List ProgramHeader64 → Bool → List Extent → List Word → List (Result Word LoadError) → Result (List Word) LoadError
+unfoldable pub check_words : List ProgramHeader64 → Bool → List TableLocation → List Word → List (Result Word LoadError) → Result (List Word) LoadError
 check_words loads text tables before [] = Ok before
 check_words loads text tables before (word ∷ words) = and_then (check_word loads text tables before word)
     (λ after. check_words loads text tables after words)
@@ -152,7 +152,7 @@ pub record IsBegun {E : Type 0} {r : _} (size : ℕ) (objects : Bor (List (Dynam
   pub start_is : start ≡ marks_start (loads_of (object_file own))
 
 -- the result of the check of the words that are left: these items are the first, and all of them if it is Ok
-pub record AreWordsFrom {E : Type 0} {r : _} (fields : E → SymbolFields) (loads : List ProgramHeader64) (text : Bool) (tables : List Extent) (words : Words E r) (result : Result (Unit {0}) LoadError) : Type 0 where
+pub record AreWordsFrom {E : Type 0} {r : _} (fields : E → SymbolFields) (loads : List ProgramHeader64) (text : Bool) (tables : List TableLocation) (words : Words E r) (result : Result (Unit {0}) LoadError) : Type 0 where
   pub items : List (Relocated E)
   pub rest : List Relocation
   pub are : words_left words ≡ map relocation_of items ++ rest
@@ -187,13 +187,13 @@ IsIn start size address = (start ≤ address) × (address < start + size)
 
 -- a word is in the memory of one load, which is writable unless the file asks for writes elsewhere, and no byte of it is
 -- in one of these tables
-pub record IsWritableWord (loads : List ProgramHeader64) (text : Bool) (tables : List Extent) (word : Word) : Type 0 where
+pub record IsWritableWord (loads : List ProgramHeader64) (text : Bool) (tables : List TableLocation) (word : Word) : Type 0 where
   pub load : ProgramHeader64
   pub is_load : Contains loads load
   pub begins : load.virtual_addr ≤ word.address
   pub ends : word.address + word.width ≤ load.virtual_addr + load.mem_size
   pub writable : text ≡ false → bit_and load.flags.0 2 ≡ 2
-  pub in_no_table : (table : Extent) (start size address : ℕ) → Contains tables table → table.start ≡ Some start
+  pub in_no_table : (table : TableLocation) (start size address : ℕ) → Contains tables table → table.start ≡ Some start
       → table.size ≡ Some size → IsIn word.address word.width address → ¬ IsIn start size address
 
 -- all relocations of an object have words; each with bytes can be written; no two have a byte in common

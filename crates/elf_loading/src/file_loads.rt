@@ -7,9 +7,8 @@ ghost use Rattle.elf_loading.specs.Segments.{is_load, loads_of};
 ghost use Rattle.xmas_elf.specs.ProgramHeader.{program_fields};
 ghost use Rattle.xmas_elf.specs.ProgramTable.{program_table_file};
 
+use crate::segments::PT_LOAD;
 use xmas_elf::program::{ProgramHeader, ProgramHeader64, ProgramTable, ProgramTableIter};
-
-const PT_LOAD: u32 = 1;
 
 // The fields of a program header in the record of class 64.
 pub(crate) fn fields(program: &ProgramHeader) -> ProgramHeader64

@@ -28,7 +28,7 @@ use xmas_elf::program::{FLAG_R, FLAG_W, ProgramHeader, ProgramHeader64};
 
 // Where a table is: its address, if it has one, and its size in bytes, if it is known.
 #[derive(Clone, Copy, Debug)]
-pub(crate) struct Extent {
+pub(crate) struct TableLocation {
     pub(crate) start: Option<u64>,
     pub(crate) size: Option<u64>,
 }
@@ -51,7 +51,7 @@ pub(crate) fn is_writable(segment: &ProgramHeader64) -> bool
 }
 
 // Whether the file has not all bytes of a table for a readable load.
-fn is_unreadable(file: &ElfFile<'_>, table: &Extent) -> bool
+fn is_unreadable(file: &ElfFile<'_>, table: &TableLocation) -> bool
     ensures { result ≡ is_unreadable file.now table.now }
 {
     let Some(start) = table.start else {
@@ -64,20 +64,20 @@ fn is_unreadable(file: &ElfFile<'_>, table: &Extent) -> bool
 }
 
 // A table by the entries with its address and its size.
-fn table_by(view: &DynamicView<'_>, start: u64, size: u64) -> Extent
+fn table_by(view: &DynamicView<'_>, start: u64, size: u64) -> TableLocation
     ensures { result ≡ table_by (view_entries view.now) start size }
 {
-    Extent {
+    TableLocation {
         start: view.entry(start),
         size: view.entry(size),
     }
 }
 
 // A table of a known size, by the entry with its address.
-fn table_of_size(view: &DynamicView<'_>, start: u64, size: u64) -> Extent
+fn table_of_size(view: &DynamicView<'_>, start: u64, size: u64) -> TableLocation
     ensures { result ≡ table_of_size (view_entries view.now) start size }
 {
-    Extent {
+    TableLocation {
         start: view.entry(start),
         size: Some(size),
     }
@@ -99,7 +99,7 @@ fn check_relocations(
     file: &ElfFile<'_>,
     each: u64,
     told: Option<u64>,
-    table: &Extent,
+    table: &TableLocation,
 ) -> Result<(), LoadError>
     requires { 0 < each }
     ensures { result ≡ unless (relocation_rows file.now each told table.now) tt }
@@ -119,7 +119,7 @@ fn check_relocations(
 
 // Whether the relocations of the procedure linkage table can be read, by the number in the entry
 // for their kind.
-fn check_slots(file: &ElfFile<'_>, kind: Option<u64>, table: &Extent) -> Result<(), LoadError>
+fn check_slots(file: &ElfFile<'_>, kind: Option<u64>, table: &TableLocation) -> Result<(), LoadError>
     ensures { result ≡ unless (slot_rows file.now kind table.now) tt }
 {
     let is_there = table.start.is_some();
@@ -216,18 +216,18 @@ fn hash_tag(table: &AnyTable<'_>) -> u64
 }
 
 // The bytes of a segment, as many as it has in memory or in the file: entries are read in the file.
-fn segment_extent(program: &Option<ProgramHeader>) -> Extent
+fn segment_extent(program: &Option<ProgramHeader>) -> TableLocation
     ensures { result ≡ segment_extent program.now }
 {
     match program {
         Some(program) => {
             let segment = fields(program);
-            Extent {
+            TableLocation {
                 start: Some(segment.virtual_addr),
                 size: Some(segment.mem_size.max(segment.file_size)),
             }
         }
-        None => Extent {
+        None => TableLocation {
             start: None,
             size: None,
         },
@@ -244,7 +244,7 @@ fn symbols_size<E: LinkedSymbol>(count: u64) -> u64
 
 // All tables that a dynamic linker reads while it relocates an object: four of relocations, four of
 // symbols, and the dynamic segment.
-pub(crate) fn tables_of<E: LinkedSymbol>(object: &DynamicObject<'_, E>) -> [Extent; 9]
+pub(crate) fn tables_of<E: LinkedSymbol>(object: &DynamicObject<'_, E>) -> [TableLocation; 9]
     ensures { result ≡ tables_of E.SIZE object.now }
 {
     let (view, file, table) = (object.view(), object.file(), object.table());
@@ -283,7 +283,7 @@ fn check_all_relocations(file: &ElfFile<'_>, view: &DynamicView<'_>) -> Result<(
 }
 
 // Whether one of these tables can't be read.
-fn are_unreadable(file: &ElfFile<'_>, tables: &[Extent]) -> bool
+fn are_unreadable(file: &ElfFile<'_>, tables: &[TableLocation]) -> bool
     ensures { result ≡ list_any (is_unreadable file.now) tables.now }
 {
     tables.iter().any(|table| is_unreadable(file, table))
@@ -293,7 +293,7 @@ fn are_unreadable(file: &ElfFile<'_>, tables: &[Extent]) -> bool
 #[tactic(auto, unfolding(crate::specs::ImageTables::check_tables))]
 pub(crate) fn check_tables<E: LinkedSymbol>(
     object: &DynamicObject<'_, E>,
-    tables: &[Extent; 9],
+    tables: &[TableLocation; 9],
 ) -> Result<(), LoadError>
     requires { tables.now ≡ tables_of E.SIZE object.now }
     ensures { result ≡ check_tables E.SIZE object.now }

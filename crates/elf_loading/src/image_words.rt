@@ -15,7 +15,7 @@ ghost use Rattle.xmas_elf.specs.ProgramTable.{program_table_file};
 
 use crate::LoadError;
 use crate::file_loads::file_loads;
-use crate::image_tables::{Extent, asks_for_text, check_tables, is_writable, tables_of};
+use crate::image_tables::{TableLocation, asks_for_text, check_tables, is_writable, tables_of};
 use crate::words::{Binding, Word, Words};
 use elf_linking::scope::Scope;
 use elf_linking::view::LinkedSymbol;
@@ -31,7 +31,7 @@ struct Room<'b, 'a> {
     start: u64,
     // Whether the file asks for writes to loads that are not writable.
     text: bool,
-    tables: [Extent; 9],
+    tables: [TableLocation; 9],
 }
 
 // Whether ranges of addresses have a byte in common.
@@ -44,7 +44,7 @@ fn meet(start: u64, size: u64, other: u64, many: u64) -> bool
 }
 
 // Whether a word and a table have a byte in common.
-fn touches(word: &Word, table: &Extent) -> bool
+fn touches(word: &Word, table: &TableLocation) -> bool
     ensures { result ≡ touches word.now table.now }
 {
     match (table.start, table.size) {
@@ -54,7 +54,7 @@ fn touches(word: &Word, table: &Extent) -> bool
 }
 
 // Whether a word and one of these tables have a byte in common.
-fn is_in_table(word: &Word, tables: &[Extent]) -> bool
+fn is_in_table(word: &Word, tables: &[TableLocation]) -> bool
     ensures { result ≡ list_any (touches word.now) tables.now }
 {
     tables.iter().any(|table| touches(word, table))
@@ -202,7 +202,7 @@ fn begin<'s, 'a, E: LinkedSymbol>(
     scope: Scope<'s, 'a, E>,
     of: usize,
     own: &DynamicObject<'a, E>,
-    tables: &[Extent; 9],
+    tables: &[TableLocation; 9],
     bits: u128,
 ) -> Result<(Words<'s, 'a, E>, u64), LoadError>
     requires own { slice_get (scope_objects scope).now of ≡ Some own.now }
