@@ -119,7 +119,11 @@ fn check_relocations(
 
 // Whether the relocations of the procedure linkage table can be read, by the number in the entry
 // for their kind.
-fn check_slots(file: &ElfFile<'_>, kind: Option<u64>, table: &TableLocation) -> Result<(), LoadError>
+fn check_slots(
+    file: &ElfFile<'_>,
+    kind: Option<u64>,
+    table: &TableLocation,
+) -> Result<(), LoadError>
     ensures { result ≡ unless (slot_rows file.now kind table.now) tt }
 {
     let is_there = table.start.is_some();
