@@ -15,7 +15,7 @@ use Rattle.elf_linking.specs.declared.object.DynamicObject.{DynamicObject}
 use Rattle.elf_loading.specs.declared.relocate.Place.{Place}
 use Rattle.xmas_elf.specs.declared.ElfFile.{ElfFile}
 use Rattle.elf_c.proofs.Batches.{put_elsewhere, put_there}
-use Rattle.elf_c.specs.LoadObjects.{AreImagesOf, AreObjectsOf, ArePadded, ArePlacesOf, IsObjectOfBytes, IsOneRefused, IsRefusedAsObject, no_object, place_of}
+use Rattle.elf_c.specs.LoadObjects.{AreFirstObjects, AreImagesOf, AreObjectsOf, ArePadded, ArePlacesOf, IsFirstRefused, IsObjectOfBytes, IsRefusedAsObject, no_object, place_of}
 use Rattle.elf_c.specs.declared.load_objects.LoadObject.{LoadObject}
 use Rattle.elf_c.specs.declared.load_objects.TheConstants.{MOST_OBJECTS}
 
@@ -47,6 +47,52 @@ repeated : {T : Type 0} (n i : ℕ) (x y : T) → slice_get (replicate n x) i �
 repeated zero i x y is = absurd (cc)
 repeated (suc n) zero x y is = some_same x y is
 repeated (suc n) (suc i) x y is = repeated n i x y is
+
+-- The objects of the first files.
+
+replicated : {T : Type 0} (n i : ℕ) (x : T) → i < n → slice_get (replicate n x) i ≡ Some x
+replicated zero i x below = absurd (omega (arith, below))
+replicated (suc n) zero x below = refl
+replicated (suc n) (suc i) x below = replicated n i x (omega (arith, below))
+
+module _ {E : Type 0} {r : _} (class size : ℕ) (loads : List LoadObject) where
+  abbrev Is : LoadObject → DynamicObject E r → Type 0
+  Is load object = IsObjectOfBytes class size load.file.now object
+
+  -- of one file
+  pub first_object : (object : DynamicObject E r) (load : LoadObject) → slice_get loads 0 ≡ Some load → Is load object → AreFirstObjects class size loads 1 (replicate MOST_OBJECTS object)
+  first_object object load there is index other below at =
+      let none : index ≡ 0 = omega (arith, below) in
+      let same : load ≡ other = some_same load other (sym there ∙ ap (λ i. slice_get loads i) (sym none) ∙ at) in
+      subst (λ found. IsSomeAnd found (Is other)) (sym (replicated MOST_OBJECTS index object (omega (arith, none)))) (subst (λ one. Is one object) same is)
+
+  -- of one more
+  pub object_more : (objects : List (DynamicObject E r)) (place : ℕ) (object : DynamicObject E r) (load : LoadObject) → place < length objects → slice_get loads place ≡ Some load → Is load object
+      → AreFirstObjects class size loads place objects → AreFirstObjects class size loads (place + 1) (slice_set objects place object)
+  object_more objects place object load within there is before index other below at = by (cases_order index place)
+    where
+      by : ((index ≡ place) ⊎ ((index < place) ⊎ (place < index))) → IsSomeAnd (slice_get (slice_set objects place object) index) (Is other)
+      by (inl same) =
+          let one : load ≡ other = some_same load other (sym there ∙ ap (λ i. slice_get loads i) (sym same) ∙ at) in
+          let found : slice_get (slice_set objects place object) index ≡ Some object = ap (λ i. slice_get (slice_set objects place object) i) same ∙ put_there objects place object within in
+          subst (λ some. IsSomeAnd some (Is other)) (sym found) (subst (λ x. Is x object) one is)
+      by (inr (inl less)) =
+          let found : slice_get (slice_set objects place object) index ≡ slice_get objects index = put_elsewhere objects place index object (λ same. absurd (omega (arith, less, same))) in
+          subst (λ some. IsSomeAnd some (Is other)) (sym found) (before index other less at)
+      by (inr (inr more)) = absurd (omega (arith, more, below))
+
+  -- of all
+  pub all_objects : (objects : List (DynamicObject E r)) → length objects ≡ MOST_OBJECTS → length loads ≤ MOST_OBJECTS → AreFirstObjects class size loads (length loads) objects → AreObjectsOf class size loads (take (length loads) objects)
+  all_objects objects long fit first = record {
+    same_count = length-take-le (length loads) objects (omega (arith, fit, long));
+    each = λ index load is. let below = slice_get_within loads index load is in
+        subst (λ found. IsSomeAnd found (Is load)) (sym (take_get objects (length loads) index below)) (first index load below is);
+  }
+
+  -- not of the next
+  pub refused_at : (index : ℕ) (load : LoadObject) (objects : List (DynamicObject E r)) (error : LinkError) → slice_get loads index ≡ Some load → AreFirstObjects class size loads index objects
+      → IsRefusedAsObject class size load.file.now error → IsFirstRefused {E = E} r class size loads error
+  refused_at index load objects error is before why = record { index = index; load = load; load_is = is; objects = objects; before = before; why = why }
 
 -- one of them in each place
 pub padded_none : (loads : List LoadObject) (spare : LoadObject) → (place : ℕ) × (slice_get loads place ≡ Some spare) → ArePadded loads (replicate MOST_OBJECTS spare) 0
@@ -95,12 +141,6 @@ module _ (loads all : List LoadObject) (fit : length loads ≤ MOST_OBJECTS) (pa
   counted : {T : Type 0} (results : List T) → length results ≡ MOST_OBJECTS → length (take (length loads) results) ≡ length loads
   counted results long = length-take-le (length loads) results (omega (arith, fit, long))
 
-  objects_are : {E : Type 0} {r : _} (class size : ℕ) (objects : List (DynamicObject E r)) → length objects ≡ MOST_OBJECTS → ((i : ℕ) (d : LoadObject) (e : DynamicObject E r) → i < MOST_OBJECTS → IsObjectOfBytes class size (get_or all i d).file.now (get_or objects i e)) → AreObjectsOf class size loads (take (length loads) objects)
-  objects_are class size objects long at = record {
-    same_count = counted objects long;
-    each = made (λ load object. IsObjectOfBytes class size load.file.now object) objects long at;
-  }
-
   places_are : (places : List Place) → length places ≡ MOST_OBJECTS → ((i : ℕ) (d : LoadObject) (e : Place) → i < MOST_OBJECTS → get_or places i e ≡ place_of (get_or all i d)) → ArePlacesOf loads (take (length loads) places)
   places_are places long at = record {
     same_count = counted places long;
@@ -112,36 +152,6 @@ module _ (loads all : List LoadObject) (fit : length loads ≤ MOST_OBJECTS) (pa
     same_count = counted images long;
     each = λ index load is. some_is (slice_get (take (length loads) images) index) load.image (made (λ one image. image ≡ one.image) images long at index load is);
   }
-
-  -- why one of all is no object, is why one of these is none
-  one_refused : (class size : ℕ) (error : LinkError) (load : LoadObject) (index : ℕ) → slice_get all index ≡ Some load → IsRefusedAsObject class size load.file.now error → IsOneRefused class size loads error
-  one_refused class size error load index there why = let from = padded.one index load there in
-      record { index = from.0; load = load; load_is = from.1; why = why }
-
-  among_refused : (class size : ℕ) (error : LinkError) (load : LoadObject) → IsAmong all load → IsRefusedAsObject class size load.file.now error → IsOneRefused class size loads error
-  among_refused class size error load (i, (below, is)) why = one_refused class size error load i (slice_get_read all (length all) i load refl below is) why
-
-  -- the same by the calls that made them
-  objects_by : {E F : Type 0} {r : _} (g : Mut F (LoadObject × Unit {0}) (Result (DynamicObject E r) LinkError)) (class size : ℕ) (objects : List (DynamicObject E r)) → length objects ≡ MOST_OBJECTS
-      → ((i : ℕ) (d : LoadObject) (e : DynamicObject E r) → i < MOST_OBJECTS → (f : F) × (f' : F) × Called g f (get_or all i d, tt) (Ok (get_or objects i e)) f')
-      → ((a : LoadObject × Unit {0}) (answer : Result (DynamicObject E r) LinkError) (f f' : F) → Called g f a answer f' → MatchResult answer (IsObjectOfBytes class size a.0.file.now) (IsRefusedAsObject class size a.0.file.now))
-      → AreObjectsOf class size loads (take (length loads) objects)
-  objects_by g class size objects long at each = objects_are class size objects long
-      (λ i d e below. let call = at i d e below in each (get_or all i d, tt) (Ok (get_or objects i e)) call.0 call.1 call.2)
-
-  refused_by : {E F : Type 0} {r : _} (g : Mut F (LoadObject × Unit {0}) (Result (DynamicObject E r) LinkError)) (class size : ℕ) (error : LinkError)
-      → ((load : LoadObject) × IsAmong all load × (f : F) × (f' : F) × Called g f (load, tt) (Err error) f')
-      → ((a : LoadObject × Unit {0}) (answer : Result (DynamicObject E r) LinkError) (f f' : F) → Called g f a answer f' → MatchResult answer (IsObjectOfBytes class size a.0.file.now) (IsRefusedAsObject class size a.0.file.now))
-      → IsOneRefused class size loads error
-  refused_by g class size error (load, among, f, f', called) each = among_refused class size error load among (each (load, tt) (Err error) f f' called)
-
-  pub all_by : {E F : Type 0} {r : _} (g : Mut F (LoadObject × Unit {0}) (Result (DynamicObject E r) LinkError)) (class size : ℕ) (result : Result (List (DynamicObject E r)) LinkError)
-      → IfOk result (λ objects. AllZipBelow (λ x y. (f : F) × (f' : F) × Called g f (x, tt) (Ok y) f') all objects MOST_OBJECTS)
-      → IfErr result (λ error. (load : LoadObject) × IsAmong all load × (f : F) × (f' : F) × Called g f (load, tt) (Err error) f')
-      → ((a : LoadObject × Unit {0}) (answer : Result (DynamicObject E r) LinkError) (f f' : F) → Called g f a answer f' → MatchResult answer (IsObjectOfBytes class size a.0.file.now) (IsRefusedAsObject class size a.0.file.now))
-      → MatchResult result (λ objects. AreObjectsOf class size loads (take (length loads) objects)) (IsOneRefused class size loads)
-  all_by g class size (Ok objects) zip fails each = objects_by g class size objects zip.long zip.at each
-  all_by g class size (Err error) zip fails each = refused_by g class size error fails each
 
   pub places_by : {F : Type 0} (g : Mut F (LoadObject × Unit {0}) Place) (places : List Place) → length places ≡ MOST_OBJECTS
       → ((i : ℕ) (d : LoadObject) (e : Place) → i < MOST_OBJECTS → (f : F) × (f' : F) × Called g f (get_or all i d, tt) (get_or places i e) f')

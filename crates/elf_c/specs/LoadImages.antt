@@ -18,7 +18,7 @@ use Rattle.elf_loading.specs.declared.relocate.Place.{Place}
 use Rattle.elf_loading.specs.declared.words.Binding.{Binding}
 use Rattle.xmas_elf.specs.Symbol.{SymbolFields, dyn_entry_32_fields, dyn_entry_64_fields}
 use Rattle.xmas_elf.specs.Types.{DynEntry32, DynEntry64, ElfFile}
-use Rattle.elf_c.specs.LoadObjects.{AreImagesOf, AreObjectsOf, ArePlacesOf, IsOneRefused, as_refusal, is_first_narrow}
+use Rattle.elf_c.specs.LoadObjects.{AreImagesOf, AreObjectsOf, ArePlacesOf, IsFirstRefused, as_refusal, is_first_narrow}
 use Rattle.elf_c.specs.LoadPlans.{if_checked}
 use Rattle.elf_c.specs.declared.load_objects.LoadObject.{LoadObject}
 use Rattle.elf_c.specs.declared.load_objects.TheConstants.{MOST_OBJECTS}
@@ -42,7 +42,7 @@ pub data ChecksAs {E : Type 0} (r : _) (class size : ℕ) (fields : E → Symbol
   checked : (objects : List (DynamicObject E r)) (answer : Result (Unit {0}) LoadError) → AreObjectsOf class size loads objects
       → IsImageCheck size fields objects of bits answer → result ≡ as_refusal answer
       → ChecksAs r class size fields loads of bits result
-  unchecked : (error : LinkError) → IsOneRefused class size loads error → result ≡ Err (Link error)
+  unchecked : (error : LinkError) → IsFirstRefused {E = E} r class size loads error → result ≡ Err (Link error)
       → ChecksAs r class size fields loads of bits result
 
 -- the result: without an object, or with more than a call takes, an error; otherwise one by the class of the first file.
@@ -66,7 +66,7 @@ pub data RelocatesAs {E : Type 0} (r : _) (class size : ℕ) (fields : E → Sym
       → AreImagesOf loads images.now → IsRelocationIn fields objects of when page places images before after answer
       → IfOk answer (λ count. IsByOneWordIn size fields objects of when page places images before after)
       → result ≡ as_refusal answer → RelocatesAs r class size fields loads of when page before after result
-  unrelocated : (error : LinkError) → IsOneRefused class size loads error → result ≡ Err (Link error) → after ≡ before
+  unrelocated : (error : LinkError) → IsFirstRefused {E = E} r class size loads error → result ≡ Err (Link error) → after ≡ before
       → RelocatesAs r class size fields loads of when page before after result
 
 -- the result: without an object, or with more than a call takes, an error; otherwise one by the class of the first file

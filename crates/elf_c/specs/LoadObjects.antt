@@ -58,11 +58,18 @@ pub record AreObjectsOf {E : Type 0} {r : _} (class size : ℕ) (loads : List Lo
   pub each : (index : ℕ) (load : LoadObject) → slice_get loads index ≡ Some load
       → IsSomeAnd (slice_get objects index) (IsObjectOfBytes class size load.file.now)
 
--- one of the files is none of an object of this class, and why
-pub record IsOneRefused (class size : ℕ) (loads : List LoadObject) (error : LinkError) : Type 0 where
+-- the first `count` objects are those of the files
+abbrev pub AreFirstObjects : {E : Type 0} → {r : _} → ℕ → ℕ → List LoadObject → ℕ → List (DynamicObject E r) → Type 0
+AreFirstObjects class size loads count objects = (index : ℕ) (load : LoadObject) → index < count
+    → slice_get loads index ≡ Some load → IsSomeAnd (slice_get objects index) (IsObjectOfBytes class size load.file.now)
+
+-- the first file that is none of an object of this class, and why
+pub record IsFirstRefused {E : Type 0} (r : _) (class size : ℕ) (loads : List LoadObject) (error : LinkError) : Type 0 where
   pub index : ℕ
   pub load : LoadObject
   pub load_is : slice_get loads index ≡ Some load
+  pub objects : List (DynamicObject E r)
+  pub before : AreFirstObjects class size loads index objects
   pub why : IsRefusedAsObject class size load.file.now error
 
 -- where an object is loaded

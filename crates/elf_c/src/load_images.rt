@@ -89,7 +89,7 @@ fn check_objects<E: LinkedSymbol>(
         Ok(objects) => objects,
         Err(error) => return Err(Refusal::Link(error)),
     };
-    match Scope::new(&objects[..loads.len()]).check_image(of, marks) {
+    match Scope::new(&objects.all[..loads.len()]).check_image(of, marks) {
         Ok(()) => Ok(()),
         Err(error) => Err(Refusal::Load(error)),
     }
@@ -120,8 +120,8 @@ fn check(loads: &[LoadObject<'_>], of: usize, marks: &mut [u8]) -> Result<(), Re
 /// `marks` has a bit for each byte of the span of the object's plan, so a byte for each eight, and one
 /// more; what it holds is overwritten.
 ///
-/// Errors: `ImageSize` if there are more than 64 objects; those of `DynamicObject::read_reached` for
-/// one of the files; those of the check.
+/// Errors: `ImageSize` if there are more than 64 objects; those of `DynamicObject::read_reached`, of
+/// the first file that has one; those of the check.
 #[unsafe(no_mangle)]
 pub extern "C" fn xmas_elf_check_image(objects: &[LoadObject<'_>], of: u64, marks: &mut [u8]) -> u32
     ensures { (answer : Result (Unit {0}) Refusal)
@@ -152,7 +152,7 @@ fn relocate_objects<E: LinkedSymbol>(
     };
     let (places, images) = (places_of(loads), images_of(loads));
     let count = loads.len();
-    let scope = Scope::new(&objects[..count]);
+    let scope = Scope::new(&objects.all[..count]);
     match scope.relocate(of, when, page, &places[..count], &images[..count], image) {
         Ok(left) => Ok(left),
         Err(error) => Err(Refusal::Load(error)),
@@ -194,8 +194,8 @@ fn relocate(
 /// and is no part of the `image` of an object. `lazy` is 1 if jump slots get their symbols when a
 /// function is called first, and any other number if they get them now.
 ///
-/// Errors: `ImageSize` if there are more than 64 objects; those of `DynamicObject::read_reached` for
-/// one of the files; those of the library's call. `count` is then unchanged, and the words before the
+/// Errors: `ImageSize` if there are more than 64 objects; those of `DynamicObject::read_reached`, of
+/// the first file that has one; those of the library's call. `count` is then unchanged, and the words before the
 /// first that can't be written are written.
 #[unsafe(no_mangle)]
 pub extern "C" fn xmas_elf_relocate(

@@ -3,9 +3,10 @@
 ghost use Rattle.std.specs.Prelude.{◌≡◌, ◌<◌, ◌≤◌, MatchResult, Some, ℕ, length, slice_get, take};
 ghost use Rattle.elf_base.specs.FileHeader.{header_of};
 ghost use Rattle.elf_c.specs.LoadObjects.{AreImagesOf, AreObjectsOf, ArePadded, ArePlacesOf};
-ghost use Rattle.elf_c.specs.LoadObjects.{IsObjectOfBytes, IsOneRefused, IsRefusedAsObject};
+ghost use Rattle.elf_c.specs.LoadObjects.{IsFirstRefused, IsObjectOfBytes, IsRefusedAsObject};
 ghost use Rattle.elf_c.specs.LoadObjects.{is_first_narrow, is_narrow_header, place_of, when_of};
 
+use elf_base::bytes::Record;
 use elf_linking::view::LinkedSymbol;
 use elf_linking::{DynamicObject, LinkError};
 use elf_loading::{Binding, Place};
@@ -73,44 +74,47 @@ fn read_object<'a, E: LinkedSymbol>(bytes: &'a [u8]) -> Result<DynamicObject<'a,
     }
 }
 
-// The object with the smallest file.
-fn smallest<'a>(loads: &[LoadObject<'a>]) -> LoadObject<'a>
-    requires { 0 < length loads.now }
-    ensures { (place : ℕ) × (slice_get loads.now place ≡ Some result) }
-{
-    let mut found = loads[0];
-    for index in 0..loads.len() {
-        if loads[index].file.len() < found.file.len() {
-            found = loads[index];
-        }
-    }
-    found
-}
-
-// The objects in a room for the most; after them one again, whose file takes the least time to read.
+// The objects in a room for the most; after them the first again.
 fn padded<'a>(loads: &[LoadObject<'a>]) -> [LoadObject<'a>; MOST_OBJECTS]
     requires some { 0 < length loads.now }
     requires fit { length loads.now ≤ MOST_OBJECTS }
     ensures { ArePadded loads.now result (length loads.now) }
 {
-    let mut all = [smallest(loads); MOST_OBJECTS];
+    let mut all = [loads[0]; MOST_OBJECTS];
     for index in 0..loads.len() {
         all[index] = loads[index];
     }
     all
 }
 
-// The objects of the files in their order; after them the object of the smallest file again.
+// A room for the most objects.
+#[derive(Drop)]
+pub(crate) struct Objects<'a, E: Record> {
+    pub(crate) all: [DynamicObject<'a, E>; MOST_OBJECTS],
+}
+
+// The objects of the files in their order; after them the first again.
 pub(crate) fn objects_of<'a, E: LinkedSymbol>(
     loads: &[LoadObject<'a>],
-) -> Result<[DynamicObject<'a, E>; MOST_OBJECTS], LinkError>
+) -> Result<Objects<'a, E>, LinkError>
     requires some { 0 < length loads.now }
     requires fit { length loads.now ≤ MOST_OBJECTS }
     ensures { MatchResult result
-        (λ objects. AreObjectsOf E.CLASS E.SIZE loads.now (take (length loads.now) objects))
-        (IsOneRefused E.CLASS E.SIZE loads.now) }
+        (λ objects. AreObjectsOf E.CLASS E.SIZE loads.now (take (length loads.now) objects.all))
+        (IsFirstRefused {E = E} E.Record E.CLASS E.SIZE loads.now) }
 {
-    padded(loads).try_map(|load| read_object(load.file))
+    let first = match read_object::<E>(loads[0].file) {
+        Ok(first) => first,
+        Err(error) => return Err(error),
+    };
+    let mut objects = [first; MOST_OBJECTS];
+    for index in 1..loads.len() {
+        match read_object(loads[index].file) {
+            Ok(object) => objects[index] = object,
+            Err(error) => return Err(error),
+        }
+    }
+    Ok(Objects { all: objects })
 }
 
 // The place of an object.

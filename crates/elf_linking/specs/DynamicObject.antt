@@ -46,7 +46,7 @@ object_versions object = object.versions
 
 -- its file
 abbrev pub object_file : {E : Type 0} → {r : _} → DynamicObject E r → ElfFile
-object_file object = object.file
+object_file object = record { input = object.input; header = object.header }
 
 -- its symbols with their names
 abbrev pub object_symbols : {E : Type 0} → {r : _} → (E → SymbolFields) → DynamicObject E r → Symbols E

@@ -14,6 +14,7 @@ use Rattle.elf_linking.specs.declared.find.Use.TheVariants.{Any, Copy, Defined}
 use Rattle.elf_linking.specs.declared.references.Reference.{Reference}
 use Rattle.elf_linking.specs.declared.references.AllRelocations.{AllRelocations}
 use Rattle.elf_linking.specs.declared.references.References.{References}
+use Rattle.elf_linking.specs.declared.references.TableRelocations.{TableRelocations}
 use Rattle.elf_linking.specs.declared.references.tables.Relocations.{Relocations}
 use Rattle.elf_linking.specs.declared.references.tables.Relocations.TheVariants.{Absent, Rel32, Rel64, Rela32, Rela64}
 use Rattle.elf_records.specs.declared.dynamic.Dynamic.{Dynamic}
@@ -118,10 +119,21 @@ names_symbol machine relocation = not (relocation.symbol == 0) && not (takes_no_
 abbrev pub file_machine : ElfFile → ℕ
 file_machine file = machine_number (header_fields file.header.pt2).machine
 
--- the relocations of the three tables in this order, or the first error
+-- the relocations of each table
+pub record Tables : Type 0 where
+  pub rela : List Reference
+  pub rel : List Reference
+  pub plt : List Reference
+
+-- those of the three tables, or the first error
+unfoldable pub relocation_tables : ElfFile → List (Dynamic ℕ) → Result Tables LinkError
+relocation_tables file entries = and_then (rela_table file entries) (λ rela. and_then (rel_table file entries) (λ rel.
+    and_then (plt_table file entries) (λ plt. Ok (record { rela = rela; rel = rel; plt = plt }))))
+
+-- the same, one table after the other
 unfoldable pub relocations_of : ElfFile → List (Dynamic ℕ) → Result (List Reference) LinkError
-relocations_of file entries = and_then (rela_table file entries) (λ rela.
-    and_then (rel_table file entries) (λ rel. and_then (plt_table file entries) (λ plt. Ok (rela ++ (rel ++ plt)))))
+relocations_of file entries =
+    and_then (relocation_tables file entries) (λ tables. Ok (tables.rela ++ (tables.rel ++ tables.plt)))
 
 -- those that name a symbol
 unfoldable pub references_of : ElfFile → List (Dynamic ℕ) → Result (List Reference) LinkError
@@ -136,9 +148,21 @@ relocations_left (Rela64 rest) = map (rela_reference symbol_in_64 type_in_64) (t
 relocations_left (Rel32 rest) = map (rel_reference symbol_in_32 type_in_32) (table_items (table_rest rest))
 relocations_left (Rel64 rest) = map (rel_reference symbol_in_64 type_in_64) (table_items (table_rest rest))
 
--- the relocations that an iterator over all three tables has not yet returned
+-- the relocations that an iterator over all three tables has not yet returned, table by table
+abbrev pub tables_left : AllRelocations → Tables
+tables_left iter = record { rela = relocations_left iter.rela; rel = relocations_left iter.rel; plt = relocations_left iter.plt }
+
+-- the same, one table after the other
 abbrev pub all_left : AllRelocations → List Reference
 all_left iter = relocations_left iter.rela ++ (relocations_left iter.rel ++ relocations_left iter.plt)
+
+-- those that an iterator over one table has not yet returned
+abbrev pub table_left : TableRelocations → List Reference
+table_left iter = relocations_left iter.rest
+
+-- those of three tables
+abbrev pub each_left : TableRelocations → TableRelocations → TableRelocations → Tables
+each_left rela rel plt = record { rela = table_left rela; rel = table_left rel; plt = table_left plt }
 
 -- the references that an iterator has not yet returned
 abbrev pub references_left : References → List Reference

@@ -241,13 +241,25 @@ impl<'a> GnuHashTable<'a> {
         Ok(read_u32(self.bytes, place, self.order))
     }
 
-    // Whether a name with this hash number may be in the table, by the Bloom words.
-    #[tactic(auto, unfolding(crate::specs::GnuHash::may_hold))]
+    // Whether a name with this hash number may be in the table, by the Bloom words. Each class has a
+    // call with a constant, so that the quotients by it are shifts.
     #[inline(always)]
     fn may_hold(&self, hash: u32) -> bool
         ensures { result ≡ may_hold self.now hash }
     {
-        let width = 8 * bloom_size(self.class) as u32;
+        match self.class {
+            Class::ThirtyTwo => self.may_hold_in(32, hash),
+            _ => self.may_hold_in(64, hash),
+        }
+    }
+
+    // The same, by the number of bits of a Bloom word.
+    #[tactic(auto, unfolding(crate::specs::GnuHash::may_hold))]
+    #[inline(always)]
+    fn may_hold_in(&self, width: u32, hash: u32) -> bool
+        requires { width ≡ 8 * bloom_size (gnu_class self.now) }
+        ensures { result ≡ may_hold self.now hash }
+    {
         let word = self.bloom(hash / width % self.bloom_count());
         let shifted = shifted(hash, self.bloom_shift());
         is_set(word, hash % width) && is_set(word, shifted % width)

@@ -4,7 +4,7 @@
 ghost use Rattle.std.specs.Borrow.{Bor};
 ghost use Rattle.std.specs.Prelude.{◌≡◌, ◌↔◌, ℕ, Contains, Err, IfOk, IfSome, IsOk, IsOkAnd, MatchOption};
 ghost use Rattle.std.specs.Prelude.{MatchResult, Ok, Option, Result, Some, length, slice_get};
-ghost use Rattle.std.specs.Prelude.{◌<◌, ◌^◌};
+ghost use Rattle.std.specs.Prelude.{◌<◌, ◌^◌, ⊤};
 ghost use Rattle.elf_base.specs.FileHeader.{file_order};
 ghost use Rattle.elf_base.specs.Lent.{LiesAt};
 ghost use Rattle.elf_base.specs.Table.{table_bytes, table_data, table_order};
@@ -15,11 +15,14 @@ ghost use Rattle.elf_linking.specs.Loaded.{lent};
 ghost use Rattle.elf_linking.specs.declared.error.LinkError.{LinkError};
 
 use crate::find::{Use, Wanted};
+use crate::gnu_hash::gnu_hash;
 use crate::references::References;
 use crate::versions::{SymbolVersion, Versions};
 use crate::view::{DynamicView, LinkedSymbol, text_by};
 use crate::{AnyTable, LinkError};
 use elf_base::bytes::{Record, Table};
+use elf_base::header::Header;
+use std::alloc::AllocError;
 use xmas_elf::ElfFile;
 use xmas_elf::symbol_table::SymbolTable;
 
@@ -28,15 +31,28 @@ use xmas_elf::symbol_table::SymbolTable;
 ///
 /// They are read once, so that no call on this value except `references` reads the program headers
 /// or the dynamic segment again, and none looks for a string table.
-#[derive(Drop)]
 pub struct DynamicObject<'a, E: Record> {
     view: DynamicView<'a>,
     table: AnyTable<'a>,
     symbols: Table<'a, E>,
     strings: &'a [u8],
     versions: Versions<'a>,
-    file: ElfFile<'a>,
+    // The file, whose type can't be copied.
+    input: &'a [u8],
+    header: Header,
 }
+
+impl<E: Record> Clone for DynamicObject<'_, E> {
+    ghost is_clone = { λ x y. y ≡ x };
+
+    ghost is_infallible = { λ _. ⊤ };
+
+    fn clone(&self) -> Result<Self, AllocError> {
+        Ok(*self)
+    }
+}
+
+impl<E: Record> Copy for DynamicObject<'_, E> {}
 
 impl<'a, E: LinkedSymbol> DynamicObject<'a, E> {
     ghost use Rattle.elf_linking.specs.AnyTable.{FindsAllBy, IsCheckBy, IsDefinedBy, IsGoodBy};
@@ -51,6 +67,7 @@ impl<'a, E: LinkedSymbol> DynamicObject<'a, E> {
     ghost use Rattle.elf_linking.specs.DynamicObject.{object_symbols, object_table};
     ghost use Rattle.elf_linking.specs.DynamicObject.{object_versions, object_view};
     ghost use Rattle.elf_linking.specs.Find.{AreReadable, FindsRight, IsFound};
+    ghost use Rattle.elf_linking.specs.Layouts.{gnu_hash_number};
     ghost use Rattle.elf_linking.specs.References.{references_left, references_of};
     ghost use Rattle.elf_linking.specs.VersionTables.{version_tables};
     ghost use Rattle.elf_linking.specs.Versions.{HasReadableName, IsVersion, version_at};
@@ -117,10 +134,8 @@ impl<'a, E: LinkedSymbol> DynamicObject<'a, E> {
             symbols,
             strings,
             versions,
-            file: ElfFile {
-                input: file.input,
-                header: file.header,
-            },
+            input: file.input,
+            header: file.header,
         })
     }
 
@@ -136,8 +151,8 @@ impl<'a, E: LinkedSymbol> DynamicObject<'a, E> {
         ensures { result ≡ object_file self.now }
     {
         ElfFile {
-            input: self.file.input,
-            header: self.file.header,
+            input: self.input,
+            header: self.header,
         }
     }
 
@@ -167,7 +182,7 @@ impl<'a, E: LinkedSymbol> DynamicObject<'a, E> {
     pub(crate) fn machine(&self) -> u16
         ensures { result ≡ object_machine self.now }
     {
-        self.file.header.pt2.machine().raw()
+        self.header.pt2.machine().raw()
     }
 
     /// The symbols with their names.
@@ -254,7 +269,7 @@ impl<'a, E: LinkedSymbol> DynamicObject<'a, E> {
             (λ error. answer ≡ Err error) }
         ensures fits { IfOk result (λ references. length (references_left references) < 2 ^ 64) }
     {
-        self.view.references(&self.file)
+        self.view.references(&self.file())
     }
 
     /// Checks that look-ups find every symbol that the hash table is for: the result of
@@ -332,8 +347,23 @@ impl<'a, E: LinkedSymbol> DynamicObject<'a, E> {
             IsGoodBy file.table file.symbols → AreReadable file
             → FindsRight file name.now wanted.now use_ result }
     {
+        self.find_hashed(name, gnu_hash(name), wanted, use_)
+    }
+
+    // The result of `find`, by the hash number of the name for GNU's table, so that a look-up in many
+    // objects computes it once.
+    pub(crate) fn find_hashed(
+        &self,
+        name: &str,
+        hash: u32,
+        wanted: &Wanted<'_>,
+        use_: Use,
+    ) -> Result<Option<(u32, E)>, LinkError>
+        requires { hash ≡ gnu_hash_number name.now }
+        ensures { IsFound (object_dynamic_symbols E.fields self.now) name.now wanted.now use_ result }
+    {
         self.table
-            .find_in(name, &self.symbols(), &self.versions, wanted, use_)
+            .find_in(name, hash, &self.symbols(), &self.versions, wanted, use_)
     }
 
     // The symbols of a file, if it has their class.

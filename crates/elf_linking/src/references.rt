@@ -5,8 +5,10 @@ ghost use Rattle.std.specs.Prelude.{◌≡◌, ◌<◌, ◌^◌, Err, IfOk, Matc
 ghost use Rattle.std.specs.Iterator.{YieldsFirst, item_count};
 ghost use Rattle.elf_linking.specs.LinkedSections.{IsRelr, relr_at};
 ghost use Rattle.elf_linking.specs.Relr.{relr_rest};
-ghost use Rattle.elf_linking.specs.References.{all_left, names_symbol, references_left};
-ghost use Rattle.elf_linking.specs.References.{references_of, relocations_of, takes_no_symbol};
+ghost use Rattle.elf_linking.specs.References.{all_left, each_left, names_symbol, references_left};
+ghost use Rattle.elf_linking.specs.References.{references_of, relocation_tables, relocations_left};
+ghost use Rattle.elf_linking.specs.References.{relocations_of, table_left, tables_left};
+ghost use Rattle.elf_linking.specs.References.{takes_no_symbol};
 ghost use Rattle.elf_linking.specs.References.{use_of, use_of_386, use_of_aarch64, use_of_x86_64};
 
 mod names;
@@ -57,6 +59,12 @@ pub struct AllRelocations<'a> {
     plt: Relocations<'a>,
 }
 
+/// An iterator over the relocations of one table, in order.
+#[derive(Clone, Debug, Drop)]
+pub struct TableRelocations<'a> {
+    rest: Relocations<'a>,
+}
+
 /// An iterator over the relocations of a file that name a symbol, in the order of
 /// `AllRelocations`.
 ///
@@ -87,6 +95,37 @@ impl<'a> DynamicView<'a> {
         ensures exact { let answer = relocations_of file.now (view_entries self.now) in
             MatchResult result (λ all. answer ≡ Ok (all_left all)) (λ error. answer ≡ Err error) }
         ensures fits { IfOk result (λ all. length (all_left all) < 2 ^ 64) }
+    {
+        let all = self.read_tables(file)?;
+        Ok(all)
+    }
+
+    /// The relocations of each table: of Rela, of Rel, and of JmpRel. Those of the three, one after the
+    /// other, are those of `relocations`, which has the same errors.
+    pub fn relocation_tables(
+        &self,
+        file: &ElfFile<'a>,
+    ) -> Result<(TableRelocations<'a>, TableRelocations<'a>, TableRelocations<'a>), LinkError>
+        ensures exact { let answer = relocation_tables file.now (view_entries self.now) in
+            MatchResult result (λ tables. answer ≡ Ok (each_left tables.0 tables.1 tables.2))
+            (λ error. answer ≡ Err error) }
+    {
+        let all = self.read_tables(file)?;
+        Ok((
+            TableRelocations { rest: all.rela },
+            TableRelocations { rest: all.rel },
+            TableRelocations { rest: all.plt },
+        ))
+    }
+
+    // The relocations of the three tables.
+    #[tactic(auto, unfolding(crate::specs::References::relocation_tables))]
+    fn read_tables(&self, file: &ElfFile<'a>) -> Result<AllRelocations<'a>, LinkError>
+        ensures exact { let answer = relocation_tables file.now (view_entries self.now) in
+            MatchResult result (λ all. answer ≡ Ok (tables_left all)) (λ error. answer ≡ Err error) }
+        ensures rela { IfOk result (λ all. length (relocations_left all.rela) < 2 ^ 61) }
+        ensures rel { IfOk result (λ all. length (relocations_left all.rel) < 2 ^ 61) }
+        ensures plt { IfOk result (λ all. length (relocations_left all.plt) < 2 ^ 61) }
     {
         let rela = self.entry(DT_RELA);
         let rela = Relocations::read(file, rela, self.entry(DT_RELASZ), Some(DT_RELA))?;
@@ -154,6 +193,19 @@ impl Iterator for AllRelocations<'_> {
             return Some(relocation);
         }
         self.plt.next()
+    }
+}
+
+impl Iterator for TableRelocations<'_> {
+    type Item = Reference;
+
+    ghost next_gives = { YieldsFirst table_left };
+
+    ghost remaining = { item_count table_left };
+
+    #[inline(always)]
+    fn next(&mut self) -> Option<Reference> {
+        self.rest.next()
     }
 }
 

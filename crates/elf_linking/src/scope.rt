@@ -12,6 +12,7 @@ mod asking;
 mod bindings;
 
 use crate::find::{Use, Wanted};
+use crate::gnu_hash::gnu_hash;
 use crate::references::Reference;
 pub use crate::scope::asking::Asked;
 pub use crate::scope::bindings::{Binding, Bindings};
@@ -40,6 +41,7 @@ pub struct Scope<'s, 'a, E: Record> {
 
 impl<'s, 'a, E: LinkedSymbol> Scope<'s, 'a, E> {
     ghost use Rattle.std.specs.Prelude.{◌<◌, length, true, false};
+    ghost use Rattle.elf_linking.specs.Layouts.{gnu_hash_number};
     ghost use Rattle.elf_linking.specs.Scope.{AnswersAsked, AnswersRight, AreGood, BindsReference};
     ghost use Rattle.elf_linking.specs.Scope.{BindsRight, FindsAt, HasNamedSymbol, IsBound};
     ghost use Rattle.elf_linking.specs.Scope.{IsFirstGiven, IsProtectedBound, IsReferenceBound};
@@ -88,7 +90,7 @@ impl<'s, 'a, E: LinkedSymbol> Scope<'s, 'a, E> {
         let Some(asking) = self.objects.get(from) else {
             return Err(LinkError::ObjectIndex);
         };
-        self.first_bound(asking.is_symbolic(), from, name, wanted, use_)
+        self.first_bound(asking.is_symbolic(), from, name, gnu_hash(name), wanted, use_)
     }
 
     /// The symbol that a reference of the object at index `from` gets: the result of `answer` for
@@ -189,24 +191,26 @@ impl<'s, 'a, E: LinkedSymbol> Scope<'s, 'a, E> {
     }
 
     // What the first object gives that gives a symbol or an error, with the object at `from` asked
-    // first if it is symbolic.
+    // first if it is symbolic. The hash number of the name is that of GNU's table.
     fn first_bound(
         &self,
         symbolic: bool,
         from: usize,
         name: &str,
+        hash: u32,
         wanted: &Wanted<'_>,
         use_: Use,
     ) -> Result<Option<Bound<E>>, LinkError>
-        requires { from < length (scope_objects self.now).now }
+        requires there { from < length (scope_objects self.now).now }
+        requires hashed { hash ≡ gnu_hash_number name.now }
         ensures { let objects = (scope_objects self.now).now in IsFirstGiven
             (FindsAt E.fields objects name.now wanted.now use_)
             (length objects) symbolic from result }
     {
         if symbolic {
-            self.first_with_own(from, name, wanted, use_)
+            self.first_with_own(from, name, hash, wanted, use_)
         } else {
-            self.first_by_index(from, name, wanted, use_)
+            self.first_by_index(from, name, hash, wanted, use_)
         }
     }
 
@@ -215,21 +219,23 @@ impl<'s, 'a, E: LinkedSymbol> Scope<'s, 'a, E> {
         &self,
         from: usize,
         name: &str,
+        hash: u32,
         wanted: &Wanted<'_>,
         use_: Use,
     ) -> Result<Option<Bound<E>>, LinkError>
-        requires { from < length (scope_objects self.now).now }
+        requires there { from < length (scope_objects self.now).now }
+        requires hashed { hash ≡ gnu_hash_number name.now }
         ensures { let objects = (scope_objects self.now).now in IsFirstGiven
             (FindsAt E.fields objects name.now wanted.now use_)
             (length objects) true from result }
     {
-        match self.given(from, name, wanted, use_) {
+        match self.given(from, name, hash, wanted, use_) {
             Ok(Some((index, symbol))) => Ok(Some(Bound {
                 object: from,
                 index,
                 symbol,
             })),
-            Ok(None) => self.first_by_index(from, name, wanted, use_),
+            Ok(None) => self.first_by_index(from, name, hash, wanted, use_),
             Err(error) => Err(error),
         }
     }
@@ -239,15 +245,17 @@ impl<'s, 'a, E: LinkedSymbol> Scope<'s, 'a, E> {
         &self,
         from: usize,
         name: &str,
+        hash: u32,
         wanted: &Wanted<'_>,
         use_: Use,
     ) -> Result<Option<Bound<E>>, LinkError>
+        requires { hash ≡ gnu_hash_number name.now }
         ensures { let objects = (scope_objects self.now).now in IsFirstGiven
             (FindsAt E.fields objects name.now wanted.now use_)
             (length objects) false from result }
     {
         for place in 0..self.objects.len() {
-            match self.given(place, name, wanted, use_) {
+            match self.given(place, name, hash, wanted, use_) {
                 Ok(Some((index, symbol))) => {
                     return Ok(Some(Bound {
                         object: place,
@@ -268,10 +276,12 @@ impl<'s, 'a, E: LinkedSymbol> Scope<'s, 'a, E> {
         &self,
         place: usize,
         name: &str,
+        hash: u32,
         wanted: &Wanted<'_>,
         use_: Use,
     ) -> Result<Option<(u32, E)>, LinkError>
-        requires { place < length (scope_objects self.now).now }
+        requires there { place < length (scope_objects self.now).now }
+        requires hashed { hash ≡ gnu_hash_number name.now }
         ensures { let objects = (scope_objects self.now).now in
             FindsAt E.fields objects name.now wanted.now use_ place result }
     {
@@ -281,7 +291,7 @@ impl<'s, 'a, E: LinkedSymbol> Scope<'s, 'a, E> {
         let Some(object) = self.objects.get(place) else {
             unreachable!();
         };
-        match object.find(name, wanted, use_) {
+        match object.find_hashed(name, hash, wanted, use_) {
             Ok(found) => Ok(if_serving(&found)),
             Err(error) => Err(error),
         }

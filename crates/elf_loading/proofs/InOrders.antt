@@ -1,6 +1,6 @@
 -- The first of the remaining relocations of a file, table by table.
-use Rattle.std.proofs.Common.{◌≡◌, ◌<◌, ◌≤◌, ◌+◌, ◌-◌, ℕ, zero, suc, Bool, List, [], ◌∷◌, ◌++◌, length, map, refl, sym, ap, ◌∙◌, arith}
-use Rattle.std.specs.Prelude.{drop, take}
+use Rattle.std.proofs.Common.{◌≡◌, ◌<◌, ◌-◌, ℕ, zero, suc, Bool, List, [], ◌∷◌, ◌++◌, map, refl, sym, ap, ◌∙◌, arith}
+use Rattle.std.specs.Prelude.{take}
 use Rattle.elf_linking.specs.declared.references.Reference.{Reference}
 use Rattle.elf_loading.specs.InOrder.{place, placed, relative_at}
 
@@ -38,30 +38,3 @@ begins table others later x is = ap (λ items. items ++ later) is
 
 pub goes_on : {A : Type 0} (table later : List A) → table ≡ [] → table ++ later ≡ later
 goes_on table later is = ap (λ items. items ++ later) is
-
--- a list without its first items
-no_item : {A : Type 0} (x : A) (xs : List A) → x ∷ xs ≡ [] → ⊥
-no_item x xs is = cc
-
-past_end : {A : Type 0} (xs : List A) (n : ℕ) → drop n xs ≡ [] → length xs ≤ n
-past_end [] n is = omega arith
-past_end (x ∷ xs) zero is = absurd (no_item x xs is)
-past_end (x ∷ xs) (suc n) is = let below : length xs ≤ n = past_end xs n is in omega (arith, below)
-
-drop_past : {A : Type 0} (xs : List A) (n : ℕ) → length xs ≤ n → drop n xs ≡ []
-drop_past [] zero past = refl
-drop_past [] (suc n) past = refl
-drop_past (x ∷ xs) zero past = absurd (omega (arith, past))
-drop_past (x ∷ xs) (suc n) past = drop_past xs n (omega (arith, past))
-
-pub skipped_all : {A : Type 0} (xs : List A) (place count : ℕ) → place ≤ count → drop place xs ≡ [] → drop count xs ≡ []
-skipped_all xs place count fits is = let past : length xs ≤ place = past_end xs place is in drop_past xs count (omega (arith, past, fits))
-
-behind : {A : Type 0} (xs ys : List A) (n : ℕ) (x : A) → drop n xs ≡ x ∷ ys → drop (suc n) xs ≡ ys
-behind [] ys zero x is = absurd (no_item x ys (sym is))
-behind [] ys (suc n) x is = absurd (no_item x ys (sym is))
-behind (y ∷ xs) ys zero x is = ap (λ l. drop (suc zero) l) is
-behind (y ∷ xs) ys (suc n) x is = behind xs ys n x is
-
-pub skipped_more : {A : Type 0} (xs ys : List A) (n : ℕ) (x : A) → drop n xs ≡ x ∷ ys → drop (n + 1) xs ≡ ys
-skipped_more xs ys n x is = let on : n + 1 ≡ suc n = omega arith in ap (λ k. drop k xs) on ∙ behind xs ys n x is

@@ -21,6 +21,7 @@ pub mod Reasons
 pub mod InOrders
 pub mod NumberBytes
 pub mod Written
+pub mod RelativeWords
 pub mod Checked
 pub mod OneWords
 pub mod ErrorsLeft

@@ -1,11 +1,11 @@
 -- The relocations of a file in the order in which a dynamic linker applies them (gABI, "Relocation" and "Dynamic
 -- Section"; the order, and which records are passed over, as glibc 2.36 has it).
-use Rattle.std.specs.Prelude.{ℕ, ◌+◌, ◌-◌, ◌/◌, ◌==◌, ◌&&◌, nat_le, Bool, true, false, List, [], ◌++◌, drop, map, take, Option, None, Some, Result, Ok, if◌then◌else◌}
+use Rattle.std.specs.Prelude.{ℕ, ◌+◌, ◌-◌, ◌/◌, ◌==◌, ◌&&◌, nat_le, Bool, true, false, List, [], ◌++◌, map, take, Option, None, Some, Result, Ok, if◌then◌else◌}
 use Rattle.elf_base.specs.FileHeader.{file_class}
 use Rattle.elf_base.specs.Refusal.{and_then}
 use Rattle.elf_linking.specs.DynamicView.{number_with}
 use Rattle.elf_linking.specs.LinkedSections.{relr_at}
-use Rattle.elf_linking.specs.References.{all_left, file_machine, relocations_of}
+use Rattle.elf_linking.specs.References.{file_machine, relocation_tables, table_left}
 use Rattle.elf_linking.specs.Relr.{relr_rest}
 use Rattle.elf_linking.specs.declared.error.LinkError.{LinkError}
 use Rattle.elf_linking.specs.declared.references.Reference.{Reference}
@@ -74,17 +74,7 @@ abbrev pub size_in : Option ℕ → ℕ
 size_in None = 0
 size_in (Some size) = size
 
--- the number of records of a table, by its address, its size and the size of a record
-abbrev pub count_by : Option ℕ → ℕ → ℕ → ℕ
-count_by None size each = 0
-count_by (Some start) size each = size / each
-
--- the number of records of the table at the entries `kind` and `size`
-abbrev pub record_count : ElfFile → List (Dynamic ℕ) → ℕ → ℕ → ℕ
-record_count file entries kind size =
-    count_by (number_with kind entries) (size_in (number_with size entries)) (record_size file kind)
-
--- the number of those that are not records of the procedure linkage table again
+-- the number of records of the table at the entries `kind` and `size` that are not records of the procedure linkage table again
 abbrev pub kept_by : ElfFile → List (Dynamic ℕ) → ℕ → ℕ → Option ℕ → ℕ
 kept_by file entries kind size None = 0
 kept_by file entries kind size (Some start) =
@@ -98,13 +88,11 @@ kept_records file entries kind size = kept_by file entries kind size (number_wit
 -- procedure linkage table again, and those of the procedure linkage table (DT_JMPREL); or the first error
 unfoldable pub relocations_in_order : ElfFile → List (Dynamic ℕ) → Result (List Relocation) LinkError
 relocations_in_order file entries = and_then (relr_addresses file entries) (λ addresses.
-    and_then (relocations_of file entries) (λ all.
-    let after = drop (record_count file entries DT_RELA DT_RELASZ) all in
-    let slots = drop (record_count file entries DT_REL DT_RELSZ) after in
+    and_then (relocation_tables file entries) (λ tables.
     Ok (map (relative_at (file_machine file)) addresses
-    ++ (placed false false (take (kept_records file entries DT_RELA DT_RELASZ) all)
-    ++ (placed true false (take (kept_records file entries DT_REL DT_RELSZ) after)
-    ++ placed (is_of_kind entries DT_REL) true slots)))))
+    ++ (placed false false (take (kept_records file entries DT_RELA DT_RELASZ) tables.rela)
+    ++ (placed true false (take (kept_records file entries DT_REL DT_RELSZ) tables.rel)
+    ++ placed (is_of_kind entries DT_REL) true tables.plt)))))
 
 -- What iterators have not yet returned.
 
@@ -120,7 +108,7 @@ take_most None references = references
 take_most (Some most) references = take most references
 
 abbrev pub part_left : Part → List Relocation
-part_left part = placed part.in_place part.slot (take_most part.most (all_left part.rest))
+part_left part = placed part.in_place part.slot (take_most part.most (table_left part.rest))
 
 abbrev pub order_left : InOrder → List Relocation
 order_left order = packed_left order.packed

@@ -22,5 +22,6 @@ pub mod WordsLeft
 pub mod ImageTables
 pub mod ImageWords
 pub mod Relocate
+pub mod RelativeWords
 pub mod OneWord
 pub mod FileLoads

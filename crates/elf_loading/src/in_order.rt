@@ -2,20 +2,19 @@
 //! "Dynamic Section"; the order, and which records of a table are passed over, as glibc 2.36 has
 //! it).
 
-ghost use Rattle.std.specs.Prelude.{◌≡◌, ◌<◌, Err, MatchResult, Ok, drop};
+ghost use Rattle.std.specs.Prelude.{◌≡◌, ◌<◌, Err, MatchResult, Ok};
 ghost use Rattle.std.specs.Iterator.{YieldsFirst, item_count};
 ghost use Rattle.elf_linking.specs.DynamicView.{view_entries};
-ghost use Rattle.elf_linking.specs.References.{all_left};
+ghost use Rattle.elf_linking.specs.References.{table_left};
 ghost use Rattle.elf_loading.specs.InOrder.{address_of_slots, is_kind, is_of_kind, kept_bytes};
-ghost use Rattle.elf_loading.specs.InOrder.{kept_records};
-ghost use Rattle.elf_loading.specs.InOrder.{order_left, packed_left, part_left, record_count};
+ghost use Rattle.elf_loading.specs.InOrder.{kept_records, order_left, packed_left, part_left};
 ghost use Rattle.elf_loading.specs.InOrder.{record_size, relative_type, relocations_in_order};
 ghost use Rattle.elf_loading.specs.InOrder.{relr_addresses, relr_left, size_in, take_most};
 
 use elf_base::header::Class;
 use elf_linking::LinkError;
 use elf_linking::references::types::{EM_AARCH64, R_AARCH64_RELATIVE, R_X86_64_RELATIVE};
-use elf_linking::references::{AllRelocations, Reference};
+use elf_linking::references::{Reference, TableRelocations};
 use elf_linking::relr::Relr;
 use elf_linking::view::{
     DT_JMPREL, DT_PLTREL, DT_PLTRELSZ, DT_REL, DT_RELA, DT_RELASZ, DT_RELSZ, DynamicView,
@@ -44,7 +43,7 @@ struct Packed<'a> {
 // those that are left of all tables.
 #[derive(Clone, Debug, Drop)]
 struct Part<'a> {
-    rest: AllRelocations<'a>,
+    rest: TableRelocations<'a>,
     most: Option<u64>,
     in_place: bool,
     slot: bool,
@@ -73,6 +72,7 @@ fn relative_type(machine: u16) -> u32
 }
 
 impl Packed<'_> {
+    #[inline(always)]
     fn next_address(&mut self) -> Option<u64>
         ensures first { YieldsFirst (λ packed. relr_left packed.rest) self.old result self.new }
         ensures machine { self.new.machine ≡ self.old.machine }
@@ -84,6 +84,7 @@ impl Packed<'_> {
     }
 
     #[tactic(auto, using(crate::proofs::InOrders::relative_none, crate::proofs::InOrders::relative_first))]
+    #[inline(always)]
     fn next(&mut self) -> Option<Relocation>
         ensures { YieldsFirst packed_left self.old result self.new }
     {
@@ -104,23 +105,23 @@ impl Packed<'_> {
 
 impl Part<'_> {
     #[tactic(auto, using(crate::proofs::InOrders::taken_none, crate::proofs::InOrders::taken_first))]
+    #[inline(always)]
     fn next_reference(&mut self) -> Option<Reference>
-        ensures first { YieldsFirst (λ part. take_most part.most (all_left part.rest))
+        ensures first { YieldsFirst (λ part. take_most part.most (table_left part.rest))
             self.old result self.new }
         ensures in_place { self.new.in_place ≡ self.old.in_place }
         ensures slot { self.new.slot ≡ self.old.slot }
     {
         match self.most {
-            Some(0) => None,
-            Some(most) => {
-                self.most = Some(most - 1);
-                self.rest.next()
-            }
-            None => self.rest.next(),
+            Some(0) => return None,
+            Some(most) => self.most = Some(most - 1),
+            None => {}
         }
+        self.rest.next()
     }
 
     #[tactic(auto, using(crate::proofs::InOrders::placed_none, crate::proofs::InOrders::placed_first))]
+    #[inline(always)]
     fn next(&mut self) -> Option<Relocation>
         ensures { YieldsFirst part_left self.old result self.new }
     {
@@ -201,16 +202,6 @@ fn size_in(entry: Option<u64>) -> u64
     }
 }
 
-// The number of records of a table.
-fn record_count(view: &DynamicView<'_>, file: &ElfFile<'_>, kind: u64, size: u64) -> u64
-    ensures { result ≡ record_count file.now (view_entries view.now) kind size }
-{
-    match view.entry(kind) {
-        Some(_) => size_in(view.entry(size)) / record_size(file, kind),
-        None => 0,
-    }
-}
-
 // The number of records of a table that are not those of the procedure linkage table again.
 fn kept_records(view: &DynamicView<'_>, file: &ElfFile<'_>, kind: u64, size: u64) -> u64
     ensures { result ≡ kept_records file.now (view_entries view.now) kind size }
@@ -221,18 +212,6 @@ fn kept_records(view: &DynamicView<'_>, file: &ElfFile<'_>, kind: u64, size: u64
     let size = size_in(view.entry(size));
     let slots_size = size_in(view.entry(DT_PLTRELSZ));
     kept_bytes(start, size, address_of_slots(view, kind), slots_size) / record_size(file, kind)
-}
-
-// Leaves out the first `count` relocations.
-#[tactic(auto, using(crate::proofs::InOrders::skipped_all, crate::proofs::InOrders::skipped_more))]
-fn skip(all: &mut AllRelocations<'_>, count: u64)
-    ensures { all_left all.new ≡ drop count (all_left all.old) }
-{
-    for _place in 0..count {
-        if all.next().is_none() {
-            return;
-        }
-    }
 }
 
 // The packed relocations of a file.
@@ -259,12 +238,7 @@ impl<'a> InOrder<'a> {
     {
         let machine = file.header.pt2.machine().raw();
         let rest = packed_of(view, file)?;
-        let rela = view.relocations(file)?;
-        let mut rel = view.relocations(file)?;
-        skip(&mut rel, record_count(view, file, DT_RELA, DT_RELASZ));
-        let mut slots = view.relocations(file)?;
-        skip(&mut slots, record_count(view, file, DT_RELA, DT_RELASZ));
-        skip(&mut slots, record_count(view, file, DT_REL, DT_RELSZ));
+        let (rela, rel, slots) = view.relocation_tables(file)?;
         Ok(InOrder {
             packed: Packed { machine, rest },
             rela: Part {
@@ -297,6 +271,7 @@ impl Iterator for InOrder<'_> {
     ghost remaining = { item_count order_left };
 
     #[tactic(auto, using(crate::proofs::InOrders::begins, crate::proofs::InOrders::goes_on))]
+    #[inline(always)]
     fn next(&mut self) -> Option<Relocation> {
         if let Some(relocation) = self.packed.next() {
             return Some(relocation);

@@ -2,12 +2,14 @@
 
 ghost use Rattle.std.specs.Prelude.{◌≡◌, ◌<◌, ◌≤◌, ◌+◌, ◌-◌, ◌&&◌, ◌*◌, ◌/◌, ◌%◌, ◌^◌, length};
 ghost use Rattle.std.specs.Prelude.{false, if◌then◌else◌, min, nat_le, nat_lt, slice_get};
-ghost use Rattle.std.specs.Prelude.{slice_index, true, Err, IfErr, IfOk, MatchOption, Ok, Some, ℕ};
+ghost use Rattle.std.specs.Prelude.{slice_index, true, Err, IfErr, IfOk, IfSome, MatchOption, Ok, Some, ℕ};
 ghost use Rattle.elf_base.specs.Table.{table_items};
 ghost use Rattle.elf_linking.specs.DynamicObject.{object_records, object_view};
 ghost use Rattle.elf_linking.specs.DynamicView.{view_entries};
+ghost use Rattle.elf_linking.specs.References.{file_machine};
 ghost use Rattle.elf_linking.specs.Scope.{scope_objects};
 ghost use Rattle.elf_loading.specs.Pages.{up};
+ghost use Rattle.elf_loading.specs.RelativeWords.{IsItemWritten, relative_of, relative_word};
 ghost use Rattle.elf_loading.specs.Relocate.{AreWordsFor, IsRelocation, IsRelocationIn, IsWriting};
 ghost use Rattle.elf_loading.specs.Relocate.{byte_of_number, has_no_number, image_at};
 ghost use Rattle.elf_loading.specs.Relocate.{is_copy_outside, is_outside, is_unresolved, is_weak};
@@ -16,17 +18,22 @@ ghost use Rattle.elf_loading.specs.Relocate.{origin_sum, place_at, start_at, val
 ghost use Rattle.elf_loading.specs.Relocate.{value_number, word_byte, write_item, write_word};
 ghost use Rattle.elf_loading.specs.Segments.{loads_of};
 ghost use Rattle.elf_loading.specs.Spans.{first_start, last_end};
-ghost use Rattle.elf_loading.specs.Words.{binds_lazily};
-ghost use Rattle.elf_loading.specs.WordsLeft.{words_left};
+ghost use Rattle.elf_loading.specs.Words.{HasWord, binds_lazily};
+ghost use Rattle.elf_loading.specs.WordsLeft.{words_file, words_index, words_lazy, words_left};
+ghost use Rattle.elf_loading.specs.WordsLeft.{words_objects, words_own};
 ghost use Rattle.elf_loading.specs.declared.error.LoadError.TheVariants.{CopySource};
 ghost use Rattle.xmas_elf.specs.ProgramTable.{program_table_file};
 
 use crate::LoadError;
 use crate::file_loads::file_loads;
+use crate::in_order::Relocation;
 use crate::pages::{down, end_down};
-use crate::value::{Origin, Value};
+use crate::value::{Origin, Value, low};
 use crate::words::{Binding, Relocated, Word, Words, binds_lazily, needs_symbol};
 use elf_base::bytes::Record;
+use elf_linking::references::types::{
+    EM_386, EM_AARCH64, EM_X86_64, R_386_RELATIVE, R_AARCH64_RELATIVE, R_X86_64_RELATIVE,
+};
 use elf_linking::scope::Scope;
 use elf_linking::view::LinkedSymbol;
 use elf_linking::{DynamicObject, LinkError};
@@ -42,6 +49,13 @@ pub struct Place {
     pub module: u64,
     /// The offset of its thread-local storage from the thread pointer, modulo 2^64.
     pub thread: u64,
+}
+
+// The type of the relative relocations of a machine, and the number of bytes that they write.
+#[derive(Clone, Copy, Debug)]
+pub(crate) struct Relative {
+    kind: u32,
+    width: u32,
 }
 
 // What the words of an object are written by.
@@ -60,6 +74,7 @@ pub(crate) struct Sources<'b, 's, 'a, E: Record> {
 }
 
 // The place of an object.
+#[inline(always)]
 fn place_at(places: &[Place], object: usize) -> Place
     ensures { result ≡ place_at places.now object }
 {
@@ -74,6 +89,7 @@ fn place_at(places: &[Place], object: usize) -> Place
 }
 
 // An origin plus a number.
+#[inline(always)]
 fn origin_sum(places: &[Place], origin: Origin, offset: u64) -> Option<u64>
     ensures { result ≡ origin_sum places.now origin offset }
 {
@@ -85,6 +101,7 @@ fn origin_sum(places: &[Place], origin: Origin, offset: u64) -> Option<u64>
 }
 
 // The number of a value.
+#[inline(always)]
 fn value_number(places: &[Place], own: usize, value: &Value) -> Option<u64>
     ensures { result ≡ value_number places.now own value.now }
 {
@@ -127,8 +144,24 @@ fn byte_of_number(order: Order, width: usize, number: u64, place: usize) -> u8
     }
 }
 
-// Writes a number in `width` bytes to an image from an index on.
+// Writes a number in `width` bytes to an image from an index on: 8 bytes at once, in one store.
+#[inline(always)]
 fn write_number(order: Order, image: &mut [u8], index: usize, width: usize, number: u64)
+    requires { index + width ≤ length image.old }
+    ensures len { length image.new ≡ length image.old }
+    ensures bytes { (i : ℕ) → slice_index image.new i
+        ≡ (if nat_le index i && nat_lt i (index + width)
+        then byte_of_number order width number (i - index) else slice_index image.old i) }
+{
+    match (order, width) {
+        (Order::Little, 8) => write_bytes(image, index, &number.to_le_bytes()),
+        (Order::Big, 8) => write_bytes(image, index, &number.to_be_bytes()),
+        _ => write_each(order, image, index, width, number),
+    }
+}
+
+// The same, byte by byte.
+fn write_each(order: Order, image: &mut [u8], index: usize, width: usize, number: u64)
     requires { index + width ≤ length image.old }
     ensures len { length image.new ≡ length image.old }
     ensures bytes { (i : ℕ) → slice_index image.new i
@@ -141,6 +174,7 @@ fn write_number(order: Order, image: &mut [u8], index: usize, width: usize, numb
 }
 
 // Writes bytes to an image from an index on.
+#[inline(always)]
 fn write_bytes(image: &mut [u8], index: usize, bytes: &[u8])
     requires { index + length bytes.now ≤ length image.old }
     ensures len { length image.new ≡ length image.old }
@@ -149,6 +183,49 @@ fn write_bytes(image: &mut [u8], index: usize, bytes: &[u8])
         then slice_index bytes.now (i - index) else slice_index image.old i) }
 {
     image[index..index + bytes.len()].copy_from_slice(bytes);
+}
+
+// The relative relocations of a machine, if it is supported.
+fn relative_of(machine: u16) -> Option<Relative>
+    ensures { result ≡ relative_of machine }
+{
+    match machine {
+        EM_X86_64 => Some(Relative {
+            kind: R_X86_64_RELATIVE,
+            width: 8,
+        }),
+        EM_386 => Some(Relative {
+            kind: R_386_RELATIVE,
+            width: 4,
+        }),
+        EM_AARCH64 => Some(Relative {
+            kind: R_AARCH64_RELATIVE,
+            width: 8,
+        }),
+        _ => None,
+    }
+}
+
+// The word of a relative relocation whose addend is in its record, for the object at index `of`.
+#[inline(always)]
+fn relative_word(of: usize, relative: &Option<Relative>, relocation: &Relocation) -> Option<Word>
+    ensures { result ≡ relative_word of relative.now relocation.now }
+{
+    let Some(relative) = relative else {
+        return None;
+    };
+    let reference = &relocation.reference;
+    if reference.kind != relative.kind || relocation.in_place {
+        return None;
+    }
+    Some(Word {
+        address: reference.offset,
+        width: u64::from(relative.width),
+        value: Value::Sum {
+            origin: Origin::Base(of),
+            offset: low(relative.width, u128::from(reference.addend)),
+        },
+    })
 }
 
 // Whether the symbol at an index of an object is weak.
@@ -175,6 +252,7 @@ fn has_no_number(value: &Value) -> bool
 }
 
 // A number of words, with one more that may lack a number.
+#[inline(always)]
 fn counted(count: u64, lacks: bool) -> u64
     ensures { result ≡ min (count + (if lacks then 1 else 0)) (2 ^ 64 - 1) }
 {
@@ -224,6 +302,7 @@ fn last_end(page: u64, table: ProgramTable<'_, '_>) -> u128
 
 // The index of the first of some bytes in an image of `len` bytes that begins at `start`, if they are
 // all in it.
+#[inline(always)]
 fn index_in(start: u64, len: usize, address: u64, width: u64) -> Option<usize>
     requires { 0 < width }
     ensures { MatchOption result (is_outside start len address width ≡ true)
@@ -292,6 +371,7 @@ impl<'b, 's, 'a, E: LinkedSymbol> Sources<'b, 's, 'a, E> {
     }
 
     // Writes a value of `width` bytes to an image from an index on.
+    #[inline(always)]
     fn write_value(
         &self,
         image: &mut [u8],
@@ -321,6 +401,7 @@ impl<'b, 's, 'a, E: LinkedSymbol> Sources<'b, 's, 'a, E> {
     }
 
     // Writes a word to an image that begins at `start`, and returns whether it has no number.
+    #[inline(always)]
     fn write_word(&self, start: u64, image: &mut [u8], word: &Word) -> Result<bool, LoadError>
         requires page { 0 < self.now.page }
         requires start { start ≡ start_at self.now self.now.of }
@@ -366,6 +447,64 @@ impl<'b, 's, 'a, E: LinkedSymbol> Sources<'b, 's, 'a, E> {
         self.write_word(start, image, &word)
     }
 
+    // Writes the word of a relocation that may need a symbol, and returns whether it has no number.
+    // `last` is the item of one before it, if there is one, and then its own.
+    fn write_other(
+        &self,
+        words: &Words<'s, 'a, E>,
+        start: u64,
+        relocation: Relocation,
+        last: &mut Option<Relocated<E>>,
+        image: &mut [u8],
+    ) -> Result<bool, LoadError>
+        requires page { 0 < self.now.page }
+        requires start { start ≡ start_at self.now self.now.of }
+        requires words { AreWordsFor self.now.objects.now (words_own words.now) self.now.of
+            (words_lazy words.now) words.now }
+        requires last { IfSome last.old (HasWord E.fields (words_objects words.now).now
+            (words_file words.now) (words_own words.now) (words_index words.now) (words_lazy words.now)) }
+        ensures last { IfSome last.new (HasWord E.fields (words_objects words.now).now
+            (words_file words.now) (words_own words.now) (words_index words.now) (words_lazy words.now)) }
+        ensures len { length image.new ≡ length image.old }
+        ensures item { IsItemWritten E.fields self.now (words_own words.now) (words_lazy words.now)
+            relocation image.old image.new result }
+    {
+        let item = words.item_after(relocation, last);
+        *last = Some(item);
+        self.write_item(words.own, words.lazy, start, image, &item)
+    }
+
+    // Writes the word of the next relocation, and returns whether it has no number. A relative one
+    // needs no item.
+    #[inline(always)]
+    fn write_next(
+        &self,
+        words: &Words<'s, 'a, E>,
+        relative: &Option<Relative>,
+        start: u64,
+        relocation: Relocation,
+        last: &mut Option<Relocated<E>>,
+        image: &mut [u8],
+    ) -> Result<bool, LoadError>
+        requires page { 0 < self.now.page }
+        requires start { start ≡ start_at self.now self.now.of }
+        requires words { AreWordsFor self.now.objects.now (words_own words.now) self.now.of
+            (words_lazy words.now) words.now }
+        requires relative { relative.now ≡ relative_of (file_machine (words_file words.now)) }
+        requires last { IfSome last.old (HasWord E.fields (words_objects words.now).now
+            (words_file words.now) (words_own words.now) (words_index words.now) (words_lazy words.now)) }
+        ensures last { IfSome last.new (HasWord E.fields (words_objects words.now).now
+            (words_file words.now) (words_own words.now) (words_index words.now) (words_lazy words.now)) }
+        ensures len { length image.new ≡ length image.old }
+        ensures item { IsItemWritten E.fields self.now (words_own words.now) (words_lazy words.now)
+            relocation image.old image.new result }
+    {
+        match relative_word(self.of, relative, &relocation) {
+            Some(word) => self.write_word(start, image, &word),
+            None => self.write_other(words, start, relocation, last, image),
+        }
+    }
+
     // Writes words, and returns how many have no number.
     fn write_words(
         &self,
@@ -380,9 +519,10 @@ impl<'b, 's, 'a, E: LinkedSymbol> Sources<'b, 's, 'a, E> {
             image.new result }
     {
         let start = self.start_at(self.of);
-        let mut count = 0u64;
-        for item in words {
-            match self.write_item(own, lazy, start, image, &item) {
+        let relative = relative_of(own.file().header.pt2.machine().raw());
+        let (mut words, mut last, mut count) = (words, None, 0u64);
+        while let Some(relocation) = words.next_relocation() {
+            match self.write_next(&words, &relative, start, relocation, &mut last, image) {
                 Ok(lacks) => count = counted(count, lacks),
                 Err(error) => return Err(error),
             }

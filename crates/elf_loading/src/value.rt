@@ -112,7 +112,8 @@ const SHN_UNDEF: u16 = 0;
 const SHN_ABS: u16 = 0xfff1;
 
 // The low bytes of a number.
-fn low(width: u32, number: u128) -> u64
+#[inline(always)]
+pub(crate) fn low(width: u32, number: u128) -> u64
     ensures { result ≡ low width number }
 {
     if width == 4 {

@@ -8,6 +8,7 @@ ghost use Rattle.elf_linking.specs.References.{file_machine};
 ghost use Rattle.elf_linking.specs.Scope.{scope_objects};
 ghost use Rattle.std.specs.List.{list_any};
 ghost use Rattle.elf_loading.specs.Segments.{loads_of};
+ghost use Rattle.elf_loading.specs.RelativeWords.{asks_as};
 ghost use Rattle.elf_loading.specs.Words.{HasWord, IsBoundIf, addend_of, addend_place};
 ghost use Rattle.elf_loading.specs.Words.{address_size, has_zeros, word_in_memory};
 ghost use Rattle.elf_loading.specs.Words.{binds_lazily, flag_in, formula_when, in_place_when, is_jump_slot};
@@ -77,9 +78,9 @@ pub struct Relocated<E> {
 pub struct Words<'s, 'a, E: Record> {
     scope: Scope<'s, 'a, E>,
     file: ElfFile<'a>,
-    own: &'s DynamicObject<'a, E>,
+    pub(crate) own: &'s DynamicObject<'a, E>,
     of: usize,
-    lazy: bool,
+    pub(crate) lazy: bool,
     order: InOrder<'a>,
 }
 
@@ -233,6 +234,16 @@ fn word_in_memory(file: &ElfFile<'_>, address: u64) -> Result<u64, LinkError>
     }
 }
 
+// Whether a relocation gets the symbol that another gets: it has the type and the symbol of it, and
+// is a slot if it is one.
+fn asks_as(one: &Relocation, other: &Relocation) -> bool
+    ensures { result ≡ asks_as one.now other.now }
+{
+    one.reference.symbol == other.reference.symbol
+        && one.reference.kind == other.reference.kind
+        && one.slot == other.slot
+}
+
 // The addend of a relocation, if the formula has one.
 fn addend_of(
     file: &ElfFile<'_>,
@@ -330,7 +341,8 @@ impl<'s, 'a, E: LinkedSymbol> Words<'s, 'a, E> {
     }
 
     // The next relocation.
-    fn next_relocation(&mut self) -> Option<Relocation>
+    #[inline(always)]
+    pub(crate) fn next_relocation(&mut self) -> Option<Relocation>
         ensures first { YieldsFirst words_left self.old result self.new }
         ensures same { IsSame self.old self.new }
     {
@@ -358,6 +370,43 @@ impl<'s, 'a, E: LinkedSymbol> Words<'s, 'a, E> {
             (words_file self.now) (words_own self.now) (words_index self.now) (words_lazy self.now) result }
     {
         let bound = self.bound(&relocation);
+        self.item_with(relocation, bound)
+    }
+
+    // The same after an item. Linkers put relocations of one symbol one after the other, and each of
+    // these gets the symbol of the last.
+    pub(crate) fn item_after(
+        &self,
+        relocation: Relocation,
+        last: &Option<Relocated<E>>,
+    ) -> Relocated<E>
+        requires { IfSome last.now (HasWord E.fields (words_objects self.now).now (words_file self.now)
+            (words_own self.now) (words_index self.now) (words_lazy self.now)) }
+        ensures relocation { result.relocation ≡ relocation }
+        ensures word { HasWord E.fields (words_objects self.now).now
+            (words_file self.now) (words_own self.now) (words_index self.now) (words_lazy self.now) result }
+    {
+        match last {
+            Some(last) if asks_as(&last.relocation, &relocation) => {
+                self.item_with(relocation, last.bound)
+            }
+            _ => self.item(relocation),
+        }
+    }
+
+    // A relocation with its word, by the symbol that it gets.
+    fn item_with(
+        &self,
+        relocation: Relocation,
+        bound: Result<Option<Bound<E>>, LinkError>,
+    ) -> Relocated<E>
+        requires { IsBoundIf (needs_symbol (file_machine (words_file self.now)) (words_lazy self.now)
+            relocation) E.fields (words_objects self.now).now (words_index self.now)
+            relocation.reference bound }
+        ensures relocation { result.relocation ≡ relocation }
+        ensures word { HasWord E.fields (words_objects self.now).now
+            (words_file self.now) (words_own self.now) (words_index self.now) (words_lazy self.now) result }
+    {
         let word = word_of(
             &self.file,
             self.own,

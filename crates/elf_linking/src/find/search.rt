@@ -1,7 +1,8 @@
 //! The search for the symbol that a reference gets, in one pass over the chain of its name.
 
-ghost use Rattle.std.specs.Prelude.{◌+◌, ◌^◌, ◌<◌, MatchResult};
+ghost use Rattle.std.specs.Prelude.{◌≡◌, ◌+◌, ◌^◌, ◌<◌, MatchResult};
 ghost use Rattle.elf_linking.specs.Find.{IsFound, dynamic_symbols};
+ghost use Rattle.elf_linking.specs.Layouts.{gnu_hash_number};
 ghost use Rattle.elf_linking.specs.VersionTables.{version_tables};
 ghost use Rattle.elf_linking.specs.declared.any_table.AnyTable.TheVariants.{Sysv};
 ghost use Rattle.xmas_elf.specs.HashTable.{Halts, StandsAt, chains_of};
@@ -17,21 +18,23 @@ use xmas_elf::hash::{HashTable, hash};
 use xmas_elf::symbol_table::{Entry, SymbolTable};
 
 impl<'a> AnyTable<'a> {
-    // The symbol that a reference gets.
+    // The symbol that a reference gets, by the name and its hash number of GNU's table.
     #[inline(always)]
     pub(crate) fn find_in<E: Entry + Record>(
         &self,
         name: &str,
+        hash: u32,
         symbols: &SymbolTable<'_, E>,
         versions: &Versions<'_>,
         wanted: &Wanted<'_>,
         use_: Use,
     ) -> Result<Option<(u32, E)>, LinkError>
+        requires { hash ≡ gnu_hash_number name.now }
         ensures { IsFound (dynamic_symbols self.now (table_symbols symbols.now)
             (version_tables versions.now)) name.now wanted.now use_ result }
     {
         match self {
-            AnyTable::Gnu(table) => table.find_in(name, symbols, versions, wanted, use_),
+            AnyTable::Gnu(table) => table.find_in(name, hash, symbols, versions, wanted, use_),
             AnyTable::Sysv(table) => find_in_chain(table, name, symbols, versions, wanted, use_),
         }
     }

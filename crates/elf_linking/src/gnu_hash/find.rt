@@ -3,6 +3,7 @@
 
 ghost use Rattle.std.specs.Prelude.{◌≡◌};
 ghost use Rattle.elf_linking.specs.Find.{IsFound, dynamic_symbols};
+ghost use Rattle.elf_linking.specs.Layouts.{gnu_hash_number};
 ghost use Rattle.elf_linking.specs.VersionTables.{version_tables};
 ghost use Rattle.elf_linking.specs.declared.any_table.AnyTable.TheVariants.{Gnu};
 ghost use Rattle.xmas_elf.specs.SymbolTable.{table_symbols};
@@ -11,25 +12,26 @@ use crate::LinkError;
 use crate::find::kept::Kept;
 use crate::find::{Use, Wanted};
 use crate::gnu_hash::lookup::symbol_end;
-use crate::gnu_hash::{GnuHashTable, gnu_hash};
+use crate::gnu_hash::GnuHashTable;
 use crate::versions::Versions;
 use elf_base::bytes::Record;
 use xmas_elf::symbol_table::{Entry, SymbolTable};
 
 impl<'a> GnuHashTable<'a> {
-    // The symbol that a reference gets.
+    // The symbol that a reference gets, by the name and its hash number.
     pub(crate) fn find_in<E: Entry + Record>(
         &self,
         name: &str,
+        hash: u32,
         symbols: &SymbolTable<'_, E>,
         versions: &Versions<'_>,
         wanted: &Wanted<'_>,
         use_: Use,
     ) -> Result<Option<(u32, E)>, LinkError>
+        requires { hash ≡ gnu_hash_number name.now }
         ensures { IsFound (dynamic_symbols (Gnu self.now) (table_symbols symbols.now)
             (version_tables versions.now)) name.now wanted.now use_ result }
     {
-        let hash = gnu_hash(name);
         let Some(from) = self.start(hash) else {
             return Ok(None);
         };

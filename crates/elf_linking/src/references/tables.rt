@@ -33,6 +33,7 @@ pub trait Relocates: Record {
 impl Relocates for Rela<P32> {
     ghost reference_of = { rela_reference symbol_in_32 type_in_32 };
 
+    #[inline(always)]
     fn reference(&self) -> Reference {
         Reference {
             offset: u64::from(self.get_offset()),
@@ -46,6 +47,7 @@ impl Relocates for Rela<P32> {
 impl Relocates for Rela<P64> {
     ghost reference_of = { rela_reference symbol_in_64 type_in_64 };
 
+    #[inline(always)]
     fn reference(&self) -> Reference {
         Reference {
             offset: self.get_offset(),
@@ -59,6 +61,7 @@ impl Relocates for Rela<P64> {
 impl Relocates for Rel<P32> {
     ghost reference_of = { rel_reference symbol_in_32 type_in_32 };
 
+    #[inline(always)]
     fn reference(&self) -> Reference {
         Reference {
             offset: u64::from(self.get_offset()),
@@ -72,6 +75,7 @@ impl Relocates for Rel<P32> {
 impl Relocates for Rel<P64> {
     ghost reference_of = { rel_reference symbol_in_64 type_in_64 };
 
+    #[inline(always)]
     fn reference(&self) -> Reference {
         Reference {
             offset: self.get_offset(),
@@ -101,6 +105,7 @@ fn records_in<'a, T: Relocates>(
 }
 
 // The first of the remaining records.
+#[inline(always)]
 fn first_of<T: Relocates>(rest: &mut TableIter<'_, T>) -> Option<Reference>
     ensures { YieldsFirst (λ iter. map T.reference_of (table_items (table_rest iter)))
         rest.old result rest.new }
@@ -175,6 +180,7 @@ impl<'a> Relocations<'a> {
     }
 
     // The first of the remaining relocations.
+    #[inline(always)]
     pub(crate) fn next(&mut self) -> Option<Reference>
         ensures { YieldsFirst relocations_left self.old result self.new }
     {

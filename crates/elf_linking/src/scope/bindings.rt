@@ -61,6 +61,7 @@ impl<'s, 'a, E: LinkedSymbol> Scope<'s, 'a, E> {
 
     /// A reference of the object at index `from`, what it asks for, and what it gets: `bound` is
     /// the result of `bind`.
+    #[inline(always)]
     pub fn binding(&self, from: usize, reference: &Reference) -> Binding<'a, E>
         ensures from { result.from ≡ from }
         ensures reference { result.reference ≡ reference.now }

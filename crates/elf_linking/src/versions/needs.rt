@@ -73,6 +73,7 @@ impl<'a> Need<'a> {
 }
 
 // The part at `place` of a need with this offset of the name of its file.
+#[inline(always)]
 fn need_at<'a>(records: &Records<'a>, file: u32, place: usize) -> Need<'a>
     requires { place + 16 ≤ length (records_data records.now).bytes }
     ensures { need_parts result ≡ need_at (records_data records.now) file place }
@@ -124,6 +125,7 @@ impl<'a> Needs<'a> {
     }
 
     // Whether there is room for the parts of the need at `place`, which are the next then.
+    #[inline(always)]
     fn enter(&mut self, place: usize) -> bool
         requires { place + 16 ≤ length (records_data self.old.records).bytes }
         ensures fits { result
@@ -167,6 +169,7 @@ impl<'a> Iterator for Needs<'a> {
     ghost remaining = { item_count needs_left };
 
     #[tactic(auto, using(crate::proofs::VersionItems::items_end, crate::proofs::VersionItems::items_first, crate::proofs::VersionItems::joined_end, crate::proofs::VersionItems::joined_first, crate::proofs::VersionItems::joined_cut, crate::proofs::VersionItems::within_end, crate::proofs::VersionItems::within_cut, crate::proofs::VersionItems::left_many, crate::proofs::VersionItems::left_fits))]
+    #[inline(always)]
     fn next(&mut self) -> Option<Result<Need<'a>, LinkError>> {
         loop {
             match self.parts.next(&self.records, 12) {

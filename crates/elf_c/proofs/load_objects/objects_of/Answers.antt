@@ -1,8 +1,40 @@
-use Rattle.std.proofs.Common.{rules, of_calls}
-use Rattle.elf_c.proofs.LoadObjects.{all_by}
+use Rattle.std.proofs.Common.{◌≡◌, [], length, refl, subst, ◌∙◌, arith}
+use Rattle.std.proofs.lemmas.List.{length-set}
+use Rattle.std.proofs.lemmas.Option.{slice_get-get_or}
+use Rattle.elf_c.specs.LoadObjects.{AreFirstObjects}
+use Rattle.elf_c.proofs.LoadObjects.{all_objects, first_object, object_more, refused_at}
 use Rattle.elf_c.proofs.load_objects.objects_of.Goals as goal
+
+pub returns-in-Err : goal.returns-in-Err
+returns-in-Err g c =
+    refused_at g.E.LinkedSymbol.CLASS g.E.Record.SIZE c.args.loads.now 0 _ [] c.in-Err.error
+    (slice_get-get_or c.args.loads.now 0 _ c.requires.some) (λ index load below is. absurd (omega (arith, below))) c.in-Err.ensures.exact
+
+pub loop-index-init : goal.loop-index-init
+loop-index-init g c = record {
+  long = refl;
+  first = first_object g.E.LinkedSymbol.CLASS g.E.Record.SIZE c.args.loads.now c.in-Ok.first _ (slice_get-get_or c.args.loads.now 0 _ c.requires.some) c.in-Ok.ensures.exact;
+}
+
+pub returns-in-Err-read_object : goal.returns-in-Err-read_object
+returns-in-Err-read_object g c =
+    refused_at g.E.LinkedSymbol.CLASS g.E.Record.SIZE c.args.loads.now c.loop-index.index _ c.loop-index.objects c.in-Err-read_object.error
+    (slice_get-get_or c.args.loads.now c.loop-index.index _ c.loop-index-test.true) c.loop-index.invariant.first c.in-Err-read_object.ensures.exact
+
+pub loop-index-preserved : goal.loop-index-preserved
+loop-index-preserved g c =
+    let long = c.loop-index.invariant.long in
+    let fit = c.requires.fit in
+    let below = c.loop-index-test.true in record {
+      long = length-set c.loop-index.objects c.loop-index.index c.in-Ok-read_object.object ∙ long;
+      first = object_more g.E.LinkedSymbol.CLASS g.E.Record.SIZE c.args.loads.now c.loop-index.objects c.loop-index.index c.in-Ok-read_object.object _ (omega (arith, below, long, fit))
+          (slice_get-get_or c.args.loads.now c.loop-index.index _ below) c.in-Ok-read_object.ensures.exact c.loop-index.invariant.first;
+    }
 
 pub returns : goal.returns
 returns g c =
-    all_by c.args.loads.now c.padded.result c.requires.fit c.padded.ensures _ g.E.LinkedSymbol.CLASS g.E.Record.SIZE c.try_map.result c.try_map.ensures.ok c.try_map.ensures.err
-    (λ a answer f f' called. search (rules, of_calls))
+    let most = c.loop-index.auto.index-end c.requires.some in
+    let past = c.loop-index-test.false in
+    let end : c.loop-index.index ≡ length c.args.loads.now = omega (arith, most, past) in
+    all_objects g.E.LinkedSymbol.CLASS g.E.Record.SIZE c.args.loads.now c.loop-index.objects c.loop-index.invariant.long c.requires.fit
+    (subst (λ count. AreFirstObjects g.E.LinkedSymbol.CLASS g.E.Record.SIZE c.args.loads.now count c.loop-index.objects) end c.loop-index.invariant.first)

@@ -4,7 +4,7 @@ use Rattle.elf_c.proofs.LoadObjects.{padded_more, padded_none}
 use Rattle.elf_c.proofs.load_objects.padded.Goals as goal
 
 pub loop-index-init : goal.loop-index-init
-loop-index-init c = padded_none c.args.loads.now _ c.smallest-all.ensures
+loop-index-init c = padded_none c.args.loads.now _ (0, slice_get-get_or c.args.loads.now 0 _ c.requires.some)
 
 pub loop-index-preserved : goal.loop-index-preserved
 loop-index-preserved c =

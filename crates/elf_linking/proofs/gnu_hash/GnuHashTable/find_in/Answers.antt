@@ -52,7 +52,7 @@ returns-in-Err-after g c =
     let word : HasChain c.args.self.now c.loop-index.index = c.in-Ok.ensures.readable.0 refl in
     let there : IsThere c.args.self.now (table_symbols c.args.symbols.now).items c.loop-index.index = record { symbol = omega arith; word = word } in
     let same : c.in-Ok.word ≡ chain_word c.args.self.now c.loop-index.index = c.in-Ok.ensures.value in
-    let hash : c.gnu_hash-hash.result ≡ gnu_hash_number c.args.name.now = c.gnu_hash-hash.ensures in
+    let hash : c.args.hash ≡ gnu_hash_number c.args.name.now = c.requires in
     let agrees : chain_word c.args.self.now c.loop-index.index / 2 ≡ gnu_hash_number c.args.name.now / 2 = cc in
     found_here _ _ _ _ _ starts (omega arith) _ c.loop-index.invariant.run _ _ _ c.loop-index.invariant.comes there agrees c.in-Err-after.answer (c.in-Err-after.ensures (Gnu c.args.self.now))
 
@@ -62,10 +62,10 @@ returns-then-word-eq1 g c =
     let word : HasChain c.args.self.now c.loop-index.index = c.in-Ok.ensures.readable.0 refl in
     let there : IsThere c.args.self.now (table_symbols c.args.symbols.now).items c.loop-index.index = record { symbol = omega arith; word = word } in
     let same : c.in-Ok.word ≡ chain_word c.args.self.now c.loop-index.index = c.in-Ok.ensures.value in
-    let hash : c.gnu_hash-hash.result ≡ gnu_hash_number c.args.name.now = c.gnu_hash-hash.ensures in
+    let hash : c.args.hash ≡ gnu_hash_number c.args.name.now = c.requires in
     let loop = c.loop-index.invariant in
     let file = dynamic_symbols (Gnu c.args.self.now) (table_symbols c.args.symbols.now) (version_tables c.args.versions.now) in
-    let behind = goes_by c.args.self.now file.symbols file.versions _ _ starts (omega arith) _ loop.run _ _ _ loop.comes there c.in-Ok.word c.gnu_hash-hash.result same hash c.if-word-hash.kept (elim c.if-word-hash.branch [
+    let behind = goes_by c.args.self.now file.symbols file.versions _ _ starts (omega arith) _ loop.run _ _ _ loop.comes there c.in-Ok.word c.args.hash same hash c.if-word-hash.kept (elim c.if-word-hash.branch [
       | then-word-hash+in-Ok-after w ↦ inl (w.if-word-hash.true, subst (GoesOn file c.args.name.now c.args.wanted.now c.args.use_ c.loop-index.kept c.loop-index.index) (sym w.kept-is) (w.in-Ok-after.ensures (Gnu c.args.self.now)))
       | else-word-hash w ↦ inr (w.if-word-hash.false, w.kept-is)
     ]) in
@@ -79,10 +79,10 @@ loop-index-preserved g c =
     let word : HasChain c.args.self.now c.loop-index.index = c.in-Ok.ensures.readable.0 refl in
     let there : IsThere c.args.self.now (table_symbols c.args.symbols.now).items c.loop-index.index = record { symbol = omega arith; word = word } in
     let same : c.in-Ok.word ≡ chain_word c.args.self.now c.loop-index.index = c.in-Ok.ensures.value in
-    let hash : c.gnu_hash-hash.result ≡ gnu_hash_number c.args.name.now = c.gnu_hash-hash.ensures in
+    let hash : c.args.hash ≡ gnu_hash_number c.args.name.now = c.requires in
     let loop = c.loop-index.invariant in
     let file = dynamic_symbols (Gnu c.args.self.now) (table_symbols c.args.symbols.now) (version_tables c.args.versions.now) in
-    let behind = goes_by c.args.self.now file.symbols file.versions _ _ starts (omega arith) _ loop.run _ _ _ loop.comes there c.in-Ok.word c.gnu_hash-hash.result same hash c.if-word-hash.kept (elim c.if-word-hash.branch [
+    let behind = goes_by c.args.self.now file.symbols file.versions _ _ starts (omega arith) _ loop.run _ _ _ loop.comes there c.in-Ok.word c.args.hash same hash c.if-word-hash.kept (elim c.if-word-hash.branch [
       | then-word-hash+in-Ok-after w ↦ inl (w.if-word-hash.true, subst (GoesOn file c.args.name.now c.args.wanted.now c.args.use_ c.loop-index.kept c.loop-index.index) (sym w.kept-is) (w.in-Ok-after.ensures (Gnu c.args.self.now)))
       | else-word-hash w ↦ inr (w.if-word-hash.false, w.kept-is)
     ]) in

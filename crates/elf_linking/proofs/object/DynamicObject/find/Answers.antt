@@ -1,13 +1,5 @@
-use Rattle.std.proofs.Common.{subst}
-use Rattle.elf_linking.specs.DynamicObject.{object_table, object_versions}
-use Rattle.elf_linking.specs.Find.{IsFound, dynamic_symbols}
-use Rattle.elf_linking.specs.VersionTables.{version_tables}
 use Rattle.elf_linking.proofs.Finds.{found_right}
 use Rattle.elf_linking.proofs.object.DynamicObject.find.Goals as goal
 
-pub returns-clause-answer : goal.returns-clause-answer
-returns-clause-answer g c =
-    subst (λ all. IsFound (dynamic_symbols (object_table c.args.self.now) all (version_tables (object_versions c.args.self.now))) c.args.name.now c.args.wanted.now c.args.use_ c.find_in.result) c.symbols.ensures.symbols c.find_in.ensures
-
 pub returns-clause-good : goal.returns-clause-good
-returns-clause-good g c = λ good readable. found_right _ _ _ _ good readable _ (returns-clause-answer g c)
+returns-clause-good g c = λ good readable. found_right _ _ _ _ good readable _ c.find_hashed.ensures

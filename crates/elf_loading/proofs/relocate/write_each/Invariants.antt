@@ -1,6 +1,6 @@
 use Rattle.std.proofs.Common.{◌≡◌, ℕ, ◌+◌, ◌-◌, ◌&&◌, nat_le, nat_lt, length, get_or, if◌then◌else◌}
 use Rattle.elf_loading.specs.Relocate.{byte_of_number}
-use Rattle.elf_loading.proofs.relocate.write_number.Given as goal
+use Rattle.elf_loading.proofs.relocate.write_each.Given as goal
 
 -- the first bytes are written
 abbrev pub invariant-loop-place : goal.invariant-loop-place

@@ -1,0 +1,49 @@
+-- Words that are written without a look-up: those of relative relocations, and those of a symbol that was looked up before
+-- (the processor supplements of the System V ABI; this project's own).
+use Rattle.std.specs.Prelude.{◌≡◌, ℕ, ◌+◌, ◌==◌, ◌&&◌, not, Bool, true, false, List, length, slice_index, Option, None, Some, Result, Ok, Err, IfErr, IfOk, if◌then◌else◌}
+use Rattle.elf_linking.specs.DynamicObject.{object_file}
+use Rattle.elf_linking.specs.declared.object.DynamicObject.{DynamicObject}
+use Rattle.elf_loading.specs.Relocate.{start_at, word_byte, write_item}
+use Rattle.elf_loading.specs.Values.{low}
+use Rattle.elf_loading.specs.Words.{HasWord}
+use Rattle.elf_loading.specs.declared.error.LoadError.{LoadError}
+use Rattle.elf_loading.specs.declared.in_order.Relocation.{Relocation}
+use Rattle.elf_loading.specs.declared.relocate.Relative.{Relative}
+use Rattle.elf_loading.specs.declared.relocate.Sources.{Sources}
+use Rattle.elf_loading.specs.declared.value.Origin.TheVariants.{Base}
+use Rattle.elf_loading.specs.declared.value.Value.TheVariants.{Sum}
+use Rattle.elf_loading.specs.declared.words.Relocated.{Relocated}
+use Rattle.elf_loading.specs.declared.words.Word.{Word}
+use Rattle.xmas_elf.specs.Symbol.{SymbolFields}
+
+-- relative relocations, with the number of bytes that they write: R_X86_64_RELATIVE (machine 62), R_386_RELATIVE (3) and
+-- R_AARCH64_RELATIVE (183)
+abbrev pub relative_of : ℕ → Option Relative
+relative_of machine = if machine == 62 then Some (record { kind = 8; width = 8 })
+    else (if machine == 3 then Some (record { kind = 8; width = 4 })
+    else (if machine == 183 then Some (record { kind = 1027; width = 8 }) else None))
+
+-- the word of a relative relocation of the object at index `of`, if its addend is in its record
+abbrev pub relative_word : ℕ → Option Relative → Relocation → Option Word
+relative_word of None relocation = None
+relative_word of (Some relative) relocation =
+    if relocation.reference.kind == relative.kind && not relocation.in_place then Some (record {
+      address = relocation.reference.offset;
+      width = relative.width;
+      value = Sum (Base of) (low relative.width relocation.reference.addend);
+    }) else None
+
+-- two relocations get the same symbol: theirs has the same index, their type is the same, and both are slots or neither is
+abbrev pub asks_as : Relocation → Relocation → Bool
+asks_as one other = one.reference.symbol == other.reference.symbol
+    && (one.reference.kind == other.reference.kind && (if one.slot then other.slot else not other.slot))
+
+-- a call wrote the word of a relocation to an image, or returned why not
+pub record IsItemWritten {E : Type 0} {r : _} (fields : E → SymbolFields) (sources : Sources E r) (own : DynamicObject E r) (lazy : Bool) (relocation : Relocation) (before after : List ℕ) (result : Result Bool LoadError) : Type 0 where
+  pub item : Relocated E
+  pub relocation_is : item.relocation ≡ relocation
+  pub has_word : HasWord fields sources.objects.now (object_file own) own sources.of lazy item
+  pub answer : result ≡ write_item fields sources own lazy (length before) item
+  pub bytes : IfOk result (λ lacks. (i : ℕ) → slice_index after i
+      ≡ word_byte sources (start_at sources sources.of + i) item.word (slice_index before i))
+  pub same : IfErr result (λ error. after ≡ before)
