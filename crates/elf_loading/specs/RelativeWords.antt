@@ -33,7 +33,7 @@ relative_word of (Some relative) relocation =
       value = Sum (Base of) (low relative.width relocation.reference.addend);
     }) else None
 
--- two relocations get the same symbol: theirs has the same index, their type is the same, and both are slots or neither is
+-- two relocations ask alike: the indices of their symbols and their types are the same, and both are slots or neither is
 abbrev pub asks_as : Relocation → Relocation → Bool
 asks_as one other = one.reference.symbol == other.reference.symbol
     && (one.reference.kind == other.reference.kind && (if one.slot then other.slot else not other.slot))

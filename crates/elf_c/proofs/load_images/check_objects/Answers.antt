@@ -10,9 +10,9 @@ returns-in-Err g c = unchecked c.in-Err.error c.in-Err.ensures refl
 pub returns-in-Ok-check_image : goal.returns-in-Ok-check_image
 returns-in-Ok-check_image g c =
     checked_by g.E.LinkedSymbol.CLASS g.E.Record.SIZE g.E.Entry.fields c.args.loads.now c.args.of (scope_objects c.new.result)
-    (take (length c.args.loads.now) c.in-Ok.objects) c.in-Ok.ensures (search rules) _ (Ok tt) c.in-Ok-check_image.ensures.exact
+    (take (length c.args.loads.now) c.in-Ok.objects.all) c.in-Ok.ensures (search rules) _ (Ok tt) c.in-Ok-check_image.ensures.exact
 
 pub returns-in-Err-check_image : goal.returns-in-Err-check_image
 returns-in-Err-check_image g c =
     checked_by g.E.LinkedSymbol.CLASS g.E.Record.SIZE g.E.Entry.fields c.args.loads.now c.args.of (scope_objects c.new.result)
-    (take (length c.args.loads.now) c.in-Ok.objects) c.in-Ok.ensures (search rules) _ (Err c.in-Err-check_image.error) c.in-Err-check_image.ensures.exact
+    (take (length c.args.loads.now) c.in-Ok.objects.all) c.in-Ok.ensures (search rules) _ (Err c.in-Err-check_image.error) c.in-Err-check_image.ensures.exact

@@ -10,11 +10,11 @@ returns-in-Err-clause-exact g c = unrelocated c.in-Err.error c.in-Err.ensures re
 pub returns-in-Ok-relocate-clause-exact : goal.returns-in-Ok-relocate-clause-exact
 returns-in-Ok-relocate-clause-exact g c =
     relocated_by g.E.LinkedSymbol.CLASS g.E.Record.SIZE g.E.Entry.fields c.args.loads.now c.args.of (scope_objects c.new-scope.result)
-    (take (length c.args.loads.now) c.in-Ok.objects) c.in-Ok.ensures (search rules) c.args.when c.args.page c.args.image.now c.relocate.new.image
+    (take (length c.args.loads.now) c.in-Ok.objects.all) c.in-Ok.ensures (search rules) c.args.when c.args.page c.args.image.now c.relocate.new.image
     (Ok c.in-Ok-relocate.left) _ _ c.in-Ok-relocate.ensures.exact c.in-Ok-relocate.ensures.once (search rules) (search rules)
 
 pub returns-in-Err-relocate-clause-exact : goal.returns-in-Err-relocate-clause-exact
 returns-in-Err-relocate-clause-exact g c =
     relocated_by g.E.LinkedSymbol.CLASS g.E.Record.SIZE g.E.Entry.fields c.args.loads.now c.args.of (scope_objects c.new-scope.result)
-    (take (length c.args.loads.now) c.in-Ok.objects) c.in-Ok.ensures (search rules) c.args.when c.args.page c.args.image.now c.relocate.new.image
+    (take (length c.args.loads.now) c.in-Ok.objects.all) c.in-Ok.ensures (search rules) c.args.when c.args.page c.args.image.now c.relocate.new.image
     (Err c.in-Err-relocate.error) _ _ c.in-Err-relocate.ensures.exact c.in-Err-relocate.ensures.once (search rules) (search rules)
