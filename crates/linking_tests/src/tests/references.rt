@@ -5,7 +5,7 @@ use crate::tests::want::{open, want, want_at};
 use elf_base::ElfError;
 use elf_base::bytes::Order;
 use elf_linking::find::Use;
-use elf_linking::references::{Reference, relocation_name, use_of};
+use elf_linking::references::{Reference, TableRelocations, relocation_name, use_of};
 use elf_linking::view::{DynamicView, word_at};
 use elf_linking::{DynamicObject, LinkError};
 use std::process::Abort;
@@ -214,6 +214,13 @@ fn lists_relocations_that_name_symbols(rt: HostRuntime) -> Result<(), LinkError>
     Ok(())
 }
 
+fn check_table(rt: &impl Abort, mut table: TableRelocations<'_>, rows: &[Row], class: u8) {
+    for &row in rows {
+        want(rt, table.next(), Some(reference(row, class)));
+    }
+    want(rt, table.next(), None);
+}
+
 #[test]
 fn lists_all_relocations(rt: HostRuntime) -> Result<(), LinkError> {
     let entries = [
@@ -227,6 +234,10 @@ fn lists_all_relocations(rt: HostRuntime) -> Result<(), LinkError> {
             want(&rt, found.next(), Some(reference(row, class)));
         }
         want(&rt, found.next(), None);
+        let (rela, rel, plt) = DynamicView::read(&file)?.relocation_tables(&file)?;
+        check_table(&rt, rela, RELA_ROWS, class);
+        check_table(&rt, rel, REL_ROWS, class);
+        check_table(&rt, plt, PLT_ROWS, class);
     }
     Ok(())
 }
