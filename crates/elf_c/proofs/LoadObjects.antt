@@ -1,13 +1,11 @@
 -- The objects of files, their places and their images, in a slice of an array.
 use Rattle.std.proofs.Common.{◌≡◌, ◌≢◌, ◌<◌, ◌≤◌, ◌+◌, ℕ, zero, suc, ◌⊎◌, ⊎_elim, inl, inr, List, [], ◌∷◌, get_or, length, take, Option, None, Some, Result, Ok, Err, refl, sym, ap, subst, ◌∙◌, arith}
-use Rattle.std.specs.Array.{AllZipBelow}
 use Rattle.std.specs.Borrow.{Bor}
 use Rattle.std.specs.Fn.{Called, Mut}
-use Rattle.std.specs.List.{IsAmong}
-use Rattle.std.specs.Prelude.{IfErr, IfOk, IsSomeAnd, MatchResult, replicate, slice_get, slice_set}
+use Rattle.std.specs.Prelude.{IsSomeAnd, MatchResult, replicate, slice_get, slice_set}
 use Rattle.std.proofs.lemmas.Bool.{cases_order}
 use Rattle.std.proofs.lemmas.List.{length-replicate, length-set, length-take-le}
-use Rattle.std.proofs.lemmas.Option.{get_or_from_slice_get, slice_get_read, slice_get_within}
+use Rattle.std.proofs.lemmas.Option.{get_or_from_slice_get, slice_get_within}
 use Rattle.elf_base.specs.FileHeader.{header_of}
 use Rattle.elf_linking.specs.DynamicObject.{IsReachedObject, IsReachedRefused}
 use Rattle.elf_linking.specs.declared.error.LinkError.{LinkError}

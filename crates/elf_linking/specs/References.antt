@@ -14,6 +14,7 @@ use Rattle.elf_linking.specs.declared.find.Use.TheVariants.{Any, Copy, Defined}
 use Rattle.elf_linking.specs.declared.references.Reference.{Reference}
 use Rattle.elf_linking.specs.declared.references.AllRelocations.{AllRelocations}
 use Rattle.elf_linking.specs.declared.references.References.{References}
+use Rattle.elf_linking.specs.declared.references.RelocationTables.{RelocationTables}
 use Rattle.elf_linking.specs.declared.references.TableRelocations.{TableRelocations}
 use Rattle.elf_linking.specs.declared.references.tables.Relocations.{Relocations}
 use Rattle.elf_linking.specs.declared.references.tables.Relocations.TheVariants.{Absent, Rel32, Rel64, Rela32, Rela64}
@@ -160,9 +161,9 @@ all_left iter = relocations_left iter.rela ++ (relocations_left iter.rel ++ relo
 abbrev pub table_left : TableRelocations → List Reference
 table_left iter = relocations_left iter.rest
 
--- those of three tables
-abbrev pub each_left : TableRelocations → TableRelocations → TableRelocations → Tables
-each_left rela rel plt = record { rela = table_left rela; rel = table_left rel; plt = table_left plt }
+-- those of each table
+abbrev pub each_left : RelocationTables → Tables
+each_left tables = record { rela = table_left tables.rela; rel = table_left tables.rel; plt = table_left tables.plt }
 
 -- the references that an iterator has not yet returned
 abbrev pub references_left : References → List Reference

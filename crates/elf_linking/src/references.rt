@@ -65,6 +65,17 @@ pub struct TableRelocations<'a> {
     rest: Relocations<'a>,
 }
 
+/// The relocations of each table of a file; a table that the file doesn't have has none.
+#[derive(Clone, Debug, Drop)]
+pub struct RelocationTables<'a> {
+    /// Those of the table Rela.
+    pub rela: TableRelocations<'a>,
+    /// Those of the table Rel.
+    pub rel: TableRelocations<'a>,
+    /// Those of the procedure linkage table (JmpRel).
+    pub plt: TableRelocations<'a>,
+}
+
 /// An iterator over the relocations of a file that name a symbol, in the order of
 /// `AllRelocations`.
 ///
@@ -100,22 +111,18 @@ impl<'a> DynamicView<'a> {
         Ok(all)
     }
 
-    /// The relocations of each table: of Rela, of Rel, and of JmpRel. Those of the three, one after the
-    /// other, are those of `relocations`, which has the same errors.
-    pub fn relocation_tables(
-        &self,
-        file: &ElfFile<'a>,
-    ) -> Result<(TableRelocations<'a>, TableRelocations<'a>, TableRelocations<'a>), LinkError>
+    /// The relocations of each table. Those of Rela, of Rel and of JmpRel, one after the other, are those
+    /// of `relocations`, which has the same errors.
+    pub fn relocation_tables(&self, file: &ElfFile<'a>) -> Result<RelocationTables<'a>, LinkError>
         ensures exact { let answer = relocation_tables file.now (view_entries self.now) in
-            MatchResult result (λ tables. answer ≡ Ok (each_left tables.0 tables.1 tables.2))
-            (λ error. answer ≡ Err error) }
+            MatchResult result (λ tables. answer ≡ Ok (each_left tables)) (λ error. answer ≡ Err error) }
     {
         let all = self.read_tables(file)?;
-        Ok((
-            TableRelocations { rest: all.rela },
-            TableRelocations { rest: all.rel },
-            TableRelocations { rest: all.plt },
-        ))
+        Ok(RelocationTables {
+            rela: TableRelocations { rest: all.rela },
+            rel: TableRelocations { rest: all.rel },
+            plt: TableRelocations { rest: all.plt },
+        })
     }
 
     // The relocations of the three tables.

@@ -90,7 +90,8 @@ impl<'s, 'a, E: LinkedSymbol> Scope<'s, 'a, E> {
         let Some(asking) = self.objects.get(from) else {
             return Err(LinkError::ObjectIndex);
         };
-        self.first_bound(asking.is_symbolic(), from, name, gnu_hash(name), wanted, use_)
+        let hash = gnu_hash(name);
+        self.first_bound(asking.is_symbolic(), from, name, hash, wanted, use_)
     }
 
     /// The symbol that a reference of the object at index `from` gets: the result of `answer` for

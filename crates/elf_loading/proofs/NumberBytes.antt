@@ -74,9 +74,9 @@ module _ (index i old : ℕ) (bytes : List ℕ) (byte : ℕ → ℕ) where
     | inl less ↦ (let from : nat_le index i ≡ false = lt-leb index i less in rw from refl)
     | inr more ↦ elim (cases_lt i (index + 8)) [
       | inl less ↦ (
-        let from : nat_le index i ≡ true = le-leb index i more in
-        let to : nat_lt i (index + 8) ≡ true = lt-ltb i (index + 8) less in
-        rw (from, to) (each (i - index) (omega (arith, less, more))))
+          let from : nat_le index i ≡ true = le-leb index i more in
+          let to : nat_lt i (index + 8) ≡ true = lt-ltb i (index + 8) less in
+          rw (from, to) (each (i - index) (omega (arith, less, more))))
       | inr past ↦ (let to : nat_lt i (index + 8) ≡ false = le-ltb i (index + 8) past in by_second (nat_le index i) (nat_lt i (index + 8)) to)
     ]
   ])

@@ -16,7 +16,7 @@ use Rattle.elf_loading.specs.Formulas.{formula_of, width_of}
 use Rattle.elf_loading.specs.RelativeWords.{IsItemWritten, asks_as, relative_of, relative_word}
 use Rattle.elf_loading.specs.Relocate.{AreWordsFor, start_at, word_byte, write_item, write_word}
 use Rattle.elf_loading.specs.Values.{low}
-use Rattle.elf_loading.specs.Words.{HasWord, IsBoundIf, formula_when, formula_word, in_place_when, is_jump_slot, is_lazy, needs_symbol, symbol_in, word_of}
+use Rattle.elf_loading.specs.Words.{HasWord, IsBoundIf, formula_when, formula_word, in_place_when, is_jump_slot, is_lazy, needs_symbol, symbol_in}
 use Rattle.elf_loading.specs.declared.error.LoadError.{LoadError}
 use Rattle.elf_loading.specs.declared.formulas.Formula.TheVariants as formulas
 use Rattle.elf_loading.specs.declared.in_order.Relocation.{Relocation}

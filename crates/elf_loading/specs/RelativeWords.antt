@@ -1,6 +1,6 @@
 -- Words that are written without a look-up: those of relative relocations, and those of a symbol that was looked up before
 -- (the processor supplements of the System V ABI; this project's own).
-use Rattle.std.specs.Prelude.{◌≡◌, ℕ, ◌+◌, ◌==◌, ◌&&◌, not, Bool, true, false, List, length, slice_index, Option, None, Some, Result, Ok, Err, IfErr, IfOk, if◌then◌else◌}
+use Rattle.std.specs.Prelude.{◌≡◌, ℕ, ◌+◌, ◌==◌, ◌&&◌, not, Bool, List, length, slice_index, Option, None, Some, Result, IfErr, IfOk, if◌then◌else◌}
 use Rattle.elf_linking.specs.DynamicObject.{object_file}
 use Rattle.elf_linking.specs.declared.object.DynamicObject.{DynamicObject}
 use Rattle.elf_loading.specs.Relocate.{start_at, word_byte, write_item}

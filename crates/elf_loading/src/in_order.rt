@@ -238,23 +238,23 @@ impl<'a> InOrder<'a> {
     {
         let machine = file.header.pt2.machine().raw();
         let rest = packed_of(view, file)?;
-        let (rela, rel, slots) = view.relocation_tables(file)?;
+        let tables = view.relocation_tables(file)?;
         Ok(InOrder {
             packed: Packed { machine, rest },
             rela: Part {
-                rest: rela,
+                rest: tables.rela,
                 most: Some(kept_records(view, file, DT_RELA, DT_RELASZ)),
                 in_place: false,
                 slot: false,
             },
             rel: Part {
-                rest: rel,
+                rest: tables.rel,
                 most: Some(kept_records(view, file, DT_REL, DT_RELSZ)),
                 in_place: true,
                 slot: false,
             },
             slots: Part {
-                rest: slots,
+                rest: tables.plt,
                 most: None,
                 in_place: is_of_kind(view, DT_REL),
                 slot: true,

@@ -234,10 +234,10 @@ fn lists_all_relocations(rt: HostRuntime) -> Result<(), LinkError> {
             want(&rt, found.next(), Some(reference(row, class)));
         }
         want(&rt, found.next(), None);
-        let (rela, rel, plt) = DynamicView::read(&file)?.relocation_tables(&file)?;
-        check_table(&rt, rela, RELA_ROWS, class);
-        check_table(&rt, rel, REL_ROWS, class);
-        check_table(&rt, plt, PLT_ROWS, class);
+        let tables = DynamicView::read(&file)?.relocation_tables(&file)?;
+        check_table(&rt, tables.rela, RELA_ROWS, class);
+        check_table(&rt, tables.rel, REL_ROWS, class);
+        check_table(&rt, tables.plt, PLT_ROWS, class);
     }
     Ok(())
 }

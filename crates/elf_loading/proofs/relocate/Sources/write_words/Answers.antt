@@ -1,4 +1,4 @@
-use Rattle.std.proofs.Common.{rules, ◌≡◌, ◌∷◌, refl, sym, ap, ◌∙◌, subst}
+use Rattle.std.proofs.Common.{rules, ◌∷◌, refl, sym, ap, ◌∙◌, subst}
 use Rattle.elf_loading.specs.WordsLeft.{words_left}
 use Rattle.elf_loading.proofs.RelativeWords.{of_words}
 use Rattle.elf_loading.proofs.Written.{SoFar, all_written, more_written, none_written, one_refused, still_words}
