@@ -1033,8 +1033,9 @@ XMAS_ELF_NODISCARD uint32_t xmas_elf_load_image(const uint8_t *input, size_t inp
  * writable unless the file asks for writes elsewhere (DT_TEXTREL), and has no byte in common with one of these tables
  * or with another word. Of the objects only the files are read. `marks` has at least a bit for each byte of the span
  * of the object's plan: its size in bytes, divided by 8, and one more. What it holds before and after has no meaning.
- * A call takes up to 64 objects; for more it returns XMAS_ELF_LOAD_IMAGE_SIZE. Errors, in the order of the tests:
- * XMAS_ELF_LINK_OBJECT_INDEX, XMAS_ELF_LOAD_IMAGE_SIZE, XMAS_ELF_SHORT_PART_1, XMAS_ELF_NO_MAGIC,
+ * A call takes up to 64 objects; for more it returns XMAS_ELF_LOAD_IMAGE_SIZE. It reads all files before it tests
+ * `of`, so XMAS_ELF_LINK_OBJECT_INDEX comes before errors of the files only where there is no object. Errors, in the
+ * order of the tests: XMAS_ELF_LINK_OBJECT_INDEX, XMAS_ELF_LOAD_IMAGE_SIZE, XMAS_ELF_SHORT_PART_1, XMAS_ELF_NO_MAGIC,
  * XMAS_ELF_INVALID_CLASS, XMAS_ELF_SHORT_HEADERS, XMAS_ELF_LINK_NO_DYNAMIC, XMAS_ELF_DATA_RANGE,
  * XMAS_ELF_NOT_MULTIPLE, XMAS_ELF_LINK_NO_ENTRY, XMAS_ELF_LINK_ADDRESS, XMAS_ELF_SHORT_DATA,
  * XMAS_ELF_LINK_SHORT_TABLE, XMAS_ELF_LINK_BLOOM_COUNT, XMAS_ELF_LINK_CHAIN_INDEX, XMAS_ELF_LINK_CHAIN_DATA,
@@ -1056,7 +1057,9 @@ XMAS_ELF_NODISCARD uint32_t xmas_elf_check_image(const xmas_elf_load_object_t *o
  * they are copied to, and give it its image then; `image` shares no byte with the images of objects. If
  * `xmas_elf_check_image` is OK for the object, each byte is that of the one word over it, else that of the file. If a
  * call is not OK, the words before the first that can't be written are written. A call takes up to 64 objects; for
- * more it returns XMAS_ELF_LOAD_IMAGE_SIZE. It needs about 200 KiB of stack. Errors, in the order of the tests:
+ * more it returns XMAS_ELF_LOAD_IMAGE_SIZE. It reads all files before it tests `of` and the size of `image`, so
+ * XMAS_ELF_LINK_OBJECT_INDEX and XMAS_ELF_LOAD_IMAGE_SIZE come before errors of the files only where there is no
+ * object or more than 64. It needs about 200 KiB of stack. Errors, in the order of the tests:
  * XMAS_ELF_LINK_OBJECT_INDEX, XMAS_ELF_LOAD_IMAGE_SIZE, XMAS_ELF_SHORT_PART_1, XMAS_ELF_NO_MAGIC,
  * XMAS_ELF_INVALID_CLASS, XMAS_ELF_SHORT_HEADERS, XMAS_ELF_LINK_NO_DYNAMIC, XMAS_ELF_DATA_RANGE,
  * XMAS_ELF_NOT_MULTIPLE, XMAS_ELF_LINK_NO_ENTRY, XMAS_ELF_LINK_ADDRESS, XMAS_ELF_SHORT_DATA,

@@ -19,7 +19,7 @@ import sys
 sys.path.insert(0, str(pathlib.Path(__file__).resolve().parents[1]))
 from exports import listing
 from pages import errors
-from pages.sources import ITEM, ROOT, anchor, differing, ended, impls_of, modules, parser_of, public_items, read
+from pages.sources import ITEM, ROOT, anchor, differing, ended, impls_of, meant, modules, parser_of, public_items, read
 from pages.definitions import uses_in
 
 PAGES = ROOT / "docs" / "api"
@@ -142,6 +142,19 @@ class CratePage:
                 self.function("####", f"{label}::{found[2]}", source, at, "    ")
             elif found and found[2] != "use":
                 self.lines += [f"- `{source.lines[at].strip()}` {source.doc_above(at)}", ""]
+
+        self.for_lower(item)
+
+    def for_lower(self, item):
+        """What a trait's impls for types of lower crates say of its methods: those types are on other pages."""
+        for (crate, _), source in self.sources.items():
+            for block in source.blocks if crate == self.crate else []:
+                of = None if block.is_trait or block.trait != item.name else meant(self.sources, source, block.type)
+                if of is None or of.source.crate == self.crate:
+                    continue
+                for one in source.functions:
+                    if block.at < one.named_at <= block.end and source.doc_above(one.named_at - 1):
+                        self.function("####", f"<{block.type} as {item.name}>::{one.name()}", source, one.named_at - 1, "    ")
 
     def item(self, item, path: str):
         label = path.removeprefix(f"{self.crate}::")

@@ -102,7 +102,9 @@ class Source:
             if is_function and line in (margin + "{", margin + "{}", margin + "where"):
                 break
             taken.append(line.removeprefix(margin))
-            if line.startswith(margin + "}") or line.endswith(";") and (is_function or len(taken) == 1):
+            # A `let` in a clause ends with `;` too, inside the braces of the clause.
+            open_ = "\n".join(taken).count("{") > "\n".join(taken).count("}")
+            if line.startswith(margin + "}") or line.endswith(";") and (is_function and not open_ or len(taken) == 1):
                 break
             if is_function and line.endswith(" {") and not re.search(r"(ensures|requires)\b.*{$", line):
                 taken[-1] = taken[-1].removesuffix(" {")

@@ -609,14 +609,15 @@ pub(crate) fn load_image(input: &[u8], header: &Header, page: u64, limit: u64, l
 /// writable unless the file asks for writes elsewhere (DT_TEXTREL), and has no byte in common with one of these
 /// tables or with another word. Of the objects only the files are read. `marks` has at least a bit for each byte of
 /// the span of the object's plan: its size in bytes, divided by 8, and one more. What it holds before and after has
-/// no meaning. A call takes up to 64 objects; for more it returns `LoadImageSize`. Errors, in the order of the tests:
-/// `LinkObjectIndex`, `LoadImageSize`, `ShortPart1`, `NoMagic`, `InvalidClass`, `ShortHeaders`, `LinkNoDynamic`,
-/// `DataRange`, `NotMultiple`, `LinkNoEntry`, `LinkAddress`, `ShortData`, `LinkShortTable`, `LinkBloomCount`,
-/// `LinkChainIndex`, `LinkChainData`, `LinkSymbolIndex`, `LinkUnknownClass`, `LinkNotMultiple`, `LinkRelocationKind`,
-/// `SymbolIndex`, `HashData`, `ChainIndex`, `ChainSum`, `HashCycle`, `LinkShortVersion`, `LinkVersionCount`,
-/// `TextStart`, `TextEnd`, `TextUtf8`, `LoadDynamic`, `LoadNoEntry`, `LoadRelocationSize`, `LoadNotMultiple`,
-/// `LoadUnreadable`, `LoadSlotKind`, `LoadMachine`, `LoadFewMarks`, `LoadWordType`, `LoadWordAddress`,
-/// `LoadReadOnly`, `LoadWordsOverlap`, `LoadWordInTable`.
+/// no meaning. A call takes up to 64 objects; for more it returns `LoadImageSize`. It reads all files before it tests
+/// `of`, so `LinkObjectIndex` comes before errors of the files only where there is no object. Errors, in the order of
+/// the tests: `LinkObjectIndex`, `LoadImageSize`, `ShortPart1`, `NoMagic`, `InvalidClass`, `ShortHeaders`,
+/// `LinkNoDynamic`, `DataRange`, `NotMultiple`, `LinkNoEntry`, `LinkAddress`, `ShortData`, `LinkShortTable`,
+/// `LinkBloomCount`, `LinkChainIndex`, `LinkChainData`, `LinkSymbolIndex`, `LinkUnknownClass`, `LinkNotMultiple`,
+/// `LinkRelocationKind`, `SymbolIndex`, `HashData`, `ChainIndex`, `ChainSum`, `HashCycle`, `LinkShortVersion`,
+/// `LinkVersionCount`, `TextStart`, `TextEnd`, `TextUtf8`, `LoadDynamic`, `LoadNoEntry`, `LoadRelocationSize`,
+/// `LoadNotMultiple`, `LoadUnreadable`, `LoadSlotKind`, `LoadMachine`, `LoadFewMarks`, `LoadWordType`,
+/// `LoadWordAddress`, `LoadReadOnly`, `LoadWordsOverlap`, `LoadWordInTable`.
 pub(crate) fn check_image(objects: &[LoadObject<'_>], of: u64, marks: &mut [u8]) -> Result<(), Error> {
     // SAFETY: see the head of this file.
     let status = unsafe { xmas_elf_check_image(objects.as_ptr(), objects.len(), of, marks.as_mut_ptr(), marks.len())
@@ -632,12 +633,14 @@ pub(crate) fn check_image(objects: &[LoadObject<'_>], of: u64, marks: &mut [u8])
 /// that they are copied to, and give it its image then; `image` shares no byte with the images of objects. If
 /// `check_image` is OK for the object, each byte is that of the one word over it, else that of the file. If a call is
 /// not OK, the words before the first that can't be written are written. A call takes up to 64 objects; for more it
-/// returns `LoadImageSize`. It needs about 200 KiB of stack. Errors, in the order of the tests: `LinkObjectIndex`,
-/// `LoadImageSize`, `ShortPart1`, `NoMagic`, `InvalidClass`, `ShortHeaders`, `LinkNoDynamic`, `DataRange`,
-/// `NotMultiple`, `LinkNoEntry`, `LinkAddress`, `ShortData`, `LinkShortTable`, `LinkBloomCount`, `LinkChainIndex`,
-/// `LinkChainData`, `LinkSymbolIndex`, `LinkUnknownClass`, `LinkNotMultiple`, `LinkRelocationKind`, `SymbolIndex`,
-/// `HashData`, `ChainIndex`, `ChainSum`, `HashCycle`, `LinkShortVersion`, `LinkVersionCount`, `TextStart`, `TextEnd`,
-/// `TextUtf8`, `LoadWordType`, `LoadUnresolved`, `LoadWordAddress`, `LoadCopySource`.
+/// returns `LoadImageSize`. It reads all files before it tests `of` and the size of `image`, so `LinkObjectIndex` and
+/// `LoadImageSize` come before errors of the files only where there is no object or more than 64. It needs about 200
+/// KiB of stack. Errors, in the order of the tests: `LinkObjectIndex`, `LoadImageSize`, `ShortPart1`, `NoMagic`,
+/// `InvalidClass`, `ShortHeaders`, `LinkNoDynamic`, `DataRange`, `NotMultiple`, `LinkNoEntry`, `LinkAddress`,
+/// `ShortData`, `LinkShortTable`, `LinkBloomCount`, `LinkChainIndex`, `LinkChainData`, `LinkSymbolIndex`,
+/// `LinkUnknownClass`, `LinkNotMultiple`, `LinkRelocationKind`, `SymbolIndex`, `HashData`, `ChainIndex`, `ChainSum`,
+/// `HashCycle`, `LinkShortVersion`, `LinkVersionCount`, `TextStart`, `TextEnd`, `TextUtf8`, `LoadWordType`,
+/// `LoadUnresolved`, `LoadWordAddress`, `LoadCopySource`.
 pub(crate) fn relocate(objects: &[LoadObject<'_>], of: u64, lazy: u32, page: u64,
     image: &mut [u8]) -> Result<u64, Error> {
     let mut count = u64::default();
