@@ -28,7 +28,11 @@ BOUNDS = {
     "elf_linking::object DynamicObject::find": 190,
     "elf_linking::scope Scope::bind": 250,
     "elf_linking::values value_by_name": 260,
+    "elf_loading::bytes LoadPlan::byte_at": 95,
+    "elf_loading::load_scope ScopeLoadScope::relocate": 510,
 }
+# An impl's call, as `definitions` names it by the type and the trait, and as the page does.
+SHOWN = {"ScopeLoadScope::relocate": "LoadScope::relocate"}
 ROOM = re.compile(r"(<!-- (read|bytes) ([^>]*) -->\n).*?(<!-- end -->)", re.S)
 
 
@@ -47,7 +51,7 @@ class Lists:
         words = named.split()
         contracts = {call: self.reader.named(whole, call) for whole, call in zip(words[::2], words[1::2])}
         found = self.reader.reached([*contracts.values()])
-        of = " and ".join(f"[`{call}`]({place(path, line)})" for call, (_, _, path, line) in contracts.items())
+        of = " and ".join(f"[`{SHOWN.get(call, call)}`]({place(path, line)})" for call, (_, _, path, line) in contracts.items())
         lines = [f"By {of}: {self.sizes(found)}.", ""]
         if seen := [one for one in found if (one.path, one.line) in self.above]:
             lines[0] += f" Of these, {len(seen)} {'is' if len(seen) == 1 else 'are'} in a list above; the others are"
