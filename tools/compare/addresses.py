@@ -63,7 +63,7 @@ int main(int count, char **words) {
 # Control characters as elfaddr writes them.
 CONTROLS = {it: f"^{chr(it + 64)}" for it in (*range(32), 127)}
 # Types of symbols that name addresses: none, an object, a function, an indirect function. A section index from RESERVED on is none.
-TYPES, RESERVED = (0, 1, 2, INDIRECT), 0xFF00
+TYPES, RESERVED, RELR = (0, 1, 2, INDIRECT), 0xFF00, 19
 
 
 class Image:
@@ -73,7 +73,8 @@ class Image:
         self.path, said = path, llvm(path, "-h", "-S", "-l")
         if read_elf(path)[4:6] != b"\x02\x01":
             raise ValueError("class or byte order")
-        self.sections = {it["Name"]["Value"] for it in parts(said, "Sections", "Section")}
+        # The library reads no name of a section of the type RELR, which the Rust crate doesn't know.
+        self.sections = {"?" if raw(it["Type"]) == RELR else it["Name"]["Value"] for it in parts(said, "Sections", "Section")}
         loads = (it for it in parts(said, "ProgramHeaders", "ProgramHeader") if raw(it["Type"]) == LOAD)
         self.loads = [(it["VirtualAddress"], it["VirtualAddress"] + it["MemSize"]) for it in loads]
 
