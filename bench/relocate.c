@@ -47,7 +47,7 @@ static uint64_t relocate(void)
     for (size_t i = 0; i < count; i++) memcpy(images[i], planned[i], sizes[i]), loads[i].image = NULL, loads[i].image_size = 0;
     uint64_t began = __rdtsc();
     for (size_t i = count; i-- > 0;) {
-        check(xmas_elf_relocate(loads, count, i, 0, 4096, images[i], sizes[i], &left), i);
+        check(xmas_elf_relocate(loads, count, i, 0, 4096, 0, images[i], sizes[i], &left), i);
         loads[i].image = images[i], loads[i].image_size = sizes[i];
     }
     return __rdtsc() - began;
@@ -58,14 +58,14 @@ static uint64_t read_all(void)
 {
     uint64_t left, began = __rdtsc();
     for (size_t i = 0; i < count; i++)
-        if (xmas_elf_relocate(loads, count, count, 0, 4096, images[i], sizes[i], &left) != XMAS_ELF_LINK_OBJECT_INDEX) exit(1);
+        if (xmas_elf_relocate(loads, count, count, 0, 4096, 0, images[i], sizes[i], &left) != XMAS_ELF_LINK_OBJECT_INDEX) exit(1);
     return __rdtsc() - began;
 }
 
 static uint64_t check_all(void)
 {
     uint64_t began = __rdtsc();
-    for (size_t i = 0; i < count; i++) check(xmas_elf_check_image(loads, count, i, marks, sizes[i] / 8 + 1), i);
+    for (size_t i = 0; i < count; i++) check(xmas_elf_check_image(loads, count, i, 4096, 0, marks, sizes[i] / 8 + 1), i);
     return __rdtsc() - began;
 }
 

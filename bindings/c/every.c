@@ -242,8 +242,8 @@ CALL(load_image) /* a byte less is refused */
 CALL(check_image)
 {
     (void)out;
-    if (a->index == 0 && a->size > 0 && xmas_elf_check_image(OBJECT_OF(a), 0, marks, 1) != XMAS_ELF_LOAD_FEW_MARKS) return 999;
-    return xmas_elf_check_image(OBJECT_OF(a), a->index, marks, LARGEST / 8 + 1);
+    if (a->index == 0 && a->size > 0 && xmas_elf_check_image(OBJECT_OF(a), 0, 0, 0, marks, 1) != XMAS_ELF_LOAD_FEW_MARKS) return 999;
+    return xmas_elf_check_image(OBJECT_OF(a), a->index, 0, 0, marks, LARGEST / 8 + 1);
 }
 CALL(relocate) /* without its library the program has a symbol that nothing has */
 {
@@ -251,7 +251,7 @@ CALL(relocate) /* without its library the program has a symbol that nothing has 
     uint32_t status = xmas_elf_load_plan(FILE_OF(a), 0, 0, &plan);
     size_t size = status == XMAS_ELF_OK ? (size_t)(plan.span.end - plan.span.start) : 0;
     if (status == XMAS_ELF_OK && xmas_elf_load_image(FILE_OF(a), 0, 0, 0, image, size) != XMAS_ELF_OK) return 999;
-    status = xmas_elf_relocate(OBJECT_OF(a), a->index, 0, 0, image, size, &out->count);
+    status = xmas_elf_relocate(OBJECT_OF(a), a->index, 0, 0, 0, image, size, &out->count);
     return status == XMAS_ELF_LOAD_UNRESOLVED ? XMAS_ELF_OK : status;
 }
 CALL(message) /* OK where the status `index` has a text */

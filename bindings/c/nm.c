@@ -20,20 +20,26 @@ static uint8_t *read_file(const char *path, size_t *size)
     return bytes;
 }
 
-static void print_symbols(const uint8_t *input, size_t size, const xmas_elf_header_t *header, uint64_t index)
+/* Prints the symbols of a section, none if it has other data: the status of what can't be read. */
+static uint32_t print_symbols(const uint8_t *input, size_t size, const xmas_elf_header_t *header, uint64_t index)
 {
     xmas_elf_symbol_table_t table;
     xmas_elf_symbol_t symbols[64];
     xmas_elf_name_t names[64];
-    uint64_t count;
-    if (xmas_elf_symbols_open(input, size, header, index, &table) != XMAS_ELF_OK) return; /* mostly: other data than symbols */
-    for (uint64_t first = 1; xmas_elf_symbols(input, size, &table, first, symbols, 64, &count) == XMAS_ELF_OK; first += count) {
-        if (xmas_elf_symbol_names(input, size, &table, first, names, 64, &count) != XMAS_ELF_OK) return;
-        for (uint64_t i = 0; i < count; i++)
-            if (names[i].status == XMAS_ELF_OK)
+    uint64_t first = 1, count;
+    uint32_t status = xmas_elf_symbols_open(input, size, header, index, &table);
+    if (status == XMAS_ELF_OTHER_DATA || status == XMAS_ELF_INVALID_SH_TYPE) return XMAS_ELF_OK;
+    while (status == XMAS_ELF_OK && (status = xmas_elf_symbols(input, size, &table, first, symbols, 64, &count)) == XMAS_ELF_OK) {
+        status = xmas_elf_symbol_names(input, size, &table, first, names, 64, &count);
+        for (uint64_t i = 0; status == XMAS_ELF_OK && i < count; i++) {
+            status = names[i].status;
+            if (status == XMAS_ELF_OK)
                 printf("%016llx %5u %.*s\n", (unsigned long long)symbols[i].value, symbols[i].shndx, (int)names[i].range.size,
                        (const char *)input + names[i].range.offset);
+        }
+        first += count;
     }
+    return status == XMAS_ELF_NO_RECORD ? XMAS_ELF_OK : status;
 }
 
 int main(int argc, char **argv)
@@ -52,12 +58,8 @@ int main(int argc, char **argv)
     }
     uint32_t status = xmas_elf_open(input, size, &header);
     if (status == XMAS_ELF_OK) status = xmas_elf_counts(input, size, &header, &counts);
-    if (status != XMAS_ELF_OK) {
-        fprintf(stderr, "%s: %s\n", argv[1], xmas_elf_status_text(status).text);
-        free(input);
-        return 1;
-    }
-    for (uint64_t index = 0; index < counts.sections; index++) print_symbols(input, size, &header, index);
+    for (uint64_t index = 0; status == XMAS_ELF_OK && index < counts.sections; index++) status = print_symbols(input, size, &header, index);
+    if (status != XMAS_ELF_OK) fprintf(stderr, "%s: %s\n", argv[1], xmas_elf_status_text(status).text);
     free(input);
-    return 0;
+    return status != XMAS_ELF_OK;
 }

@@ -15,9 +15,9 @@ int main(int argc, char **argv)
         const xmas_elf::file file(bytes);
         for (const auto &section : file.sections())
             for (const auto &symbol : section.symbols())
-                if (symbol.index != 0 && symbol.name)
+                if (symbol.index != 0)
                     std::printf("%016llx %5u %.*s\n", static_cast<unsigned long long>(symbol.value), unsigned{symbol.shndx},
-                                static_cast<int>(symbol.name->size()), symbol.name->data());
+                                static_cast<int>(symbol.checked_name().size()), symbol.checked_name().data());
     } catch (const std::system_error &error) {
         std::fprintf(stderr, "%s\n", error.what());
         return 1;

@@ -10,7 +10,7 @@ static void list(const char *path)
     file.check_header();
     for (const auto &section : file.sections())
         for (const auto &symbol : section.symbols())
-            if (const auto name = symbol.name.value_or(""); !name.empty())
+            if (const auto name = symbol.checked_name(); !name.empty())
                 std::printf("%016llx %.*s\n", static_cast<unsigned long long>(symbol.value), static_cast<int>(name.size()), name.data());
 }
 

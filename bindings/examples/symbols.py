@@ -8,6 +8,8 @@ def main(path):
     with open(path, "rb") as stream:
         file = ElfFile(stream)
     for symbol in file.symbols():
+        if symbol.name is None:
+            raise ElfError(symbol.name_status)
         if symbol.name:
             print(f"{symbol.value:016x} {symbol.name}")
 
@@ -15,5 +17,5 @@ def main(path):
 if __name__ == "__main__":
     try:
         main(sys.argv[1])
-    except ElfError as error:
+    except (ElfError, OSError) as error:
         sys.exit(f"{sys.argv[1]}: {error}")

@@ -10,11 +10,11 @@ fn list(path: &str) -> Result<(), Box<dyn Error>> {
     let bytes = fs::read(path)?;
     let file = ElfFile::new(&bytes)?;
     file.check_header()?;
-    for section in file.sections() {
-        for symbol in section.symbols() {
-            match symbol.name() {
-                Ok(name) if !name.is_empty() => println!("{:016x} {}", symbol.value, name),
-                _ => {}
+    for section in file.sections()? {
+        for symbol in section.symbols()? {
+            let name = symbol.name()?;
+            if !name.is_empty() {
+                println!("{:016x} {name}", symbol.value);
             }
         }
     }

@@ -718,10 +718,8 @@ XMAS_ELF_NODISCARD uint32_t xmas_elf_section_data(const uint8_t *input, size_t i
     const xmas_elf_header_t *header, uint64_t index, xmas_elf_range_t *out) XMAS_ELF_NOEXCEPT;
 
 /* The ranges of the names of sections from index `first` on, each with a status of its own, without the zero bytes
- * that end them. They are UTF-8. XMAS_ELF_NULL_NAME is for type SHT_NULL, which section 0 has,
- * XMAS_ELF_INVALID_SH_TYPE for a type that this reader does not know; `xmas_elf_names` and `xmas_elf_text` give the
- * names of these too. The call gives as many names as `xmas_elf_sections` gives headers. Errors: XMAS_ELF_NO_RECORD.
- * Errors of a record, in the order of the tests: XMAS_ELF_INVALID_SH_TYPE, XMAS_ELF_NULL_NAME,
+ * that end them. They are UTF-8. A section of any type has a name. The call gives as many names as
+ * `xmas_elf_sections` gives headers. Errors: XMAS_ELF_NO_RECORD. Errors of a record, in the order of the tests:
  * XMAS_ELF_RESERVED_INDEX, XMAS_ELF_SHORT_SECTION_HEADER, XMAS_ELF_SHORT_SECTION_OFFSET, XMAS_ELF_TEXT_START,
  * XMAS_ELF_TEXT_END, XMAS_ELF_TEXT_UTF_8. */
 XMAS_ELF_NODISCARD uint32_t xmas_elf_section_names(const uint8_t *input, size_t input_size,
@@ -1031,35 +1029,39 @@ XMAS_ELF_NODISCARD uint32_t xmas_elf_load_image(const uint8_t *input, size_t inp
 /* Whether the words of the object at index `of` can be written before the program runs: the tables of its dynamic
  * segment can be read, and each word that its relocations write is in the memory of one load segment, which is
  * writable unless the file asks for writes elsewhere (DT_TEXTREL), and has no byte in common with one of these tables
- * or with another word. Of the objects only the files are read. `marks` has at least a bit for each byte of the span
- * of the object's plan: its size in bytes, divided by 8, and one more. What it holds before and after has no meaning.
- * A call takes up to 64 objects; for more it returns XMAS_ELF_LOAD_IMAGE_SIZE. It reads all files before it tests
- * `of`, so XMAS_ELF_LINK_OBJECT_INDEX comes before errors of the files only where there is no object. Errors, in the
- * order of the tests: XMAS_ELF_LINK_OBJECT_INDEX, XMAS_ELF_LOAD_IMAGE_SIZE, XMAS_ELF_SHORT_PART_1, XMAS_ELF_NO_MAGIC,
+ * or with another word. Of the objects only the files are read. `page` and `limit` are those of `xmas_elf_load_plan`,
+ * which each file must pass. `marks` has at least a bit for each byte of the span of the object's plan: its size in
+ * bytes, divided by 8, and one more. What it holds before and after has no meaning. A call takes up to 64 objects;
+ * for more it returns XMAS_ELF_LOAD_IMAGE_SIZE. It reads all files before it tests `of`, so
+ * XMAS_ELF_LINK_OBJECT_INDEX comes before errors of the files only where there is no object. Errors, in the order of
+ * the tests: XMAS_ELF_LINK_OBJECT_INDEX, XMAS_ELF_LOAD_IMAGE_SIZE, XMAS_ELF_SHORT_PART_1, XMAS_ELF_NO_MAGIC,
  * XMAS_ELF_INVALID_CLASS, XMAS_ELF_SHORT_HEADERS, XMAS_ELF_LINK_NO_DYNAMIC, XMAS_ELF_DATA_RANGE,
  * XMAS_ELF_NOT_MULTIPLE, XMAS_ELF_LINK_NO_ENTRY, XMAS_ELF_LINK_ADDRESS, XMAS_ELF_SHORT_DATA,
  * XMAS_ELF_LINK_SHORT_TABLE, XMAS_ELF_LINK_BLOOM_COUNT, XMAS_ELF_LINK_CHAIN_INDEX, XMAS_ELF_LINK_CHAIN_DATA,
  * XMAS_ELF_LINK_SYMBOL_INDEX, XMAS_ELF_LINK_UNKNOWN_CLASS, XMAS_ELF_LINK_NOT_MULTIPLE, XMAS_ELF_LINK_RELOCATION_KIND,
  * XMAS_ELF_SYMBOL_INDEX, XMAS_ELF_HASH_DATA, XMAS_ELF_CHAIN_INDEX, XMAS_ELF_CHAIN_SUM, XMAS_ELF_HASH_CYCLE,
  * XMAS_ELF_LINK_SHORT_VERSION, XMAS_ELF_LINK_VERSION_COUNT, XMAS_ELF_TEXT_START, XMAS_ELF_TEXT_END,
- * XMAS_ELF_TEXT_UTF_8, XMAS_ELF_LOAD_DYNAMIC, XMAS_ELF_LOAD_NO_ENTRY, XMAS_ELF_LOAD_RELOCATION_SIZE,
- * XMAS_ELF_LOAD_NOT_MULTIPLE, XMAS_ELF_LOAD_UNREADABLE, XMAS_ELF_LOAD_SLOT_KIND, XMAS_ELF_LOAD_MACHINE,
- * XMAS_ELF_LOAD_FEW_MARKS, XMAS_ELF_LOAD_WORD_TYPE, XMAS_ELF_LOAD_WORD_ADDRESS, XMAS_ELF_LOAD_READ_ONLY,
- * XMAS_ELF_LOAD_WORDS_OVERLAP, XMAS_ELF_LOAD_WORD_IN_TABLE. */
+ * XMAS_ELF_TEXT_UTF_8, XMAS_ELF_LOAD_TYPE, XMAS_ELF_LOAD_ENTRY_SIZE, XMAS_ELF_LOAD_COUNT, XMAS_ELF_LOAD_TABLE,
+ * XMAS_ELF_LOAD_FILE_SIZE, XMAS_ELF_LOAD_EMPTY, XMAS_ELF_LOAD_MISALIGNED, XMAS_ELF_LOAD_ALIGNMENT,
+ * XMAS_ELF_LOAD_RANGE, XMAS_ELF_LOAD_DATA, XMAS_ELF_LOAD_OVERLAP, XMAS_ELF_LOAD_ZEROS, XMAS_ELF_LOAD_NO_LOAD,
+ * XMAS_ELF_LOAD_HEADERS, XMAS_ELF_LOAD_INTERPRETER, XMAS_ELF_LOAD_RELRO, XMAS_ELF_LOAD_TLS, XMAS_ELF_LOAD_DYNAMIC,
+ * XMAS_ELF_LOAD_NO_ENTRY, XMAS_ELF_LOAD_RELOCATION_SIZE, XMAS_ELF_LOAD_NOT_MULTIPLE, XMAS_ELF_LOAD_UNREADABLE,
+ * XMAS_ELF_LOAD_SLOT_KIND, XMAS_ELF_LOAD_MACHINE, XMAS_ELF_LOAD_FEW_MARKS, XMAS_ELF_LOAD_WORD_TYPE,
+ * XMAS_ELF_LOAD_WORD_ADDRESS, XMAS_ELF_LOAD_READ_ONLY, XMAS_ELF_LOAD_WORDS_OVERLAP, XMAS_ELF_LOAD_WORD_IN_TABLE. */
 XMAS_ELF_NODISCARD uint32_t xmas_elf_check_image(const xmas_elf_load_object_t *objects, size_t objects_count,
-    uint64_t of, uint8_t *marks, size_t marks_size) XMAS_ELF_NOEXCEPT;
+    uint64_t of, uint64_t page, uint64_t limit, uint8_t *marks, size_t marks_size) XMAS_ELF_NOEXCEPT;
 
-/* Writes the words of the object at index `of` to `image`, which holds what `xmas_elf_load_image` writes for a page
- * of `page` bytes (0 means 4096). `count` is the number of words without a number, whose bytes stay as they are: what
- * a function returns (the resolver of a symbol of type STT_GNU_IFUNC), and descriptors of thread-local storage. The
- * caller must write these. `lazy` is 1 where jump slots get their symbols when a function is called first, and any
- * other number where they get them now. Relocate an object whose bytes are copied (R_X86_64_COPY) before the one that
- * they are copied to, and give it its image then; `image` shares no byte with the images of objects. If
- * `xmas_elf_check_image` is OK for the object, each byte is that of the one word over it, else that of the file. If a
- * call is not OK, the words before the first that can't be written are written. A call takes up to 64 objects; for
- * more it returns XMAS_ELF_LOAD_IMAGE_SIZE. It reads all files before it tests `of` and the size of `image`, so
- * XMAS_ELF_LINK_OBJECT_INDEX and XMAS_ELF_LOAD_IMAGE_SIZE come before errors of the files only where there is no
- * object or more than 64. It needs about 200 KiB of stack. Errors, in the order of the tests:
+/* Writes the words of the object at index `of` to `image`, which holds what `xmas_elf_load_image` writes. `page` and
+ * `limit` are those of `xmas_elf_load_plan`, which each file must pass. `count` is the number of words without a
+ * number, whose bytes stay as they are: what a function returns (the resolver of a symbol of type STT_GNU_IFUNC), and
+ * descriptors of thread-local storage. The caller must write these. `lazy` is 1 where jump slots get their symbols
+ * when a function is called first, and any other number where they get them now. Relocate an object whose bytes are
+ * copied (R_X86_64_COPY) before the one that they are copied to, and give it its image then; `image` shares no byte
+ * with the images of objects. If `xmas_elf_check_image` is OK for the object, each byte is that of the one word over
+ * it, else that of the file. If a call is not OK, the words before the first that can't be written are written. A
+ * call takes up to 64 objects; for more it returns XMAS_ELF_LOAD_IMAGE_SIZE. It reads all files before it tests `of`
+ * and the size of `image`, so XMAS_ELF_LINK_OBJECT_INDEX and XMAS_ELF_LOAD_IMAGE_SIZE come before errors of the files
+ * only where there is no object or more than 64. It needs about 200 KiB of stack. Errors, in the order of the tests:
  * XMAS_ELF_LINK_OBJECT_INDEX, XMAS_ELF_LOAD_IMAGE_SIZE, XMAS_ELF_SHORT_PART_1, XMAS_ELF_NO_MAGIC,
  * XMAS_ELF_INVALID_CLASS, XMAS_ELF_SHORT_HEADERS, XMAS_ELF_LINK_NO_DYNAMIC, XMAS_ELF_DATA_RANGE,
  * XMAS_ELF_NOT_MULTIPLE, XMAS_ELF_LINK_NO_ENTRY, XMAS_ELF_LINK_ADDRESS, XMAS_ELF_SHORT_DATA,
@@ -1067,10 +1069,14 @@ XMAS_ELF_NODISCARD uint32_t xmas_elf_check_image(const xmas_elf_load_object_t *o
  * XMAS_ELF_LINK_SYMBOL_INDEX, XMAS_ELF_LINK_UNKNOWN_CLASS, XMAS_ELF_LINK_NOT_MULTIPLE, XMAS_ELF_LINK_RELOCATION_KIND,
  * XMAS_ELF_SYMBOL_INDEX, XMAS_ELF_HASH_DATA, XMAS_ELF_CHAIN_INDEX, XMAS_ELF_CHAIN_SUM, XMAS_ELF_HASH_CYCLE,
  * XMAS_ELF_LINK_SHORT_VERSION, XMAS_ELF_LINK_VERSION_COUNT, XMAS_ELF_TEXT_START, XMAS_ELF_TEXT_END,
- * XMAS_ELF_TEXT_UTF_8, XMAS_ELF_LOAD_WORD_TYPE, XMAS_ELF_LOAD_UNRESOLVED, XMAS_ELF_LOAD_WORD_ADDRESS,
- * XMAS_ELF_LOAD_COPY_SOURCE. */
+ * XMAS_ELF_TEXT_UTF_8, XMAS_ELF_LOAD_TYPE, XMAS_ELF_LOAD_ENTRY_SIZE, XMAS_ELF_LOAD_COUNT, XMAS_ELF_LOAD_TABLE,
+ * XMAS_ELF_LOAD_FILE_SIZE, XMAS_ELF_LOAD_EMPTY, XMAS_ELF_LOAD_MISALIGNED, XMAS_ELF_LOAD_ALIGNMENT,
+ * XMAS_ELF_LOAD_RANGE, XMAS_ELF_LOAD_DATA, XMAS_ELF_LOAD_OVERLAP, XMAS_ELF_LOAD_ZEROS, XMAS_ELF_LOAD_NO_LOAD,
+ * XMAS_ELF_LOAD_HEADERS, XMAS_ELF_LOAD_INTERPRETER, XMAS_ELF_LOAD_RELRO, XMAS_ELF_LOAD_TLS, XMAS_ELF_LOAD_WORD_TYPE,
+ * XMAS_ELF_LOAD_UNRESOLVED, XMAS_ELF_LOAD_WORD_ADDRESS, XMAS_ELF_LOAD_COPY_SOURCE. */
 XMAS_ELF_NODISCARD uint32_t xmas_elf_relocate(const xmas_elf_load_object_t *objects, size_t objects_count,
-    uint64_t of, uint32_t lazy, uint64_t page, uint8_t *image, size_t image_size, uint64_t *count) XMAS_ELF_NOEXCEPT;
+    uint64_t of, uint32_t lazy, uint64_t page, uint64_t limit, uint8_t *image, size_t image_size, uint64_t *count)
+    XMAS_ELF_NOEXCEPT;
 
 /* Writes the text of a status to the front of `out`, as much as fits, and returns the size of the whole text in
  * bytes. The text is ASCII without a zero byte at its end. A status that is no error, such as 0, has an empty text. */

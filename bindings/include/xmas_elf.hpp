@@ -3,7 +3,7 @@
 //     const xmas_elf::mapped_file bytes("/bin/ls");
 //     const xmas_elf::file file(bytes);
 //     for (const auto &symbol : file.dynamic_symbols())
-//         std::cout << symbol.name.value_or("?") << '\n';
+//         std::cout << symbol.checked_name() << '\n';
 //
 // Views and texts point into the bytes, and parts to the file: both must stay where they are. What can't be read throws `xmas_elf::error`,
 // and what a file doesn't have is an empty std::optional or an empty range. A range can be passed once. See xmas_elf.h for
@@ -46,8 +46,8 @@ public:
     /// The symbols of the dynamic segment, which needs no sections, with their versions.
     auto dynamic_symbols() const;
 
-    /// The symbol that `dlsym` gets by a name, which is that of the default version, or `dlvsym` by a name and a version; none
-    /// without a dynamic segment.
+    /// The symbol that `dlsym` gets by a name, or `dlvsym` by a name and a version; none without a dynamic segment. Of several
+    /// with the name it is the first without a version (of number 0 or 1), and else that of the default version.
     std::optional<symbol> find_symbol(std::string_view name, std::string_view wanted = {}) const
     {
         xmas_elf_found_symbol_t found{};
@@ -185,7 +185,9 @@ private:
         symbol one;
         static_cast<xmas_elf_symbol_t &>(one) = record;
         one.index = index;
-        if (name != nullptr && name->status == XMAS_ELF_OK) one.name = text(name->range);
+        if (name == nullptr) return one;
+        one.name_status = name->status;
+        if (name->status == XMAS_ELF_OK) one.name = text(name->range);
         return one;
     }
     /// The next symbols of a table that a call found, with their names; none after the last.
@@ -247,7 +249,7 @@ public:
         if (xmas_elf_text(all.data(), all.size(), &names, header_.name, &range) != XMAS_ELF_OK) return std::nullopt;
         return file_->text(range);
     }
-    /// The data. Throws for type SHT_NULL and for types that the reader doesn't know.
+    /// The bytes in the file: none for types SHT_NOBITS and SHT_NULL. Throws for types that the reader doesn't know.
     bytes_view data() const { return file_->part(range()); }
     /// The symbols; none if the section isn't a symbol table. Throws where the table is damaged.
     auto symbols() const
@@ -276,7 +278,8 @@ private:
     xmas_elf_range_t range() const
     {
         xmas_elf_range_t found{};
-        check(file_->call(xmas_elf_section_data, index_, &found));
+        const std::uint32_t null_type = 0, no_bits_type = 8;
+        if (header_.type != null_type && header_.type != no_bits_type) check(file_->call(xmas_elf_section_data, index_, &found));
         return found;
     }
 
@@ -314,7 +317,7 @@ private:
     xmas_elf_segment_t header_;
 };
 
-/// The sections. Throws where the table is cut off.
+/// The sections that can be read; throws after the last of them where the table is cut off.
 inline auto file::sections() const
 {
     const auto fill = [this](std::uint64_t first, std::vector<section> &out) {
@@ -322,6 +325,8 @@ inline auto file::sections() const
         check(call(xmas_elf_counts, &counts));
         xmas_elf_section_t records[64];
         std::uint64_t count = 0;
+        // A number of sections that needs more than 16 bits is in the header of section 0, which may be missing.
+        if (first == 0 && counts.sections == 0 && header().sh_offset != 0) check(call(xmas_elf_section, first, records));
         if (first >= counts.sections) return;
         const std::uint32_t status = call(xmas_elf_sections, first, records, std::size_t{64}, &count);
         if (status == XMAS_ELF_NO_RECORD) check(call(xmas_elf_section, first, records));
@@ -331,7 +336,7 @@ inline auto file::sections() const
     return items<section, decltype(fill)>(fill);
 }
 
-/// The segments. Throws where the table is cut off.
+/// The segments that can be read; throws after the last of them where the table is cut off.
 inline auto file::segments() const
 {
     const auto fill = [this](std::uint64_t first, std::vector<segment> &out) {

@@ -172,7 +172,15 @@ struct version {
 struct symbol : xmas_elf_symbol_t {
     std::uint64_t index = 0;                ///< Its index in its table.
     std::optional<std::string_view> name{}; ///< None if the name can't be read.
+    std::uint32_t name_status = XMAS_ELF_OK; ///< Why it can't be read.
     std::optional<xmas_elf::version> version{}; ///< Of a symbol of the dynamic segment, if these have versions.
+
+    /// The name; throws if it can't be read.
+    std::string_view checked_name() const
+    {
+        check(name_status);
+        return name.value_or(std::string_view{});
+    }
 
     unsigned type() const noexcept { return info & 15U; }
     unsigned binding() const noexcept { return info >> 4U; }

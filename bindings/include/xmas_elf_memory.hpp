@@ -182,19 +182,20 @@ inline xmas_elf_load_object_t load_object(const file &of, std::uint64_t base)
 }
 
 /// Throws if the words of the object at index `of` can't be written before the program runs; `size` is that of its image.
-inline void check_image(const std::vector<xmas_elf_load_object_t> &objects, std::size_t of, std::size_t size)
+inline void check_image(const std::vector<xmas_elf_load_object_t> &objects, std::size_t of, std::size_t size,
+                        std::uint64_t page = 0, std::uint64_t limit = 0)
 {
     std::vector<std::uint8_t> marks(size / 8 + 1);
-    check(xmas_elf_check_image(objects.data(), objects.size(), of, marks.data(), marks.size()));
+    check(xmas_elf_check_image(objects.data(), objects.size(), of, page, limit, marks.data(), marks.size()));
 }
 
 /// Writes the words of the object at index `of` to its image, which `load_image` gave, and returns how many have no number: what
 /// functions return, and descriptors of thread-local storage.
 inline std::uint64_t relocate(const std::vector<xmas_elf_load_object_t> &objects, std::size_t of, std::vector<std::uint8_t> &image,
-                              bool lazy = false, std::uint64_t page = 0)
+                              bool lazy = false, std::uint64_t page = 0, std::uint64_t limit = 0)
 {
     std::uint64_t count = 0;
-    check(xmas_elf_relocate(objects.data(), objects.size(), of, lazy ? 1 : 0, page, image.data(), image.size(), &count));
+    check(xmas_elf_relocate(objects.data(), objects.size(), of, lazy ? 1 : 0, page, limit, image.data(), image.size(), &count));
     return count;
 }
 

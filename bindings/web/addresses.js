@@ -1,5 +1,6 @@
 // The symbol of the byte at an offset: its address by the loaded segments, or its place in a section of an object file.
 import * as names from "./names.js";
+import { KINDS } from "./parts.js";
 import { escaped, hex } from "./text.js";
 
 // The address of a byte, and the section that its symbol is in, or 0; null where the byte has no address.
@@ -29,4 +30,19 @@ export async function symbolText(file, client, part, offset) {
   const [place, table] = [addressOf(file, part, offset), tableOf(file)];
   const found = place && table ? await client.ask("symbolAt", { ...place, ...table }) : null;
   return found ? `${escaped(found.text)}+${hex(found.offset)}` : null;
+}
+
+/** What is known of the byte at an offset, as names and texts: the part that it belongs to, its address, and the loaded segment. */
+export function factsOf(file, part, offset) {
+  const { machine } = file.header;
+  const section = part?.sort === "section" ? part.section : null;
+  const place = addressOf(file, part, offset);
+  const load = file.segmentParts.find(({ segment, start, end }) => segment.header.type === names.PT_LOAD && start <= offset && offset < end);
+  const flags = load ? names.flagNames(names.SEGMENT_FLAGS, load.segment.header.flags) : "";
+  return [
+    ["Part", part?.sort === "gap" ? "none: no part of the file claims it" : part && `${escaped(part.label)}${KINDS[part.kind] ? `, ${KINDS[part.kind].toLowerCase()}` : ""}`],
+    ["Section type", section && section.index >= 0 ? names.sectionType(section.header.type, machine) : ""],
+    [file.header.type === names.ET_REL ? "Offset in it" : "Address", place ? hex(place.address) : ""],
+    ["Segment", load ? `${load.segment.index}, ${load.label}${flags ? `, ${flags}` : ""}` : ""],
+  ];
 }

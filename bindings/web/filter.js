@@ -59,7 +59,8 @@ export async function findSymbols(reader, turns, given) {
     if (!symbols.length) break;
     const names = needle.length || isByName ? symbolNamesFrom(reader, { section, first }) : [];
     const textOf = (at) => (isByName && names[at]?.status === 0 ? rangeText(reader, names[at].range) : "");
-    keep(kept, symbols, first, wanted, namesHold(reader, names, needle), textOf);
+    const isExact = (at) => needle.length > 0 && names[at]?.range.size === BigInt(needle.length);
+    keep(kept, symbols, first, wanted, namesHold(reader, names, needle), { textOf, isExact });
     first += symbols.length;
     await work.turn(first);
   }
@@ -69,16 +70,19 @@ export async function findSymbols(reader, turns, given) {
   return { count: kept.length, looked: first, stopped };
 }
 
-function keep(kept, symbols, first, wanted, holdsText, textOf) {
+function keep(kept, symbols, first, wanted, holdsText, { textOf, isExact }) {
   symbols.forEach((symbol, at) => {
-    if (wanted(symbol) && holdsText(at)) kept.push({ index: first + at, value: symbol.value, size: symbol.size, text: textOf(at) });
+    if (!wanted(symbol) || !holdsText(at)) return;
+    kept.push({ index: first + at, value: symbol.value, size: symbol.size, text: textOf(at), rank: isExact(at) ? 0 : 1 });
   });
 }
 
+// In the order of a column; in that of their indices, names that are the whole text come first.
 function ordered(kept, { by, down }) {
   const sign = down ? -1 : 1;
   const compare = (one, other) => (one[by] < other[by] ? -sign : one[by] > other[by] ? sign : one.index - other.index);
   if (by !== "index" || down) kept.sort(compare);
+  else kept.sort((one, other) => one.rank - other.rank || one.index - other.index);
   return kept.map(({ index }) => index);
 }
 

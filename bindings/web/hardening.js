@@ -1,4 +1,4 @@
-// What makes a file harder to attack, by the plan of its load and its dynamic entries.
+// What makes a file harder to attack.
 import * as names from "./names.js";
 
 const BIND_NOW = 24n;
@@ -38,17 +38,57 @@ function protectionOf({ load: { plan, mappings }, segments }) {
   return { hasRelro: of(names.PT_RELRO).length > 0, isNx: Boolean(stack) && !(stack.flags & names.EXECUTE), isBoth: of(names.PT_LOAD).some(isBoth) };
 }
 
-/** Names and texts: whether it is a program at any address (PIE), RELRO, NX, BIND_NOW and W+X. None for an object file. */
+const SHARED = "shared library";
+
+// A row of the card: its name, what is said, whether that is `fine`, `weak` or `bad`, and what the words mean.
+const row = (name, said, sort, means) => ({ name, said, sort, means });
+const ofDynamic = (dynamic, sort) => (dynamic ? sort : "pending");
+
+function programRow({ header }, dynamic) {
+  const isLibrary = dynamic && !dynamic.isProgram && header.type === names.ET_DYN;
+  const said = isLibrary ? SHARED : dynamic ? yes(dynamic.isProgram) : UNKNOWN;
+  return row("Program at any address (PIE)", said, ofDynamic(dynamic, isLibrary || dynamic?.isProgram ? "fine" : "bad"),
+    "Linux puts the file at a random address, so that an attacker doesn't know where its code is.");
+}
+
+function relroRow(hasRelro, dynamic) {
+  const said = hasRelro ? (dynamic ? (dynamic.isNow ? "full" : "partial") : UNKNOWN) : "none";
+  const sort = { full: "fine", partial: "weak", none: "bad" }[said] ?? "pending";
+  return row("Read-only after relocation (RELRO)", said, sort,
+    "Addresses that relocations write can't be overwritten later: full covers all of them, partial not those of functions that are found at their first call.");
+}
+
+/** What the property note says of branches and returns: the bits of its features, by the machine. */
+function featuresRow({ header, features }) {
+  const [title, words] = names.FEATURES[header.machine] ?? [];
+  if (!title) return [];
+  const found = words.filter((_, bit) => features & (1 << bit));
+  return [row(title, found.join(", ") || "none", found.length === words.length ? "fine" : "weak",
+    header.machine === names.EM_AARCH64
+      ? "The processor checks that indirect branches lead to marked instructions (BTI), and return addresses are signed (PAC)."
+      : "The processor checks that indirect branches lead to marked instructions (IBT), and that functions return to where they were called (SHSTK).")];
+}
+
+/**
+ * How the file is hardened, by its load, its dynamic entries, the names of its symbols and its property note: rows of
+ * `{ name, said, sort, means }`. None for an object file.
+ */
 export function hardeningOf(file) {
   if (!file.segments.length) return [];
   const { hasRelro, isNx, isBoth } = protectionOf(file);
   const dynamic = dynamicOf(file);
-  const relro = dynamic?.isNow ? "full" : "partial";
+  const { hasCanary, checked } = file.protections;
   return [
-    ["Program at any address (PIE)", dynamic ? yes(dynamic.isProgram) : UNKNOWN],
-    ["Read-only after relocation (RELRO)", hasRelro ? (dynamic ? relro : UNKNOWN) : "none"],
-    ["Stack not executable (NX)", yes(isNx)],
-    ["Bound before it runs (BIND_NOW)", dynamic ? yes(dynamic.isNow) : UNKNOWN],
-    ["Writable and executable (W+X)", yes(isBoth)],
+    programRow(file, dynamic),
+    relroRow(hasRelro, dynamic),
+    row("Stack not executable (NX)", yes(isNx), isNx ? "fine" : "bad", "Bytes that are written to the stack can't be run as code."),
+    row("Bound before it runs (BIND_NOW)", dynamic ? yes(dynamic.isNow) : UNKNOWN, ofDynamic(dynamic, dynamic?.isNow ? "fine" : "weak"),
+      "All functions of libraries are found before the program runs: full RELRO needs it."),
+    row("Writable and executable (W+X)", yes(isBoth), isBoth ? "bad" : "fine", "In memory that is both, bytes that are written can be run as code."),
+    row("Stack protector (canary)", hasCanary ? "found" : "not found", hasCanary ? "fine" : "weak",
+      "Functions test a value beside their return address before they return. The name of a symbol, as __stack_chk_fail, shows it."),
+    row("Checked functions (FORTIFY)", checked ? `${checked} found` : "none", checked ? "fine" : "weak",
+      "Functions such as memcpy are called in a form that tests the size of the target, as __memcpy_chk."),
+    ...featuresRow(file),
   ];
 }

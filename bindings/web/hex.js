@@ -1,5 +1,5 @@
 // The bytes of the file in base 16, with the part that was chosen, and the field and the symbol under the pointer or the cursor named.
-import { symbolText } from "./addresses.js";
+import { factsOf, symbolText } from "./addresses.js";
 import { element } from "./dom.js";
 import { recordOf } from "./inspect.js";
 import { Pages } from "./pages.js";
@@ -45,6 +45,13 @@ export class HexView {
     this.grid.setAttribute("aria-rowcount", count);
     this.rows.provide(0);
     this.rows.setCount(count);
+    this.reveal();
+  }
+
+  /** Has the row of the cursor in view, where rows have another length or the pane was closed. */
+  reveal() {
+    if (!this.file) return;
+    this.rows.goTo(Math.floor(this.cursor / this.inRow) - 1);
   }
 
   /** Shows a part from its first byte on, or from another of its bytes. */
@@ -121,18 +128,24 @@ export class HexView {
     this.rows.draw();
     this.describe(offset, part);
     const symbol = await symbolText(this.file, this.client, part, offset).catch(() => null);
-    if (symbol && asked === this.asked) this.place.append(` › ${symbol}`);
+    if (!symbol || asked !== this.asked) return;
+    this.place.append(` › ${symbol}`);
+    this.fields.querySelector(".bytefacts")?.append(element("dt", {}, "Symbol"), element("dd", {}, symbol));
   }
 
   describe(offset, part) {
     const where = [hex(offset, this.digits), part ? escaped(part.label) : null, this.record?.title, this.field?.name];
     this.place.textContent = where.filter((it, at, all) => it && it !== all[at - 1]).join(" › ");
     const rows = (this.record?.fields ?? []).map((field) => this.fieldRow(field));
-    const none = element("p", { class: "hint" }, part?.sort === "gap" ? "No part of the file claims these bytes."
-      : "The reader knows no fields in these bytes.");
-    const list = rows.length ? element("div", { class: "fieldlist" }, rows) : none;
+    const list = rows.length ? element("div", { class: "fieldlist" }, rows) : this.facts(part, offset);
     this.fields.replaceChildren(...[list, this.followed()].filter(Boolean));
     this.fields.querySelector(".current")?.scrollIntoView({ block: "nearest" });
+  }
+
+  // What is known of a byte that is no field of a record: its part, its address and its segment.
+  facts(part, offset) {
+    return element("dl", { class: "facts bytefacts" }, factsOf(this.file, part, offset).filter(([, text]) => text)
+      .flatMap(([name, text]) => [element("dt", {}, name), element("dd", {}, text)]));
   }
 
   // Buttons to the bytes at the addresses that the record has, in a file with loaded segments.

@@ -1,6 +1,8 @@
 // The page: choosing a file, its tabs, the hex view and the progress bar.
 import { byId, element } from "./dom.js";
+import * as names from "./names.js";
 import { Client } from "./client.js";
+import { Dock } from "./dock.js";
 import { HexView } from "./hex.js";
 import { LayoutMap } from "./map.js";
 import { Strip } from "./strip.js";
@@ -29,6 +31,7 @@ const page = { client: null, module: null, file: null, source: null };
 const progress = new Progress(() => page.client?.ask("stop"));
 const hexView = new HexView({ grid: byId("bytes"), title: byId("hextitle"), fields: byId("fields"), place: byId("place"),
   follow: (address) => follow(address) });
+const dock = new Dock(byId("dock"), byId("togglehex"), () => hexView.reveal());
 const strip = new Strip(byId("strip"), (part) => choosePiece(part));
 const map = new LayoutMap((part) => choosePiece(part));
 const inside = new SectionSymbols((part, offset) => choose(part, offset));
@@ -61,10 +64,9 @@ function say(message) {
   byId("message").replaceChildren(...(message ? [element("strong", {}, escaped(message.title)), " ", element("span", {}, escaped(message.text))] : []));
 }
 
-/** Chooses a part: marks it in the pictures and shows its bytes. */
+/** Chooses a part: marks it in the pictures and shows its bytes, unless the reader of the page has closed them. */
 function choose(part, offset = part.start) {
-  byId("dock").classList.remove("closed");
-  byId("togglehex").setAttribute("aria-expanded", true);
+  if (dock.kept() !== "closed") dock.open();
   strip.mark(part);
   map.mark(part);
   inside.mark(part);
@@ -182,8 +184,9 @@ async function lookInto(client, source) {
   inside.open(file, client);
   hexView.open(file, client);
   fillTabs(file, client);
+  byId("go").elements.where.value = "";
   choose(file.pieces[0]);
-  if (NARROW.matches) toggleHex();
+  if (dock.kept() === "closed" || (NARROW.matches && dock.kept() !== "open")) dock.close();
   places.show(source, tabs.current, true);
   byId("filename").focus();
   progress.end();
@@ -211,12 +214,22 @@ async function goTo(event) {
 /** Shows the byte at an address: false, with the reason beside "Go to", where the file has none. */
 async function showAddress(address) {
   const { offset, message } = await page.client.ask("bytesAt", { address });
-  return message ? tell(message) : showOffset(offset);
+  return message ? tell(zerosAt(address) ?? message) : showOffset(offset);
+}
+
+// What is said of an address that only memory has: zeros follow the bytes of a loaded segment.
+function zerosAt(address) {
+  const isIn = ({ header: { type, virtual_addr: start, mem_size: size } }) => type === names.PT_LOAD && start <= address && address - start < size;
+  if (!page.file.segments.some(isIn)) return null;
+  const holds = ({ header: it }) => it.type === names.NOBITS && it.flags & names.SECTION_ALLOC && it.address <= address && address - it.address < it.size;
+  const section = page.file.sections.find(holds);
+  return `Zero in memory${section?.name ? ` (${escaped(section.name)})` : ""}: the file has no byte for this address.`;
 }
 
 function showOffset(offset) {
   if (offset >= BigInt(page.file.size)) return tell("The file ends before this offset.");
   tell("");
+  dock.open();
   choose(partAt(page.file, Number(offset)), Number(offset));
   return true;
 }
@@ -229,11 +242,6 @@ function tell(text) {
 /** Follows an address of a record to its bytes. */
 async function follow(address) {
   if (await showAddress(address)) hexView.grid.focus();
-}
-
-function toggleHex() {
-  const isClosed = byId("dock").classList.toggle("closed");
-  byId("togglehex").setAttribute("aria-expanded", !isClosed);
 }
 
 // Links of the page lead to no other entry of the history than those of `places`.
@@ -253,7 +261,7 @@ async function start() {
   for (const button of document.querySelectorAll("[data-example]")) button.addEventListener("click", example);
   takeLinks();
   byId("go").addEventListener("submit", goTo);
-  byId("togglehex").addEventListener("click", toggleHex);
+  byId("togglehex").addEventListener("click", () => dock.toggle());
   if (!WebAssembly.validate(WIDE_MEMORY)) {
     byId("unsupported").hidden = false;
     document.body.dataset.state = "unsupported";

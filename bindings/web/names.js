@@ -86,6 +86,14 @@ export const DYNAMIC_FLAGS = {
 export const VERSION_KINDS = { 0: "none", 1: "defined", 2: "needed" };
 export const VERSION_FLAGS = [[1, "BASE"], [2, "WEAK"], [4, "INFO"]];
 
+/** The features of the property note of type 5 by GNU: the title of their row, and the names of their first bits, by the machine; and
+ * the types of the properties. */
+export const FEATURES = { 62: ["Branches and returns (CET)", ["IBT", "SHSTK"]], 3: ["Branches and returns (CET)", ["IBT", "SHSTK"]],
+  183: ["Branches and returns (BTI, PAC)", ["BTI", "PAC"]] };
+export const FEATURE_TYPES = { 62: 0xc0000002, 3: 0xc0000002, 183: 0xc0000000 };
+export const EM_AARCH64 = 183;
+export const NOTE_PROPERTIES = 5;
+
 export const NOTE_TYPES = {
   GNU: { 1: "ABI_TAG", 2: "HWCAP", 3: "BUILD_ID", 4: "GOLD_VERSION", 5: "PROPERTY_TYPE_0" },
   CORE: { 1: "PRSTATUS", 2: "FPREGSET", 3: "PRPSINFO", 6: "AUXV", 0x46494c45: "FILE", 0x53494749: "SIGINFO" },
@@ -147,6 +155,8 @@ export const PT_STACK = 0x6474e551;
 export const PT_RELRO = 0x6474e552;
 /** The kind of object files. */
 export const ET_REL = 1;
+/** The kind of core files. */
+export const ET_CORE = 4;
 /** The kind of shared objects, and of programs at any address. */
 export const ET_DYN = 3;
 /** The types of segments that hold only sections that are loaded. */

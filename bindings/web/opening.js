@@ -11,6 +11,7 @@ const RECORD_CALLS = { [names.SYMTAB]: ["symbols", "symbol"], [names.DYNSYM]: ["
 /** Past so many notes no further section or segment is asked for them. */
 const MOST_NOTES = 20000;
 const MOST_ID_BYTES = 64n;
+const MOST_PROPERTY_BYTES = 4096n;
 
 /** Reads the file into the module: null, or why it can't be looked into, as `{ title, text }`. */
 export async function load(client, module, source) {
@@ -43,6 +44,8 @@ export async function survey(client, source) {
   await findNotes(client, file);
   file.buildId = await buildIdIn(client, file.notes) ?? await buildIdIn(client, await segmentNotes(client, file));
   await findFacts(client, file);
+  file.features = await featuresIn(client, file);
+  file.protections = await client.ask("protections", { tables: symbolTablesOf(file) });
   file.versions = hasDynamic(file) ? await client.ask("versions") : { listed: [], refused: null, ofSymbols: false };
   return file;
 }
@@ -159,6 +162,30 @@ async function buildIdIn(client, all) {
   const shown = notes.length ? await client.ask("noteRows", { notes: notes.slice(0, 64), most: MOST_ID_BYTES }) : [];
   const found = shown.find(({ name }) => names.GNU_OWNER.every((byte, at) => name[at] === byte));
   return found ? [...found.desc] : null;
+}
+
+// The tables of symbols that can be read, the dynamic ones marked.
+function symbolTablesOf({ symbolTables }) {
+  return symbolTables.filter(({ count }) => count).map(({ section: { index, header }, count }) =>
+    ({ section: index, count, isDynamic: header.type === names.DYNSYM }));
+}
+
+// The bits of the features that the property note has: a list of properties, each its type, the size of its data and the data,
+// padded to the size of an address.
+async function featuresIn(client, { notes, header }) {
+  const wanted = names.FEATURE_TYPES[header.machine];
+  const all = notes.filter(({ type, name }) => type === names.NOTE_PROPERTIES && name.size === 4n);
+  const shown = wanted && all.length ? await client.ask("noteRows", { notes: all.slice(0, 64), most: MOST_PROPERTY_BYTES }) : [];
+  const align = header.file_class === 1 ? 4 : 8;
+  for (const { name, desc } of shown) {
+    const view = new DataView(desc.buffer, desc.byteOffset, desc.byteLength);
+    const number = (at) => view.getUint32(at, header.encoding !== 2);
+    const isOfGnu = names.GNU_OWNER.every((byte, at) => name[at] === byte);
+    for (let at = 0; isOfGnu && at + 12 <= desc.length; at += 8 + Math.ceil(number(at + 4) / align) * align) {
+      if (number(at) === wanted && number(at + 4) === 4) return number(at + 8);
+    }
+  }
+  return 0;
 }
 
 // The interpreter, and what the dynamic entries name.

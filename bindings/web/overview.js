@@ -49,11 +49,21 @@ function glance(file) {
   const list = element("ul", { class: "libraries" }, needed.map((it) => element("li", {}, textOrRefusal(it))));
   const noLibraries = file.namedRefused ? refusalNode(file.namedRefused) : "none";
   const noId = file.notesRefused.length ? refusalNode(file.notesRefused[0].refused) : "none";
-  const hardened = hardeningOf(file).map(([name, value]) => element("div", {}, element("dt", {}, name), element("dd", {}, value)));
+  const rows = hardeningOf(file);
+  const hardened = rows.map(({ name, said, sort, means }) => element("div", { title: means }, element("dt", {}, name), element("dd", { class: sort }, said)));
+  const meanings = rows.map(({ name, means }) => [name, means]);
   return element("section", { class: "card wide first", "aria-label": "At a glance" },
     hardened.length ? element("dl", { class: "hardened" }, hardened) : null,
-    facts([["Libraries needed", needed.length ? list : noLibraries], ...others,
-      ["Build id", file.buildId ? element("code", { class: "id" }, hexBytes(file.buildId)) : noId]]));
+    facts([["Loads", loadsNode(file)], ["Libraries needed", needed.length ? list : noLibraries], ...others,
+      ["Build id", file.buildId ? element("code", { class: "id" }, hexBytes(file.buildId)) : noId]]),
+    meanings.length ? element("details", { class: "meanings" }, element("summary", {}, "What these words mean"), facts(meanings)) : null);
+}
+
+// Whether Linux and glibc load the file. Object files and core files are no files to load.
+function loadsNode({ header: { type }, load: { refused } }) {
+  if (!refused) return element("span", { class: "fine" }, "yes");
+  const isOther = type === names.ET_REL || type === names.ET_CORE;
+  return element("span", { class: isOther ? "hint" : "bad" }, `no: ${refused.message}`);
 }
 
 // What the checks of all sections or segments say.

@@ -18,10 +18,10 @@ function leastWidth(width) {
   return width.match(/^max\(.*\)$|[\d.]+rem/)[0];
 }
 
-// The columns in their order; where there is little room, names follow the first column.
-function inOrder([first, ...others]) {
-  if (!NARROW.matches) return [first, ...others];
-  return [first, ...others.filter(({ label }) => label === "Name"), ...others.filter(({ label }) => label !== "Name")];
+// The columns in their order; where there is little room, names come first.
+function inOrder(columns) {
+  const isName = ({ label }) => label === "Name";
+  return NARROW.matches ? [...columns.filter(isName), ...columns.filter((it) => !isName(it))] : columns;
 }
 
 /** Has a cell show texts and nodes; a string alone is the usual case. */

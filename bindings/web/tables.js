@@ -46,13 +46,13 @@ export function sectionsPanel(file, choose) {
   const { file_class: fileClass, machine } = file.header;
   const table = new Table({ label: "Sections", empty: "The file has no section headers.", choose: ({ index }) => choose(index), columns: [
     { label: "Nr", width: "2.5rem", number: true, cell: ({ index }) => `${index}` },
-    { label: "Name", width: "minmax(10rem, 1.4fr)", cell: (it) => sectionName(it) },
-    { label: "Type", width: "8.5rem", cell: ({ header }) => names.sectionType(header.type, machine) },
+    { label: "Name", width: "minmax(8rem, 1.4fr)", cell: (it) => sectionName(it) },
+    { label: "Type", width: "7.5rem", cell: ({ header }) => names.sectionType(header.type, machine) },
     { label: "Address", width: fileClass === 1 ? "5rem" : "8rem", number: true, cell: ({ header }) => address(header.address, fileClass) },
-    { label: "Offset", width: "5rem", number: true, cell: ({ header }) => hexDigits(header.offset, 6) },
-    { label: "Size", width: "5rem", number: true, cell: ({ header }) => hexDigits(header.size, 6) },
+    { label: "Offset", width: "4rem", number: true, cell: ({ header }) => hexDigits(header.offset, 6) },
+    { label: "Size", width: "4rem", number: true, cell: ({ header }) => hexDigits(header.size, 6) },
     { label: "Entry", width: "3rem", number: true, title: "Size of an entry", cell: ({ header }) => hexDigits(header.entry_size, 2) },
-    { label: "Flags", width: "4rem", cell: ({ header }) => flagsNode(names.SECTION_FLAGS, header.flags) },
+    { label: "Flags", width: "3rem", cell: ({ header }) => flagsNode(names.SECTION_FLAGS, header.flags) },
     { label: "Link", width: "3rem", number: true, cell: ({ header }) => `${header.link}` },
     { label: "Info", width: "3rem", number: true, cell: ({ header }) => `${header.info}` },
     { label: "Align", width: "3.5rem", number: true, cell: ({ header }) => `${header.align}` },
@@ -82,7 +82,7 @@ export function segmentsPanel(file, choose) {
   const wide = fileClass === 1 ? "5rem" : "8rem";
   const table = new Table({ label: "Segments", empty: "The file has no program headers.", choose: ({ index }) => choose(index), columns: [
     { label: "Nr", width: "2.5rem", number: true, cell: ({ index }) => `${index}` },
-    { label: "Type", width: "7.5rem", cell: ({ header }) => names.segmentType(header.type, machine) },
+    { label: "Type", width: "7rem", cell: ({ header }) => names.segmentType(header.type, machine) },
     { label: "Offset", width: "4.5rem", number: true, cell: ({ header }) => hexDigits(header.offset, 6) },
     { label: "Address", width: wide, number: true, cell: ({ header }) => address(header.virtual_addr, fileClass) },
     { label: "Physical", width: wide, number: true, cell: ({ header }) => address(header.physical_addr, fileClass) },
@@ -90,8 +90,8 @@ export function segmentsPanel(file, choose) {
     { label: "In memory", width: "5rem", number: true, cell: ({ header }) => hexDigits(header.mem_size, 6) },
     { label: "Flags", width: "3rem", cell: ({ header }) => flagsNode(names.SEGMENT_FLAGS, header.flags) },
     { label: "Align", width: "4.5rem", number: true, cell: ({ header }) => hex(header.align) },
-    { label: "Sections", width: "minmax(9rem, 2fr)", cell: (it) => element("span", { title: held(it) }, held(it)) },
     ...verdictColumns(file.segments),
+    { label: "Sections", width: "minmax(4rem, 2fr)", cell: (it) => element("span", { title: held(it) }, held(it)) },
   ] });
   table.showAll(file.segments);
   const said = `${plural(file.segments.length, "segment")}, with the sections that lie in each. Numbers are hexadecimal.`;

@@ -5,6 +5,7 @@
 import { count, countDynamicSymbols, dynamicRows, dynamicTexts, lookUp, noteRows, packedRows, relocationRows,
   symbolRows } from "./records_of.js";
 import { DoesNotFit, Reader } from "./reader.js";
+import { protections } from "./protections.js";
 import { findSymbols, foundRows } from "./filter.js";
 import { symbolAt, symbolNames, symbolPieces } from "./symbols_at.js";
 import { segmentTables } from "./segment_tables.js";
@@ -75,6 +76,7 @@ const calls = {
   lookUp: (given) => lookUp(reader, given),
   checkHash,
   bytesAt,
+  protections: (given) => protections(reader, turns, given),
   symbolAt: (given) => symbolAt(reader, given),
   pieces: () => reader.pieces(),
   symbolPieces: (given) => symbolPieces(reader, given),

@@ -4,9 +4,8 @@
     tools/compare/addresses.py [--libraries N] [--addresses N] [--each N] [FILE..]
 
 With dladdr: the first N shared libraries of /usr/lib/x86_64-linux-gnu that can be loaded (--libraries, 60), at up to N
-addresses of each (--addresses): before, at, in, at the end of and after dynamic symbols, and anywhere in the segments. dladdr
-is called by ctypes, and for the first FEW addresses of each by C too. Addresses at which it names another object, or none,
-are counted as outside. elfaddr runs with --dladdr.
+addresses of each (--addresses): before, at, in, at the end of and after dynamic symbols, and anywhere in the segments. Addresses
+at which it names another object, or none, are counted as outside. elfaddr runs with --dladdr.
 
 With eu-addr2line, gdb, llvm-symbolizer, nm and addr2line, as far as they are here: the files FILE, else 15 of the system and of
 this repository, at N addresses of each (--each). elfaddr runs without an option. The answers are counted by cause:
@@ -31,39 +30,13 @@ import sys
 import tempfile
 from typing import Callable
 
-from comparing import INDIRECT, LOAD, LOCAL, ROOT, Symbol, Tally, dynamic_symbols, llvm, parser_of, parts, raw, read_elf, symbol_of
+from comparing import CONTROLS, INDIRECT, LOAD, LOCAL, ROOT, Symbol, Tally, dynamic_symbols, llvm, parser_of, parts, raw, read_elf, symbol_of
 from loading import named
-
-# The number of addresses of a library for which the C program calls dladdr.
-FEW = 2000
-# It writes a line for each address, as `named` gives it; what a library writes when it is loaded goes elsewhere.
-PROGRAM = r"""
-#define _GNU_SOURCE
-#include <dlfcn.h>
-#include <link.h>
-#include <stdio.h>
-#include <stdlib.h>
-int main(int count, char **words) {
-    FILE *to = fdopen(3, "w");
-    void *library = dlopen(words[1], RTLD_NOW | RTLD_LOCAL);
-    struct link_map *map, *found = 0;
-    unsigned long address;
-    Dl_info info;
-    if (!to || !library || dlinfo(library, RTLD_DI_LINKMAP, &map)) return 3;
-    for (; scanf("%lx", &address) == 1; found = 0) {
-        if (!dladdr1((void *)(map->l_addr + address), &info, (void **)&found, RTLD_DL_LINKMAP) || found != map) fputs("outside\n", to);
-        else if (!info.dli_sname) fputs("none\n", to);
-        else fprintf(to, "%s+0x%lx\n", info.dli_sname, map->l_addr + address - (unsigned long)info.dli_saddr);
-    }
-    fflush(to);
-    _Exit(0);
-}
-"""
 
 # Control characters as elfaddr writes them.
 CONTROLS = {it: f"^{chr(it + 64)}" for it in (*range(32), 127)}
 # Types of symbols that name addresses: none, an object, a function, an indirect function. A section index from RESERVED on is none.
-TYPES, RESERVED, RELR = (0, 1, 2, INDIRECT), 0xFF00, 19
+TYPES, RESERVED = (0, 1, 2, INDIRECT), 0xFF00
 
 
 class Image:
@@ -73,8 +46,7 @@ class Image:
         self.path, said = path, llvm(path, "-h", "-S", "-l")
         if read_elf(path)[4:6] != b"\x02\x01":
             raise ValueError("class or byte order")
-        # The library reads no name of a section of the type RELR, which the Rust crate doesn't know.
-        self.sections = {"?" if raw(it["Type"]) == RELR else it["Name"]["Value"] for it in parts(said, "Sections", "Section")}
+        self.sections = {it["Name"]["Value"] for it in parts(said, "Sections", "Section")}
         loads = (it for it in parts(said, "ProgramHeaders", "ProgramHeader") if raw(it["Type"]) == LOAD)
         self.loads = [(it["VirtualAddress"], it["VirtualAddress"] + it["MemSize"]) for it in loads]
 
@@ -107,7 +79,7 @@ def answers(command: list[str], addresses: list[int], form: str = "{:x}\n", **mo
     return done.stdout.decode("utf-8", "surrogateescape").split("\n")[:-1]
 
 
-def compare_dladdr(elfaddr: str, program: str, path: str, count: int, tally: Tally) -> None:
+def compare_dladdr(elfaddr: str, path: str, count: int, tally: Tally) -> None:
     try:
         image = Image(path)
     except ValueError:
@@ -118,10 +90,6 @@ def compare_dladdr(elfaddr: str, program: str, path: str, count: int, tally: Tal
         tally["libraries not loaded"] += 1
         return
     tally["libraries"] += 1
-    by_c = answers(["sh", "-c", 'exec 3>&1 >/dev/null 2>&1; exec "$@"', "sh", program, path], addresses[:FEW])
-    tally["addresses by C"] += len(by_c)
-    if by_c != said[:FEW]:
-        tally.fault(f"{path}: by ctypes dladdr says something else than by C")
     found = answers([elfaddr, "--dladdr", path, "-"], addresses)
     if len(found) != len(addresses):
         tally.fault(f"{path}: elfaddr writes {len(found)} lines for {len(addresses)} addresses")
@@ -238,12 +206,9 @@ def main() -> int:
     given = parser_of(__doc__, "elfaddr", files="*", libraries=60, addresses=20000, each=3000).parse_args()
     tally, tables = Tally("elfaddr", "libraries"), collections.defaultdict(collections.Counter)
     libraries = sorted({os.path.realpath(it) for it in glob.glob("/usr/lib/x86_64-linux-gnu/*.so.*")}, key=lambda it: (-os.path.getsize(it), it))
-    with tempfile.TemporaryDirectory() as room:
-        program = f"{room}/dladdr"
-        subprocess.run(["gcc", "-O1", "-w", "-x", "c", "-o", program, "-", "-ldl"], input=PROGRAM.encode(), check=True)
-        for path in libraries:
-            if tally["libraries"] < given.libraries:
-                compare_dladdr(given.elfaddr, program, path, given.addresses, tally)
+    for path in libraries:
+        if tally["libraries"] < given.libraries:
+            compare_dladdr(given.elfaddr, path, given.addresses, tally)
     built = sorted(str(it) for it in ROOT.glob("crates/elf*/out/elf*") if it.is_file() and os.access(it, os.X_OK) and read_elf(str(it)))
     for path in given.files or [*built[:5], *libraries[5:100:10]]:
         compare_others(given.elfaddr, path, given.each, tables, tally)

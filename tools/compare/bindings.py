@@ -1,7 +1,7 @@
 #!/usr/bin/env python3
 """Compare what elfbind says of references with what the system's dynamic linker does.
 
-    tools/compare/bindings.py [--elfbind PATH] [--damaged N] [--seed N] [--times N] FILE..
+    tools/compare/bindings.py [--elfbind PATH] [--times N] FILE..
 
 The programs are the dynamically linked ones among the files, and in the folders among them. elfbind is run on a program and its
 libraries in the order in which the linker lists them, without linux-vdso; the linker binds all references at once and prints
@@ -11,22 +11,16 @@ without the linker's own look-ups. Status 1 of elfbind and an undefined symbol f
 Another binding is a line with its cause: `unique`, since glibc merges symbols of type STB_GNU_UNIQUE by name over the
 process; `ifunc`, an indirect function; or `unexplained`, which is a difference.
 
---damaged N runs elfbind on N copies of the files of the program with fewest bindings, with one damaged, at random
-from the seed: it must end within two seconds, with status 0 or 1. --times N prints for the N programs with most
+--times N prints for the N programs with most
 bindings the least time of five runs of elfbind, and of the linker, with and without binding.
 """
 import functools
 import os
-import random
 import re
 import sys
-import tempfile
-import time
 import timeit
-from collections import Counter, defaultdict, namedtuple
-from pathlib import Path
+from collections import defaultdict, namedtuple
 
-import damage
 from comparing import INDIRECT, UNIQUE, Finished, Tally, dynamic_symbols, parser_of, read_elf, run
 
 LISTED = re.compile(r"^\t(?:.* => )?(/.*) \(0x[0-9a-f]+\)$", re.M)
@@ -35,8 +29,6 @@ LINE = re.compile(r"^(.*?) (\S*) -> (?:(.*) 0x[0-9a-f]+|unresolved)$", re.M)
 OWN_NAMES = {"calloc", "free", "malloc", "realloc"}
 TRACE = {"LD_TRACE_LOADED_OBJECTS": "1"}
 BINDINGS = {**TRACE, "LD_DEBUG": "bindings", "LD_BIND_NOW": "1", "LD_WARN": "1"}
-# The longest time of a run on a damaged file in seconds.
-LONGEST = 2.0
 
 Key = tuple[str, str, str]
 real = functools.lru_cache(maxsize=None)(os.path.realpath)
@@ -122,23 +114,6 @@ def compare(program: Program, elfbind: str, tally: Tally) -> int:
     return count
 
 
-def try_damaged(program: Program, elfbind: str, copies: int, seed: int, tally: Tally) -> None:
-    """Runs elfbind on damaged copies of a program's files."""
-    chance, statuses, longest = random.Random(seed), Counter(), 0.0
-    with tempfile.TemporaryDirectory() as folder:
-        copy = Path(folder, "copy")
-        for number in range(copies):
-            file = chance.choice(program.files)
-            copy.write_bytes(damage.mutated(Path(file).read_bytes(), chance))
-            began = time.monotonic()
-            said = run([elfbind, *(str(copy) if it == file else it for it in program.files)])
-            longest = max(longest, time.monotonic() - began)
-            statuses["accepted" if not said.errors else "refused"] += 1
-            if said.status not in (0, 1) or longest > LONGEST:
-                tally.fault(f"damaged copy {number} of {file}: status {said.status}, {longest:.1f} s at most")
-    print(f"{copies} damaged copies: {dict(statuses)}, {longest:.2f} s at most")
-
-
 def print_times(programs: list[tuple[int, Program]], elfbind: str) -> None:
     """Prints the least time of five runs of elfbind on some programs, beside that in which the linker binds them."""
     least = lambda command, **variables: f"{1000 * min(timeit.repeat(lambda: run(command, **variables), number=1)):.1f} ms"
@@ -150,17 +125,15 @@ def print_times(programs: list[tuple[int, Program]], elfbind: str) -> None:
 
 
 def main() -> int:
-    given = parser_of(__doc__, "elfbind", files="*", damaged=0, seed=1, times=0).parse_args()
-    tally, most = Tally("elfbind", "programs", "left out", "bindings compared", "unresolved"), []
+    given = parser_of(__doc__, "elfbind", files="*", times=0).parse_args()
+    tally, most = Tally("elfbind", "programs", "programs left out", "bindings compared", "unresolved"), []
     for path in programs_in(given.files):
         if program := read_program(path):
             most.append((compare(program, given.elfbind, tally), program))
         else:
-            tally["left out"] += 1
+            tally["programs left out"] += 1
             print(f"{path}: left out, since the linker does not load it")
     most.sort(key=lambda it: -it[0])
-    if given.damaged and most:
-        try_damaged(most[-1][1], given.elfbind, given.damaged, given.seed, tally)
     print_times(most[: given.times], given.elfbind)
     return tally.ended()
 

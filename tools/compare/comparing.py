@@ -29,6 +29,8 @@ SECTION, THREAD, INDIRECT = 3, 6, 10
 LOCAL, UNIQUE = 0, 10
 # The type of a segment that is loaded.
 LOAD = 1
+# Control characters as the programs write them in names.
+CONTROLS = {it: f"^{chr(it + 64)}" for it in (*range(32), 127)}
 
 
 # What a program that ran to its end has left.
@@ -150,6 +152,16 @@ def dynamic_symbols(path: str) -> tuple[Symbol, ...]:
 def texts_of(path: str, *tags: str) -> list[str]:
     """The texts of the dynamic entries with these tags that GNU's readelf lists, as those of NEEDED."""
     return re.findall(rf"\((?:{'|'.join(tags)})\) +[^\[]*\[(.*)\]$", run(["readelf", "-dW", "--", path]).output, re.M)
+
+
+def nm(path: str) -> list[tuple]:
+    """The value, the size, the letter of the type and the name of each symbol that has a value; those for dynamic linking of a
+    stripped file."""
+    for options in ([], ["-D"]):
+        said = run(["nm", "-S", "--without-symbol-versions", *options, "--", path]).output
+        if found := re.findall(r"^([0-9a-f]+)(?: ([0-9a-f]+))? (\S) (\S+)$", said, re.M):
+            return [(int(value, 16), int(size or "0", 16), letter, name) for value, size, letter, name in found]
+    return []
 
 
 def build_ids(path: str) -> list[str]:

@@ -315,6 +315,31 @@ class Damage:
     IN_PLACE = (links, hash_table, hash_table, notes, names, cut)
 
 
+def lost(data: bytes, symbols: int = 2):
+    """Fifty copies of a file of which symbols can't be listed: cut off in front of the end of its section headers, or with
+    headers that are wrong; `symbols` is the type of a section of symbols. What is lost of each is at its place in the file, so
+    that a reader can say so."""
+    whole = Damage(data, randoms.Random(0))
+    end = whole.sections[-1] + whole.layout.section_size
+    for index in range(25):
+        yield data[: 64 + index * (end - 1 - 64) // 24]
+    table = next(it for it in whole.sections if whole.of_section(it, "type") == symbols)
+    names = whole.sections[whole.of_section(table, "link")]
+    fields = [(table, "offset", value) for value in (len(data), 2**40, 2**64 - 1, len(data) - 8)]
+    fields += [(table, "size", value) for value in (2**40, 2**64 - 1, whole.of_section(table, "size") - 1, len(data))]
+    fields += [(table, "link", value) for value in (len(whole.sections), 2**31, 2**32 - 1)]
+    fields += [(names, "offset", value) for value in (len(data), 2**40, 2**64 - 1)] + [(names, "size", value) for value in (2**40, 2**64 - 1, 2, 9)]
+    for base, name, value in fields:
+        copy = Damage(data, randoms.Random(0))
+        copy.put_in(base, **{name: value})
+        yield bytes(copy.data)
+    heads = [("shoff", len(data)), ("shoff", 2**40), ("shoff", end - 8), ("shentsize", 1), ("shentsize", 0x7fff), ("shnum", 0x7fff), ("shnum", len(whole.sections) + 1)]
+    for name, value in heads:
+        copy = bytearray(data)
+        whole.layout.fill(copy, 0, whole.layout.header, **{name: value})
+        yield bytes(copy[:end])
+
+
 def mutated(data: bytes, random: randoms.Random, ways=Damage.ALL) -> bytes:
     damage = Damage(data, random)
     for way in random.choices(ways, k=random.choice((1, 1, 2, 3, 5))):

@@ -26,6 +26,11 @@ from loading import asked
 sys.path.insert(1, str(ROOT / "bindings" / "python"))
 
 
+# What a look-up counts as, by its verdict.
+FOUND = {"same": "found", "elsewhere": "found in another library", "unique": "of unique symbols", "indirect": "of indirect functions",
+         "thread-local": "of thread-local symbols"}
+
+
 def queries_of(path: str) -> tuple[list[tuple[str, str | None, str]], int]:
     """What is asked about a file: each name, with a version or none, and what this counts as; and how many names have several
     versions."""
@@ -37,9 +42,9 @@ def queries_of(path: str) -> tuple[list[tuple[str, str | None, str]], int]:
     listed = sorted({version for of_name in versions.values() for version in of_name})
     queries: list[tuple[str, str | None, str]] = [(name, None, "names") for name in versions]
     for name, of_name in versions.items():
-        queries += [(name, version, "pairs") for version in of_name]
+        queries += [(name, version, "names with a version") for version in of_name]
         # The first two versions that the name doesn't have.
-        queries += [(name, version, "absent pairs") for version in [it for it in listed if it not in of_name][:2] if of_name]
+        queries += [(name, version, "names with a version of another") for version in [it for it in listed if it not in of_name][:2] if of_name]
     return queries, sum(len(of_name) > 1 for of_name in versions.values())
 
 
@@ -80,7 +85,7 @@ def compare(path: str) -> Tally:
             if found == "different":
                 tally.fault(f"{path}: {name} {version or ''}: {'dlvsym' if version else 'dlsym'} {said}, find_symbol {symbol}")
             elif found != "same" or said != "none":
-                tally[f"{kind} {'found' if found == 'same' else found}"] += 1
+                tally[f"{kind} {FOUND[found]}"] += 1
     return tally
 
 

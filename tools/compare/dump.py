@@ -7,9 +7,10 @@ with what nm and readelf print.
 Takes FILE, else 300 files spread over the small ones of the system. Compared are, of each file and of a copy without section
 headers: the needed libraries, the name and the run path, the build id, the dynamic symbols with their versions, the versions
 needed and defined, the dynamic entries and the relocations; of each file besides its sections; and for up to 200 names with a
-version the symbol that is found by both, and by the name alone where the version is the default one. The programs in C print
-the build id, these symbols, and the entries and relocations of the dynamic segment. A file without sections, of debugging
-data alone, or with a dynamic segment without symbols, is passed over. The archive is that of crates/elf_c/out, or of the folder that XMAS_ELF_ARCHIVE names."""
+version the symbol that is found by both, and by the name alone where the version is the default one: that of the same name
+without a version, if there is one. The programs in C print the build id, these symbols, and the entries and relocations of the
+dynamic segment. A file without sections, of debugging data alone, or with a dynamic segment without symbols, is passed over.
+The archive is that of crates/elf_c/out, or of the folder that XMAS_ELF_ARCHIVE names."""
 import concurrent.futures
 import functools
 import itertools
@@ -78,8 +79,9 @@ class Wanted:
         # The values of dynamic symbols, with their names and the names of their versions.
         rows = re.findall(r"^([0-9a-f]+| +) \S (.*)$", run(["nm", "-D", "--", path]).output, re.M)
         self.symbols = [(f"{int(value.strip() or '0', 16):016x}", name) for value, name in rows]
-        lines = re.findall(r"^  [0-9a-f]+:( +[0-9a-f]+[h ]\(.*)$", printed, re.M)
-        self.numbers = [f"{int(number, 16)}{mark.strip()}" for line in lines for number, mark in re.findall(r" ([0-9a-f]+)([h ])\(", line)]
+        # A number has its name in brackets, but for 1 with the mark of a hidden version.
+        lines = re.findall(r"^  [0-9a-f]+:( +[0-9a-f]+(?:h| \().*)$", printed, re.M)
+        self.numbers = [f"{int(number, 16)}{mark.strip()}" for line in lines for number, mark in re.findall(r" ([0-9a-f]+)(h(?=[ (]|$)| (?=\())", line)]
         needs = [(need["FileName"], it) for need in parts(said, "VersionRequirements", "Dependency") for it in parts(need, "Entries", "Entry")]
         number = lambda it: f"{it['Index'] % 0x8000}{'h' if it['Index'] >= 0x8000 else ''} {it['Flags']['RawFlags']}"
         # In no order.
@@ -100,8 +102,11 @@ class Wanted:
         places = {(it.name, it.version): index for index, it in enumerate(dynamic_symbols(path))}
         for name in [name for value, name in self.symbols if "@" in name[1:] and int(value, 16)][:200]:
             at = name.index("@", 1)
-            for it in [name.replace("@@", "@"), *([name[:at]] if "@@" in name else [])]:
-                self.found[it] = values[name], name[at:], places.get((name[:at], name[at:].strip("@")))
+            self.found[name.replace("@@", "@")] = values[name], name[at:], places.get((name[:at], name[at:].strip("@")))
+            if "@@" in name:
+                # A symbol without a version comes before that of the default version.
+                first = name[:at] if int(values.get(name[:at], "0"), 16) else name
+                self.found[name[:at]] = values[first], first[at:], places.get((name[:at], first[at:].strip("@")))
 
     def dynamic(self, printed):
         """The lines for the dynamic segment. By GNU's hash table alone no symbol after the last exported one is counted, and none

@@ -65,7 +65,7 @@ def compare_file(path: str, file: str, elfsym: str, reads: Listing, tally: Tally
             name, _, version = reference.partition("@")
             symbols = reads.symbols.get(name, [])
             wanted = wanted_of(symbols, version)
-            tally["others" if not wanted else "names with a version that has a symbol" if version else "names with a symbol"] += 1
+            tally["names without a symbol" if not wanted else "names with a version that has a symbol" if version else "names with a symbol"] += 1
             tally["of them with several values"] += bool(wanted) and not version and len({(it.value, it.size) for it in symbols}) > 1
             if line not in ({f"{reference} {value:#x} {size:#x}" for value, size in wanted} or {f"{reference}: none"}):
                 tally.differ(path, reference, line, sorted(wanted) or "none")
@@ -83,12 +83,12 @@ def compare(copy: Path, path: str, elfsym: str, tally: Tally) -> None:
         return
     compare_file(path, path, elfsym, reads, tally)
     copy.write_bytes(stripped(read_elf(path)))
-    tally["of them copies without section headers"] += 1
+    tally["copies without section headers"] += 1
     compare_file(f"{path}, stripped", str(copy), elfsym, reads, tally)
 
 
 if __name__ == "__main__":
-    counted = ("files", "of them copies without section headers", "names with a symbol", "of them with several values",
-        "names with a version that has a symbol", "others", "needed libraries")
+    counted = ("files", "copies without section headers", "names with a symbol", "of them with several values",
+        "names with a version that has a symbol", "names without a symbol", "needed libraries")
     with tempfile.TemporaryDirectory() as folder:
         sys.exit(compare_all(__doc__, Tally("elfsym", *counted), functools.partial(compare, Path(folder, "copy")), "elfsym"))

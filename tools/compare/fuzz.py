@@ -133,7 +133,8 @@ def main() -> int:
         fuzzing.check("elfinfo", ["200,000 buckets that share one chain of 200,000 names"], [f"{room}/shared"])
         for some in (range(options.count)[at : at + AT_ONCE] for at in range(0, options.count, AT_ONCE)):
             fuzzing.files_at_once([(f"damage.damaged({options.seed}, {k})", damage.damaged(options.seed, k)) for k in some])
-    print(f"{fuzzing.files} files in {time.monotonic() - began:.0f} s, {fuzzing.faults} not as they must be")
+    print(f"{time.monotonic() - began:.0f} s")
+    print(f"{fuzzing.files} files, {fuzzing.faults} not as they must be")
     for (program, status), count in sorted(fuzzing.statuses.items()):
         print(f"{program}: {count} files in runs that ended with {status}")
     for program, (worst, name) in fuzzing.slowest.items():

@@ -240,7 +240,7 @@ class Comparison(namedtuple("Comparison", "elfbind elfsym room tally")):
         queries = [(name, version) for name in names for version in (None, *versions)]
         loaded = asked(str(copy), queries, 10, LD_LIBRARY_PATH=self.room)
         if loaded is None:
-            self.tally["not loaded"] += 1
+            self.tally["copies not loaded"] += 1
             return
         said = run([self.elfsym, str(copy), *(name + (f"@{version}" if version else "") for name, version in queries)])
         if said.errors:

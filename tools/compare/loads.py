@@ -23,11 +23,9 @@ A difference is a line, and the exit status is then 1. It needs ptrace on x86-64
 another, the script says so, and passes.
 """
 import bisect
-import ctypes
 import dataclasses
 import functools
 import os
-import platform
 import random
 import re
 import signal
@@ -39,39 +37,21 @@ from pathlib import Path
 from typing import Dict, Iterator, List, NamedTuple, Optional, Set, Tuple
 
 from bindings import linker_of, programs_in, real
-from comparing import UNDEFINED, Finished, Tally, dynamic_symbols, parser_of, read_elf, run
+from comparing import Finished, Tally, parser_of, read_elf, run
+from processes import PAGE, Mapping, Stopped, can_trace, content_of, linker_in, mapping_of, to_debug_state
 
-PAGE = 4096
 LONGEST = 2.0
 LINE = re.compile(r"^([0-9a-f]+)-([0-9a-f]+) (...)p ([0-9a-f]+) (file|zero|none)$")
-MAPPED = re.compile(r"^([0-9a-f]+)-([0-9a-f]+) (...). ([0-9a-f]+) \S+ \d+ *(.*)$")
-
-# Requests of ptrace, and the call mprotect of x86-64 and of 386 with PROT_READ.
-TRACE_ME, WRITE_WORD, CONTINUE, REGISTERS, STEP_TO_CALL = 0, 5, 7, 12, 24
-MPROTECT, NARROW_MPROTECT, READ_ALONE = 10, 125, 1
-# The places of registers in user_regs_struct of x86-64, and the number AT_BASE of the auxiliary vector.
-THIRD, NUMBER, LINKER_BASE = 12, 15, 7
 
 # Why a damaged copy that elfload accepts isn't loaded.
 ALLOWED = {
     "no such interpreter": r"No such file or directory|ENOENT|Accessing a corrupted|Permission denied|Exec format error|Is a directory",
     "no room": r"cannot map|failed to map|Cannot allocate memory|ENOMEM|no room|cannot allocate|File exists",
-    "not for a library": r"cannot dynamically load|cannot be preloaded|position-independent executable|only ET_DYN",
-    "dynamic segment": r"dynamic section|get-dynamic-info\.h",
-    "header that glibc checks": r"ELF file|ELF header|invalid ELF|wrong ELF class|ABI|architecture|version",
+    "a program, not a library": r"cannot dynamically load|cannot be preloaded|position-independent executable|only ET_DYN",
+    "its dynamic segment": r"dynamic section|get-dynamic-info\.h",
+    "a header that glibc checks": r"ELF file|ELF header|invalid ELF|wrong ELF class|ABI|architecture|version",
     "stack or threads": r"executable stack|cannot handle TLS|TLS",
 }
-
-
-class Mapping(NamedTuple):
-    """A mapping: its addresses, its permissions, its offset in the file, and what it holds: for elfload `file`, `zero` or `none`,
-    in /proc/PID/maps the path of a file."""
-
-    start: int
-    end: int
-    flags: str
-    offset: int
-    holds: str
 
 
 class Plan(NamedTuple):
@@ -80,12 +60,6 @@ class Plan(NamedTuple):
     relro: Optional[Tuple[int, int]]
     start: int
     by: Dict[str, List[Mapping]]
-
-
-def mapping_of(found: "re.Match") -> Mapping:
-    """The mapping of a line."""
-    start, end, flags, offset, holds = found.groups()
-    return Mapping(int(start, 16), int(end, 16), flags, int(offset, 16), holds)
 
 
 def plan_of(text: str) -> Plan:
@@ -109,110 +83,6 @@ def said_of(elfload: str, path: str) -> Tuple[Finished, Optional[Plan]]:
     """How a run of elfload ended, and the plan if it printed one."""
     done = run([elfload, path])
     return done, plan_of(done.output) if done.status == 0 else None
-
-
-def is_narrow(path: str) -> bool:
-    """Whether a file is of class 32."""
-    with open(path, "rb") as file:
-        return file.read(5)[4:] == b"\x01"
-
-
-class Stopped:
-    """A process that is stopped at exec."""
-
-    def __init__(self, path: str, **variables: str) -> None:
-        self.libc = ctypes.CDLL(None, use_errno=True)
-        self.libc.ptrace.restype, self.libc.ptrace.argtypes = ctypes.c_long, [ctypes.c_long, ctypes.c_long, ctypes.c_void_p, ctypes.c_void_p]
-        reader, writer = os.pipe()
-        self.is_narrow = is_narrow(path)
-        self.pid = os.fork()
-        if not self.pid:
-            os.dup2(writer, 2)
-            null = os.open(os.devnull, os.O_RDWR)
-            os.dup2(null, 0)
-            os.dup2(null, 1)
-            self.libc.ptrace(TRACE_ME, 0, None, None)
-            try:
-                os.execve(path, [path], {"LC_ALL": "C", **variables})
-            except OSError as error:
-                os.write(2, f"{error.strerror}\n".encode())
-            os._exit(127)
-        os.close(writer)
-        self.errors, self.status = os.fdopen(reader, "rb"), 0
-        self.wait()
-
-    def wait(self) -> bool:
-        """Waits for the next stop; whether there is one."""
-        self.status = os.waitpid(self.pid, 0)[1]
-        return self.is_stopped()
-
-    def is_stopped(self) -> bool:
-        return os.WIFSTOPPED(self.status)
-
-    def signal(self) -> int:
-        return os.WSTOPSIG(self.status) if self.is_stopped() else 0
-
-    def go(self, how: int) -> bool:
-        self.libc.ptrace(how, self.pid, None, None)
-        return self.wait()
-
-    def registers(self) -> Tuple[int, ...]:
-        held = (ctypes.c_ulonglong * 27)()
-        self.libc.ptrace(REGISTERS, self.pid, None, ctypes.byref(held))
-        return tuple(held)
-
-    def to_read_only(self) -> bool:
-        """Runs up to the first call that makes pages read-only; False if the process ends or gets a signal before."""
-        while self.go(STEP_TO_CALL):
-            if self.signal() != signal.SIGTRAP:
-                return False
-            held = self.registers()
-            if held[NUMBER] == (NARROW_MPROTECT if self.is_narrow else MPROTECT) and held[THIRD] == READ_ALONE:
-                return True
-        return False
-
-    def to_address(self, address: int) -> bool:
-        """Runs up to an instruction."""
-        word = self.memory(address, 8)
-        self.libc.ptrace(WRITE_WORD, self.pid, address, int.from_bytes(b"\xcc" + word[1:], "little"))
-        reached = self.go(CONTINUE) and self.signal() == signal.SIGTRAP
-        if reached:
-            self.libc.ptrace(WRITE_WORD, self.pid, address, int.from_bytes(word, "little"))
-        return reached
-
-    def memory(self, start: int, size: int) -> bytes:
-        """The bytes at an address, up to the first that can't be read."""
-        with open(f"/proc/{self.pid}/mem", "rb", buffering=0) as held:
-            held.seek(start)
-            found = bytearray()
-            while len(found) < size:
-                try:
-                    part = held.read(size - len(found))
-                except OSError:
-                    break
-                if not part:
-                    break
-                found += part
-            return bytes(found)
-
-    def maps(self) -> List[Mapping]:
-        lines = Path(f"/proc/{self.pid}/maps").read_text("utf-8", "surrogateescape").split("\n")
-        return [mapping_of(MAPPED.match(it)) for it in lines[:-1]]
-
-    def auxiliary(self, kind: int) -> int:
-        """An entry of the auxiliary vector, as LINKER_BASE."""
-        held = Path(f"/proc/{self.pid}/auxv").read_bytes()
-        return dict(struct.iter_unpack("<II" if self.is_narrow else "<QQ", held)).get(kind, 0)
-
-    def end(self) -> str:
-        """Ends the process, and returns what it has said."""
-        if not os.WIFEXITED(self.status) and not os.WIFSIGNALED(self.status):
-            os.kill(self.pid, signal.SIGKILL)
-            while not os.WIFSIGNALED(self.status) and not os.WIFEXITED(self.status):
-                self.wait()
-        said = self.errors.read().decode("utf-8", "replace")
-        self.errors.close()
-        return said
 
 
 class Plans(Tally):
@@ -256,11 +126,6 @@ class Loaded:
 @functools.lru_cache(maxsize=None)
 def is_elf(path: str) -> bool:
     return bool(read_elf(path))
-
-
-@functools.lru_cache(maxsize=8)
-def content_of(path: str) -> bytes:
-    return Path(path).read_bytes()
 
 
 def as_mapped(mapping: Mapping, path: str, part: Mapping) -> bool:
@@ -326,12 +191,6 @@ def base_of(maps: List[Mapping], path: str, plan: Plan) -> Optional[int]:
     return None if first is None else first - plan.start
 
 
-def linker_in(process: Stopped, maps: List[Mapping]) -> Tuple[str, int]:
-    """The dynamic linker that Linux has mapped for a process, if there is one, and its base."""
-    base = process.auxiliary(LINKER_BASE)
-    return next((it.holds for it in maps if it.start <= base < it.end), ""), base
-
-
 def files_of(process: Stopped, maps: List[Mapping], program: str, tally: Plans, is_protected: bool) -> List[Loaded]:
     """The files that a process has mapped."""
     found, linker = [], linker_in(process, maps)[0]
@@ -343,24 +202,11 @@ def files_of(process: Stopped, maps: List[Mapping], program: str, tally: Plans, 
     return found
 
 
-@functools.lru_cache(maxsize=None)
-def value_of(path: str, name: str) -> Optional[int]:
-    """The value of a dynamic symbol, as readelf says."""
-    return next((it.value for it in dynamic_symbols(path) if it.name == name and it.section != UNDEFINED), None)
-
-
-def to_debug_state(process: Stopped) -> bool:
-    """Runs up to the function that the linker calls before it maps libraries, and once relocation is done."""
-    linker, base = linker_in(process, process.maps())
-    state = value_of(linker, "_dl_debug_state")
-    return state is not None and process.to_address(base + state)
-
-
 def compare_stop(process: Stopped, program: str, stop: str, tally: Plans) -> None:
     maps = process.maps()
-    for loaded in files_of(process, maps, program, tally, stop == "after relro"):
-        compare_loaded(process, maps, loaded, stop == "exec", f"{program}: {stop}", tally)
-        tally[f"objects {stop}"] += 1
+    for loaded in files_of(process, maps, program, tally, stop == "after RELRO"):
+        compare_loaded(process, maps, loaded, stop == "at exec", f"{program}: {stop}", tally)
+        tally[f"files {stop}"] += 1
 
 
 def compare(path: str, tally: Plans) -> None:
@@ -371,15 +217,15 @@ def compare(path: str, tally: Plans) -> None:
             tally["not run"] += 1
             return
         tally["programs"] += 1
-        compare_stop(process, path, "exec", tally)
+        compare_stop(process, path, "at exec", tally)
         if not process.to_read_only():
-            tally["without relro"] += 1
+            tally["programs without RELRO"] += 1
             return
-        compare_stop(process, path, "before relro", tally)
+        compare_stop(process, path, "before RELRO", tally)
         if not to_debug_state(process):
             tally["not relocated"] += 1
             return
-        compare_stop(process, path, "after relro", tally)
+        compare_stop(process, path, "after RELRO", tally)
     finally:
         process.end()
 
@@ -428,12 +274,12 @@ def load_copy(copy: str, plan: Plan, program: str, by: str, tally: Plans) -> Non
         if base is None:
             text = process.end()
             cause = cause_of(text) or ("killed at exec" if is_program else None)
-            tally[f"{'programs' if is_program else 'libraries'} not loaded: {cause or 'unexplained'}"] += 1
+            tally[f"damaged {'programs' if is_program else 'libraries'} not loaded: {cause or 'unexplained'}"] += 1
             if cause is None:
                 tally.fault(f"damaged copy {copy}: accepted and not loaded: {text.strip()}")
             return
         compare_loaded(process, maps, Loaded(copy, plan, by, base), is_program, "damaged copy", tally)
-        tally[f"{'programs' if is_program else 'libraries'} as planned"] += tally["differences"] == before
+        tally[f"damaged {'programs' if is_program else 'libraries'} mapped as planned"] += tally["differences"] == before
     finally:
         if not process.errors.closed:
             process.end()
@@ -456,24 +302,10 @@ def try_damaged(files: Dict[str, str], program: str, copies: int, seed: int, tal
                     tally.fault(f"damaged copy {number} of {source}: status {said.status}, {longest:.1f} s at most")
                 tally["damaged copies"] += 1
                 if plan is not None:
-                    tally["accepted"] += 1
+                    tally["of them accepted"] += 1
                     load_copy(copy, plan, program, by, tally)
                 os.unlink(copy)
     print(f"damaged copies: {longest:.2f} s at most")
-
-
-def can_trace() -> bool:
-    """Whether a process can be stopped at exec."""
-    if platform.machine() != "x86_64":
-        return False
-    process = Stopped("/bin/true")
-    stopped = process.signal() == signal.SIGTRAP and bool(process.maps())
-    process.end()
-    return stopped
-
-
-def smallest(paths: List[str]) -> str:
-    return min(paths, key=os.path.getsize)
 
 
 def main() -> int:
@@ -485,9 +317,9 @@ def main() -> int:
     for path in programs:
         compare(path, tally)
     if given.damaged and programs:
-        program = smallest(programs)
+        program = min(programs, key=os.path.getsize)
         libraries = [it for it in tally.plans if ".so" in os.path.basename(it) and real(linker_of(program) or "") != it]
-        try_damaged({"kernel": program, "glibc": smallest(libraries)}, program, given.damaged, given.seed, tally)
+        try_damaged({"kernel": program, "glibc": min(libraries, key=os.path.getsize)}, program, given.damaged, given.seed, tally)
     return tally.ended()
 
 

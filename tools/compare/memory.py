@@ -14,7 +14,7 @@ The programs are the dynamically linked ones among the files, and in the folders
 Jump slots get their symbols at once (LD_BIND_NOW), or with --lazy 1 when they are called first (elfload --lazy).
 
 --root names a folder with the files of another system, in which the programs are. Those of AArch64 are run by qemu-aarch64
-(`emulated.py`). Those of 386 are run by this system's linker of class 32, which finds their libraries by LD_LIBRARY_PATH.
+(`processes.py`). Those of 386 are run by this system's linker of class 32, which finds their libraries by LD_LIBRARY_PATH.
 
 Each difference is counted by its cause: `unique`, since glibc merges symbols of type STB_GNU_UNIQUE by name; `linker`, the
 data of the linker itself; `early libc`, what the C library writes before the first constructor; `dynamic`, where the linker adds
@@ -35,8 +35,7 @@ from typing import Dict, Iterator, List, NamedTuple, Optional, Set, Tuple
 import damage
 from bindings import linker_of, programs_in, real
 from comparing import LOAD, UNIQUE, Tally, dynamic_symbols, parser_of, run
-from emulated import Emulated, can_emulate
-from loads import PAGE, Stopped, can_trace, content_of, is_narrow, linker_in, to_debug_state, value_of
+from processes import PAGE, Emulated, Stopped, can_emulate, can_trace, content_of, is_narrow, linker_in, to_debug_state, value_of
 
 WORD = re.compile(r"word 0x([0-9a-f]+) (\d+) (\w+) = (.*)")
 NUMBER = re.compile(r"(?:(base|thread)\((\d+)\) \+ )?0x([0-9a-f]+)(?: - (base|thread)\((\d+)\))?")
@@ -335,13 +334,13 @@ def compare_words(of: Process, index: int, words: List[Word], tally: Tally) -> D
         found[word.address] = held
         tally["words"] += 1
         if wanted is None:
-            tally["without a number"] += 1
+            tally["words without a number"] += 1
         elif held == wanted:
-            tally["equal"] += 1
+            tally["words equal"] += 1
         elif word.address in at_once and held == of.numbers.bytes_of(of.process, at_once[word.address]):
-            tally["words bound"] += 1
+            tally["words of slots bound already"] += 1
         elif cause := cause_of_word(of.files, index, word, of.linker):
-            tally[f"words {cause}"] += 1
+            tally[f"words: {cause}"] += 1
         else:
             tally.fault(f"{of.program}: {file.path}: {word}: elfload says {wanted.hex()}, memory has {held.hex()}")
     return found
@@ -381,7 +380,7 @@ def compare_load(
         if calls and is_open and not cause and start + place >= load.address + load.file_size and resolved < RESOLVED:
             cause, resolved = "resolver", resolved + 1
         if cause:
-            tally[f"bytes {cause}"] += 1
+            tally[f"bytes: {cause}"] += 1
         else:
             tally.fault(f"{of.program}: {file.path}: byte at {start + place:x}: {wanted[place]:02x} is wanted, memory has {memory[place]:02x}")
 
@@ -406,7 +405,7 @@ def compare(program: str, root: Root, is_lazy: bool, compared: Set[Tuple[str, in
     try:
         linker = to_relocated(process, program)
         if linker is None:
-            tally["not loaded"] += 1
+            tally["programs not loaded"] += 1
             return
         files = list(files_of(process, program, *linker))
         paths = [it.path for it in files]
@@ -428,7 +427,7 @@ def main() -> int:
         print("0 programs, 0 differences: no process can be stopped by ptrace here")
         return 0
     root, began = Root(given.root and real(given.root)), time.monotonic()
-    tally = Tally(given.elfload, "programs", "not loaded", "files", "words", "equal", "without a number", "bytes")
+    tally = Tally(given.elfload, "programs", "programs not loaded", "files", "words", "words equal", "words without a number", "bytes")
     compared: Set[Tuple[str, int]] = set()
     for program in [it for it in programs_in(given.files) if root.holds(it)][:: given.step]:
         if given.seconds and time.monotonic() - began > given.seconds:

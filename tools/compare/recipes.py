@@ -1,9 +1,10 @@
 #!/usr/bin/env python3
-"""Compares what the recipes of crates/elf_callers/src/recipes.rt print with readelf, over real files.
+"""Compares what the recipes of docs/RECIPES.md print with readelf, over real files.
 
-    tools/compare/recipes.py [--elftools PATH] [FILE..]
+    tools/compare/recipes.py [--elfrecipes PATH] [FILE..]
 
-`elftools recipes` runs each recipe over a file. The recipe in Python is run where tools/exports/python.sh has built the package.
+`elfrecipes` runs each recipe over a file, and is asked for the first and the middle byte of functions, which are compared with nm.
+The recipe in Python is run where tools/exports/python.sh has built the package.
 Without files it takes the programs and libraries of SYSTEM, and what gcc makes of a small source here: an object file, a program
 and a shared object of class 64, and by -m32 of class 32 an object file and, by -nostdlib, a shared object. Files that it doesn't
 read count as differences.
@@ -15,10 +16,10 @@ import tempfile
 from collections import Counter
 from pathlib import Path
 
-from comparing import LOAD, ROOT, SECTION, Tally, build_ids, llvm, parser_of, parts, raw, relocation_tables, texts_of
+from comparing import LOAD, ROOT, SECTION, Tally, build_ids, llvm, nm, parser_of, parts, raw, relocation_tables, texts_of
 
 SYSTEM = ["/bin/ls", "/usr/bin/readelf", "/bin/bash", "/lib/x86_64-linux-gnu/libc.so.6", "/lib/x86_64-linux-gnu/libm.so.6"]
-OURS = ["crates/elfnm/data/add.o", "crates/elfsym/data/stripped.so"]
+OURS = ["crates/elfnm/data/add.o", "crates/elfrecipes/data/prog", "crates/elfsym/data/stripped.so"]
 
 SOURCE = """
 extern int far(int);
@@ -95,7 +96,18 @@ def wanted(path: str) -> dict:
 def compare(tally: Tally, program: str, path: str) -> None:
     """Compares what the recipes print of a file, each behind a line with its name."""
     tally["files"] += 1
-    printed = re.split(r"^\[([\w ]+)\]\n", tally.output(path, program, "recipes", path), flags=re.M)
+    symbols = [] if path.endswith(".o") else nm(path)
+    functions = [(value, size) for value, size, kind, _ in symbols if kind in "tTwWi" and size][:250]
+    asked = [value + more for value, size in functions for more in (0, size // 2)]
+    printed = re.split(r"^\[([\w ]+)\]\n", tally.output(path, program, path, *(f"{it:x}" for it in asked)), flags=re.M)
+    places = [line.rpartition("+0x") for line in printed[0].splitlines()]
+    values = {(name, value) for value, _, _, name in symbols}
+    tally["addresses"] += len(places)
+    for address, (name, _, offset) in zip(asked, places):
+        if (name, address - int(offset or "0", 16)) not in values:
+            tally.differ(path, f"address {address:x}", f"{name}+0x{offset}", "no such symbol there")
+    if len(places) != len(asked):
+        tally.differ(path, "addresses", len(places), len(asked))
     said = dict(zip(printed[1::2], (part.splitlines() for part in printed[2::2])))
     for name, lines in wanted(path).items():
         ours = said.get(name, [])
@@ -124,7 +136,7 @@ def largest(path: str) -> list:
 
 
 def main() -> int:
-    given, tally = parser_of(__doc__, "elftools", files="*").parse_args(), Tally("elftools", "files")
+    given, tally = parser_of(__doc__, "elfrecipes", files="*").parse_args(), Tally("elfrecipes", "files", "addresses")
     is_built = (PACKAGE / "xmas_elf/libxmas_elf.so").exists()
     if not is_built:
         print("recipes: the package for Python is not built: its recipe is not run")
@@ -139,7 +151,7 @@ def main() -> int:
                 print(f"gcc makes no {name}: {done.stderr.strip().splitlines()[-1:]}")
         files = given.files or [*(str(ROOT / it) for it in OURS), *made, *(it for it in SYSTEM if Path(it).exists())]
         for path in files:
-            compare(tally, given.elftools, path)
+            compare(tally, given.elfrecipes, path)
             if is_built:
                 done = subprocess.run([sys.executable, "-c", LARGEST, path], cwd=PACKAGE, capture_output=True, text=True)
                 ours = [int(line.split()[0]) for line in done.stdout.splitlines()]

@@ -92,7 +92,7 @@ def compare_table(file, section, path: str, tally: Tally) -> None:
     for index, (it, (status, is_found, found)) in enumerate(zip(symbols[1:], looked_up(file, table, names)), 1):
         wanted = exported.get(it.name, set())
         tally["exported names" if index in wanted else "other names"] += 1
-        tally["of these found"] += not wanted and is_found
+        tally["of the other names found"] += not wanted and is_found
         if status or (found not in wanted if wanted else is_found and symbols[found].name != it.name):
             tally.differ(path, it.name, ElfError(status) if status else found if is_found else "none", sorted(wanted) or "none")
 
@@ -120,5 +120,5 @@ def compare(path: str, tally: Tally) -> None:
 if __name__ == "__main__":
     counted = (
         "files", "sections of notes", "notes", "RELR sections", "packed relocations", "hash tables", "exported names", "other names",
-        "of these found")
+        "of the other names found")
     sys.exit(compare_all(__doc__, Tally("the library", *counted), compare))

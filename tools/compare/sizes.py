@@ -5,22 +5,23 @@
 
 Of each ELF file of the files and folders FILE (/usr), the lines are to be the largest first, with shares that are rounded
 down, and to sum to the size of the file exactly. Beside docs/SIZES.md, which is a script here: the same bytes for the same
-parts, in files with at most 3000 sections and segments. Beside `readelf -SW`: the size of each section, where it is in the
-file and no other part owns bytes of it. Those with another size are counted by cause:
+parts, in files with at most 3000 sections and segments. Beside `llvm-readelf -S`: the name of each section. Beside
+`readelf -SW`: the size of each section, where it is in the file and no other part owns bytes of it. Those with another size
+are counted by cause:
 
-    no bytes    SHT_NOBITS, or without bytes in the file
-    shared      bytes that another part owns: a section in it, a table of headers
-    cut         bytes past the end of the file
+    without bytes in the file      SHT_NOBITS, or of size 0
+    with bytes of other parts      bytes that another part owns: a section in it, a table of headers
+    cut off by the end of the file
 
 --symbols compares the lines of `elfsize --symbols`, of the files with a section of type SHT_SYMTAB: with the definition, and
 beside `nm -S`, whose symbols with the same range and section are counted once. The range of one of them has as many bytes as
 the symbol owns. Those with another size are counted by cause:
 
-    no bytes     in no section with bytes in the file
-    other types  thread-local symbols, and those of a type of the processor
-    no name      labels and mapping symbols, which name no addresses
-    shared       bytes that another symbol owns: one in it, or that crosses it; or another section
-    cut          bytes past the end of the section
+    in sections without bytes      no bytes in the file
+    of symbols of other types      thread-local symbols, and those of a type of the processor
+    of symbols without a name      labels and mapping symbols, which name no addresses
+    with bytes of other symbols    one in it, or that crosses it; or another section
+    past the end of the section
 
 --damaged N compares N damaged files (tools/compare/damage.py) with the definition, at random from the seed S. --most N stops
 after N files. The last line has the counts, and the exit status is 1 if there is a difference.
@@ -37,11 +38,11 @@ import tempfile
 from typing import Dict, Iterator, List, NamedTuple, Optional, Tuple
 
 import damage
-from comparing import Tally, ended, files_of, parser_of, read_elf, run
+from comparing import CONTROLS, Tally, ended, files_of, llvm, parser_of, parts, read_elf, run
 
 LINE = re.compile(
     r"^(\d+) (\d+\.\d\d)% "
-    r"((?:section|symbol) \d+(?= )|segment \d+$|(?:ELF header|(?:program|section) headers|between parts|after all parts|sum)$)")
+    r"(?:((?:section|symbol) \d+) (.*)|(segment \d+|ELF header|(?:program|section) headers|between parts|after all parts|sum))$", re.S)
 SIZED = re.compile(r"^([0-9a-f]+) ([0-9a-f]+) \S ", re.M)
 HEADER = re.compile(r"^ *\[ *(\d+)\] .*? ([A-Z0-9_]+|LOOS\S*|<unknown>\S*) +[0-9a-f]{8,16} [0-9a-f]{6,} ([0-9a-f]{6,}) ", re.M)
 MOST_PARTS, NO_BITS, RELRO = 3000, 8, 0x6474E552
@@ -220,16 +221,23 @@ class Definition:
         return not (second and second in MAPPING.get(machine, b"") and third in (b"", b"\0", b"."))
 
 
-def lines_of(output: str) -> Iterator[Tuple[int, str, str]]:
-    """The size, the share and the part of each line, with the sum as the last."""
+def lines_of(output: str) -> Iterator[Tuple[int, str, str, str]]:
+    """The size, the share, the part and its name of each line, with the sum as the last."""
     for line in output.split("\n")[:-1]:
         matched = LINE.match(line)
         if not matched:
             raise ValueError(line)
-        yield int(matched[1]), matched[2], matched[3]
+        yield int(matched[1]), matched[2], matched[3] or matched[5], matched[4] or ""
 
 
-def sizes_of(path: str, program: str, length: int, tally: Tally, *options: str) -> Optional[Dict[str, int]]:
+class Sizes(NamedTuple):
+    """The size and the name of each part."""
+
+    sizes: Dict[str, int]
+    names: Dict[str, str]
+
+
+def sizes_of(path: str, program: str, length: int, tally: Tally, *options: str) -> Optional[Sizes]:
     """The sizes that elfsize prints of a file, once their order, their shares and their sum have been compared."""
     output = tally.output(path, program, *options, path)
     if not output:
@@ -239,15 +247,24 @@ def sizes_of(path: str, program: str, length: int, tally: Tally, *options: str) 
     except ValueError as strange:
         tally.differ(path, "output", f"'{strange}'", "no such line")
         return None
-    sizes = [size for size, _, _ in lines]
+    sizes = [size for size, *_ in lines]
     shares = [f"{size * 10000 // length // 100}.{size * 10000 // length % 100:02}" for size in sizes]
     for what, says, wanted in (
-        ("sum", (last, sum(sizes)), ((length, "100.00", "sum"), length)), ("order", sizes, sorted(sizes, reverse=True)),
-        ("shares", [share for _, share, _ in lines], shares), ("parts", len({part for _, _, part in lines}), len(lines))):
+        ("sum", (last, sum(sizes)), ((length, "100.00", "sum", ""), length)), ("order", sizes, sorted(sizes, reverse=True)),
+        ("shares", [share for _, share, *_ in lines], shares), ("parts", len({part for _, _, part, _ in lines}), len(lines))):
         if says != wanted:
             tally.differ(path, what, says, wanted)
     tally["bytes"] += length
-    return {part: size for size, _, part in lines}
+    return Sizes({part: size for size, _, part, _ in lines}, {part: name for _, _, part, name in lines})
+
+
+def compare_names(path: str, names: Dict[str, str], tally: Tally) -> None:
+    """The names of sections beside those of llvm-readelf."""
+    for section in parts(llvm(path, "-S"), "Sections", "Section"):
+        name, own = section["Name"]["Value"].translate(CONTROLS), names.get(f"section {section['Index']}")
+        tally["names of sections"] += own is not None
+        if own not in (None, name):
+            tally.differ(path, f"name of section {section['Index']}", own, name)
 
 
 def beside_definition(path: str, sizes: Dict[str, int], content: bytes, tally: Tally, by_symbols: bool = False) -> None:
@@ -261,7 +278,7 @@ def beside_definition(path: str, sizes: Dict[str, int], content: bytes, tally: T
             tally.differ(path, part, sizes.get(part), f"nothing, the definition {wanted.get(part)}")
     tally["parts as defined"] += len(wanted)
     for part, size in sizes.items():
-        tally[f"bytes of {part.split(' ')[0] if part[-1].isdigit() else part}"] += size
+        tally[f"bytes of {part.split(' ')[0] + 's' if part[-1].isdigit() else part}"] += size
 
 
 def beside_readelf(path: str, sizes: Dict[str, int], content: bytes, tally: Tally) -> None:
@@ -272,11 +289,11 @@ def beside_readelf(path: str, sizes: Dict[str, int], content: bytes, tally: Tall
         if size == own:
             tally["sections of the same size"] += 1
         elif kind in ("NOBITS", "NULL") or part.begin == part.end:
-            tally["no bytes"] += own == 0
+            tally["sections without bytes in the file"] += own == 0
         elif own < part.end - part.begin:
-            tally["shared"] += 1
+            tally["sections with bytes of other parts"] += 1
         elif own == part.end - part.begin < size:
-            tally["cut"] += 1
+            tally["sections cut off by the end of the file"] += 1
         else:
             tally.differ(path, f"section {index}", own, size)
 
@@ -286,16 +303,16 @@ def beside_nm(path: str, sizes: Dict[str, int], content: bytes, tally: Tally) ->
     definition = Definition(content)
     told = collections.Counter((int(value, 16), int(size, 16)) for value, size in SIZED.findall(run(["nm", "-S", "--", path]).output))
     tally["symbols of nm"] += sum(told.values())
-    tally["bytes of nm with aliases"] += sum(size * count for (_, size), count in told.items())
+    tally["bytes of these symbols"] += sum(size * count for (_, size), count in told.items())
     aliases: Dict[Tuple[int, int, int], List[Symbol]] = collections.defaultdict(list)
     for symbol in definition.symbols():
         if (symbol.value, symbol.size) in told:
             aliases[symbol.section, symbol.value, symbol.size].append(symbol)
-    tally["distinct ranges"] += len(aliases)
+    tally["distinct ranges of nm"] += len(aliases)
     for (section, value, size), all in aliases.items():
         own = sum(sizes.get(f"symbol {it.index}", 0) for it in all)
-        tally["bytes of distinct ranges"] += size
-        tally["bytes of symbols beside nm"] += own
+        tally["bytes of these ranges"] += size
+        tally["bytes that their symbols own"] += own
         cause = "ranges of the same size" if own == size else cause_of(definition, section, value, size, all, aliases)
         if cause:
             tally[cause] += 1
@@ -307,28 +324,29 @@ def cause_of(definition: Definition, section: int, value: int, size: int, all: L
     """Why the symbols of a range own fewer bytes than it has."""
     part = definition.sections[section] if section < len(definition.sections) else Part("", 0, 0)
     if part.begin == part.end:
-        return "no bytes"
+        return "ranges in sections without bytes"
     if not any(it.type in (0, 1, 2, 10) for it in all):
-        return "other types"
+        return "ranges of symbols of other types"
     if not any(it.names_addresses for it in all):
-        return "no name"
+        return "ranges of symbols without a name"
     first = 0 if definition.header("type") == OBJECT_FILE else definition.section_field(section, "address")
     if value < first or value + size > first + part.end - part.begin:
-        return "cut"
+        return "ranges past the end of the section"
     crossing = (it for it in definition.symbols() if it.section == section and it.names_addresses)
     if any(value < it.value + it.size and it.value < value + size and (it.value, it.size) != (value, size) for it in crossing):
-        return "shared"
+        return "ranges with bytes of other symbols"
     inside = (it for index, it in enumerate(definition.sections) if index != section and it.begin < it.end)
-    return "shared" if any(it.begin < part.end and part.begin < it.end for it in inside) else None
+    return "ranges with bytes of other symbols" if any(it.begin < part.end and part.begin < it.end for it in inside) else None
 
 
 def compare_symbols(path: str, program: str, tally: Tally) -> None:
     content = read_elf(path)
-    sizes = sizes_of(path, program, len(content), tally, "--symbols")
-    if sizes is not None:
+    found = sizes_of(path, program, len(content), tally, "--symbols")
+    if found is not None:
         tally["files"] += 1
-        beside_definition(path, sizes, content, tally, by_symbols=True)
-        beside_nm(path, sizes, content, tally)
+        beside_definition(path, found.sizes, content, tally, by_symbols=True)
+        beside_nm(path, found.sizes, content, tally)
+        compare_names(path, found.names, tally)
 
 
 def has_symbols(path: str) -> bool:
@@ -338,11 +356,12 @@ def has_symbols(path: str) -> bool:
 
 def compare(path: str, program: str, tally: Tally) -> None:
     content = read_elf(path)
-    sizes = sizes_of(path, program, len(content), tally)
-    if sizes is not None:
+    found = sizes_of(path, program, len(content), tally)
+    if found is not None:
         tally["files"] += 1
-        beside_definition(path, sizes, content, tally)
-        beside_readelf(path, sizes, content, tally)
+        beside_definition(path, found.sizes, content, tally)
+        beside_readelf(path, found.sizes, content, tally)
+        compare_names(path, found.names, tally)
 
 
 def compare_damaged(program: str, count: int, seed: int, tally: Tally) -> None:
@@ -354,11 +373,11 @@ def compare_damaged(program: str, count: int, seed: int, tally: Tally) -> None:
             pathlib.Path(path).write_bytes(content)
             done, tally["damaged files"] = run([program, path], seconds=10), tally["damaged files"] + 1
             if done.status == 1 and done.errors.startswith("elfsize: "):
-                tally["of them not accepted"] += 1
+                tally["of them not read"] += 1
                 continue
-            sizes = sizes_of(path, program, len(content), tally)
-            if sizes is not None:
-                beside_definition(f"damaged file {index}", sizes, content, tally)
+            found = sizes_of(path, program, len(content), tally)
+            if found is not None:
+                beside_definition(f"damaged file {index}", found.sizes, content, tally)
 
 
 def main() -> int:
@@ -370,7 +389,7 @@ def main() -> int:
     for path in itertools.islice(filter(is_asked, files_of(given.files or ["/usr"])), given.most):
         one(path, given.elfsize, tally)
     compare_damaged(given.elfsize, given.damaged, given.seed, tally)
-    first = ("files", "bytes", "parts as defined", "sections of the same size")
+    first = ("files", "bytes", "parts as defined", *(() if given.symbols else ("sections of the same size",)))
     tally.names = (*first, *(name for name in tally if name not in (*first, "differences")), "differences")
     return ended(tally)
 

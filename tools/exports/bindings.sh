@@ -144,6 +144,25 @@ for file in "$room/nm_c" /lib/x86_64-linux-gnu/libc.so.6; do
     "$room/find_c" "$file" malloc qsort no_such_name > "$room/of_c"
     "$CARGO_TARGET_DIR/release/examples/find" "$file" malloc qsort no_such_name | cmp - "$room/of_c"
 done
+# Fifty files whose symbols can't be listed: each program ends with an error and says why.
+for example in c cpp; do
+    compiler=gcc; [ $example = cpp ] && compiler=g++
+    "$compiler" "${strict[@]}" -Ibindings/include "bindings/examples/symbols.$example" "$archive" -o "$room/symbols_$example"
+done
+mkdir "$room/lost"
+python 'import pathlib, sys
+from compare import damage
+for it, data in enumerate(damage.lost(pathlib.Path(sys.argv[1]).read_bytes())): pathlib.Path(sys.argv[2], str(it)).write_bytes(data)' "$room/mapped" "$room/lost"
+[ "$(ls "$room/lost" | wc -l)" = 50 ]
+for program in "$room"/{nm_c,nm_g++,symbols_c,symbols_cpp,names_c,names_cpp} "$CARGO_TARGET_DIR/release/examples/nm"; do
+    "$program" "$room/mapped" < "$room/mapped" > /dev/null
+    for file in "$room"/lost/*; do
+        if "$program" "$file" < "$file" > "$room/said" 2> "$room/why" || [ ! -s "$room/why" ]; then
+            echo "$program is silent of $file: $(wc -l < "$room/said") lines"
+            exit 1
+        fi
+    done
+done
 mkdir "$room/damaged"
 python 'import pathlib, sys
 from compare import damage

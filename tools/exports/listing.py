@@ -24,8 +24,9 @@ Struct = namedtuple("Struct", "name rust source comment public private_fields fi
 # The type of a parameter is that of the value, or of one value of several.
 Parameter = namedtuple("Parameter", "name kind type")
 # The result is "status", "size" or "none". The statuses are those of the call, without OK, in the order of its tests;
-# `item_statuses` those of each record with a status of its own; `never` those that its contract names for nothing.
-Function = namedtuple("Function", "name parameters result statuses item_statuses never comment export")
+# `item_statuses` those of each record with a status of its own; `never` those that its contract names for nothing;
+# `held` those of `statuses` that a value of a library holds, whose list of errors no definition names.
+Function = namedtuple("Function", "name parameters result statuses item_statuses never held comment export")
 # A number of the ELF standard: its group's comment, and the prefix of the names there.
 Constant = namedtuple("Constant", "name value type group prefix is_flag comment")
 
@@ -76,7 +77,7 @@ def read() -> Listed:
         fields = tuple(Field(it["name"], it["type"], it["comment"], it.get("c", it["name"].rstrip("_"))) for it in row["fields"])
         structs.append(Struct(**{"private_fields": False, **row, "fields": fields, "c_type": f"{PREFIX}{row['name']}_t"}))
     for row in table["functions"]:
-        lists = {key: spread(row.get(key, []), table["refusals"]) for key in ("statuses", "item_statuses", "never")}
+        lists = {key: spread(row.get(key, []), table["refusals"]) for key in ("statuses", "item_statuses", "never", "held")}
         parameters = tuple(map(parameter, row["parameters"]))
         functions.append(Function(**{**row, **lists, "parameters": parameters, "export": PREFIX + row["name"]}))
     return Listed(tuple(structs), tuple(functions))

@@ -9,7 +9,8 @@ nothing is written.
 It also compares the statuses that bindings/exports.toml lists for each export with the definitions in its contract. From the
 words of an export's `ensures` clauses it follows the definitions in crates/*/specs (tools/pages/definitions.py), and collects
 the errors that they name. A definition may name an error that the export never returns, since another call takes it up: the
-list has these under `never`. So no status that a contract allows is missing in the list."""
+list has these under `never`. It may return one that a value holds, such as the versions of an object, and that no
+definition names: the list has these under `held` too. So no status that a contract allows is missing in the list."""
 import functools
 import re
 
@@ -138,7 +139,7 @@ def differing(listed) -> list[str]:
             head, _, clauses = text.partition("\n    ensures")
             function = exports[one.name()]
             theirs, ours = named.statuses(clauses, uses), {*function.statuses, *function.item_statuses, *function.never}
-            for one, some, other in (("contract", theirs - ours, "list"), ("list", ours - theirs, "contract")):
+            for one, some, other in (("contract", theirs - ours, "list"), ("list", ours - theirs - {*function.held}, "contract")):
                 if some:
                     found.append(f"{function.export}: the {one} names {', '.join(sorted(some))}, and the {other} does not")
     return found

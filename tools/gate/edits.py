@@ -112,6 +112,10 @@ class EditedCrate(Crate):
                 edit.inside &= one is not None and one.body <= at
         return edit
 
+    def edits(self) -> list:
+        """All of its edits in `wrong-bodies`."""
+        return [self.read_edit(it) for it in sorted(self.folder.glob("wrong-bodies/*/*.edit"))]
+
     def lines_of(self, edit) -> dict:
         """The lines that an edit changes, by file and number; ValueError says which change can't be made."""
         texts = {}

@@ -56,7 +56,7 @@ while IFS='|' read -r program packages kind for; do
     fi
 done << 'END'
 python3|python3|needed|the scripts of tools
-git|git|needed|tools/gate/changed.py
+git|git|needed|tools/gate/wrong_bodies.py
 gcc|gcc libc6-dev|needed|tools/exports/bindings.sh, tools/gate/little_memory.py
 cc|gcc|needed|tools/web/records.py
 g++|g++|needed|tools/exports/bindings.sh, the header as C++
@@ -68,6 +68,7 @@ clang|clang|optional|C by a second compiler, objects for WebAssembly
 valgrind|valgrind|optional|bench/instructions.py, tools/exports/bindings.sh --valgrind
 node|nodejs|optional|checks of the page outside of a browser
 chromedriver|chromium-driver chromium|optional|tools/web/web.sh --test
+checksec|checksec|optional|tools/compare/hardening.py
 pkg-config|pkg-config|optional|tools/exports/try_package.sh, the commands with pkg-config
 Python's ensurepip|python3-venv|needed|tools/exports/try_package.sh, the Python wheel
 Python's pytest|python3-pytest|wished|tools/exports/python.sh

@@ -82,6 +82,12 @@ FILES = {
     "linked.so": LINKED, "needs.so": NEEDS, "stripped.so": data("elfsym/data/stripped.so"), "places.so": PLACES,
     # The same file with a symbol table of 239 bytes.
     "parts.so": PLACES[:1648] + bytes([239]) + PLACES[1649:],
+    # Sections 1 and 7 have a type without a meaning and that of `.relr.dyn`; `readelf -SW` shows their names.
+    "types.so": with_number(with_number(PLACES, 0x450 + 64 + 4, 4, 12), 0x450 + 7 * 64 + 4, 4, 19),
+    # The section headers end before that of `.strtab`.
+    "short.so": PLACES[: 0x450 + 9 * 64],
+    # A dynamic entry more: a hash table of the ELF standard too, with a bucket and without chains.
+    "both.so": with_number(PLACES, 0x260, 16, 0x2C0 << 64 | 4),
     # The versions with a record of their definitions that leads out of its segment.
     "cut.so": with_number(LINKED, 0x238 + 16, 1, 0xFF),
     **{f"damaged-{place}.so": with_number(NEEDS, place, 1, byte) for place, byte, _ in NEEDS_REFUSALS},
@@ -91,6 +97,8 @@ FILES = {
     "arm.elf": with_number(COUNTER, 18, 2, 40), "aarch64.elf": with_number(COUNTER, 18, 2, 183),
     "type.elf": with_number(COUNTER, 16, 2, 1), "interpreter.elf": with_number(COUNTER, 64 + 56 + 32, 8, 5000),
     "shut.elf": with_number(COUNTER, 64 + 3 * 56 + 4, 4, 4), "static.elf": with_number(COUNTER, 64 + 4 * 56, 4, 0),
+    # What is read-only after relocation ends in the page in which it begins.
+    "relro.elf": with_number(COUNTER, 64 + 7 * 56 + 40, 8, 0x153),
     "word.elf": with_number(COUNTER, 0x288, 8, 0x200)}
 
 # What is said of an argument that can't be read, whatever the program, and of two files that are refused.
@@ -190,6 +198,9 @@ ADDR.prints({
     "the last address": ("places.so ffffffffffffffff", "?\n"),
     "the dynamic symbols": ("--dynamic places.so 20c 20d 2c0", ".text+0x6\nlast+0x0\nvalue+0x0\n"),
     "what dladdr finds": ("--dladdr places.so 20a 20c 20d", "outer+0x4\n.text+0x6\nalias+0x0\n"),
+    # As glibc 2.36 does in a library with both tables whose DT_HASH has no chains.
+    "what dladdr finds by GNU's of two tables": ("--dladdr both.so 20a 20c 20d", "outer+0x4\n.text+0x6\nalias+0x0\n"),
+    "sections of other types": ("types.so 120 2c8", ".gnu.hash+0x0\n.data+0x8\n"),
     "a file without section headers": ("needs.so 230 243", "ab+0x0\n?\n"),
     "what dladdr finds in a file without section headers": ("--dladdr needs.so 242 243", "cd+0x2\n?\n")})
 ADDR.fails({"a file without symbols": ("strtab.elf 0", "strtab.elf: No dynamic segment"), **damaged("0", NEEDS_REFUSALS[:-1])})
@@ -291,6 +302,8 @@ LOAD.prints({
     "words of a program and its libraries": (WIDE_BOUND, BOUND_PLANS + BOUND_WORDS),
     "words with lazy slots": (f"--lazy {WIDE_BOUND}", BOUND_PLANS + LAZY_WORDS),
     "slots of files that ask for their symbols at once": ("--lazy --page 4096 counter library.so", PLANS),
+    "a file without a whole page that is read-only after relocation": (
+        "relro.elf", COUNTER_ALONE.replace(b"counter", b"relro.elf").replace(b"relro 1000-2000", b"relro none")),
     "a file without a dynamic segment": ("counter static.elf", COUNTER_PLAN + COUNTER_PLAN.replace(b"counter", b"static.elf")),
     "pages of 16 kb": ("--page 16384 library.so", PAGES_HEAD + b"kernel\n" + PAGES_MAPS + b"glibc\n" + PAGES_MAPS + LIBRARY_WORDS)})
 LOAD.fails({
@@ -348,12 +361,26 @@ PLACES_SYMBOLS = """places.so
 1 0.05% section 4 .text
 1808 100.00% sum
 """
+# A file whose section headers are cut off, by what `readelf -hlW` shows.
+SHORT_SIZES = """short.so
+576 34.28% section headers
+384 22.85% between parts
+240 14.28% segment 0
+224 13.33% program headers
+176 10.47% segment 2
+64 3.80% ELF header
+16 0.95% segment 1
+1680 100.00% sum
+"""
 SIZE = Program("elfsize", SIZE_USAGE, [], ["places.so"], PLACES_SIZES, PLACES)
 SIZE.misused({"segments of no file": "--segments", "symbols of no file": "--symbols"})
 SIZE.prints({
     "help": ("--help", SIZE_HELP), "two files": ("places.so counter", SIZES), "segments": ("--segments places.so", PLACES_SEGMENTS),
     "symbols": ("--symbols places.so", PLACES_SYMBOLS),
     "symbols of a file without them": ("--symbols counter", COUNTER_SIZES),
+    "section headers that are cut off": ("short.so", SHORT_SIZES),
+    "symbols of section headers that are cut off": ("--symbols short.so", SHORT_SIZES),
+    "sections of other types": ("types.so", PLACES_SIZES.replace(b"places.so", b"types.so")),
     "segments of class 32": (
         "--segments strtab.elf", "strtab.elf\n92 63.88% after all parts\n52 36.11% ELF header\n144 100.00% sum\n"),
     "a file of class 32": (

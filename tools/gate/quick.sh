@@ -36,7 +36,7 @@ run_all() {
     [ ! -f "crates/$1/src/main.rt" ] || [ ! -f "crates/$1/stdout" ] || try_run "$1"
 }
 
-tools/gate/changed.py "$@" > "$room/changed"
+tools/gate/wrong_bodies.py --changed "$@" > "$room/changed"
 cat "$room/changed"
 mapfile -t changed < <(awk '$1 != "above" && $1 != "function" { print $2 }' "$room/changed")
 mapfile -t above < <(awk '$1 == "above" { print $2 }' "$room/changed")

@@ -9,19 +9,30 @@ import argparse
 import collections
 import concurrent.futures
 import pathlib
+import re
+import subprocess
 import sys
 import tempfile
 import threading
+import types
 from typing import NamedTuple
 
-import changed
 from edits import BATCH, Edit, EditedCrate, Room, batches_of, check
 from pages import sources
+from pages.definitions import Reader
 from pages.sources import ROOT
 
 # The names of the edits that must stay, and the commit at which each edit was last refused.
 MUST_STAY = ROOT / "docs" / "wrong_bodies.txt"
 REFUSED_AT = ROOT / "docs" / "wrong_bodies_commit.txt"
+
+# The name of each clause of a function that says what it ensures.
+CLAUSES = re.compile(r"^ *ensures(?: (\w+))? \{", re.M)
+
+# A part of what `git diff` says: the first line and the number of lines as they are now.
+HUNK = re.compile(r"^@@ -\d+(?:,\d+)? \+(\d+)(?:,(\d+))? @@", re.M)
+# What a body calls, by its last name.
+CALLED = re.compile(r"\b(\w+)(?:::<[^()]*>)?\(")
 
 FLAGS = {
     "gate": "those of docs/wrong_bodies.txt, and those since the commit of docs/wrong_bodies_commit.txt; all where it isn't known here",
@@ -31,6 +42,7 @@ FLAGS = {
     "list": "the batches, and nothing is tried",
     "compile": "only whether each edit compiles, some ten seconds a batch",
     "right": "whether each right body is proved beside itself, as the wrong ones are tried",
+    "doubled": "names those outside of docs/wrong_bodies.txt whose clause another edit of the function breaks, and tries nothing",
     "self-test": "whether the script itself tells right from wrong",
 }
 
@@ -41,6 +53,25 @@ class Task(NamedTuple):
     crate: EditedCrate
     below: list
     batches: list
+
+
+def doubled(crate: EditedCrate, edits: list, listed: set) -> list:
+    """The edits outside the list that break no clause of their function but those that other edits of it break. An edit breaks the
+    clause that it names, or the only one; with neither it is told where each clause has an edit."""
+    of_function, found = collections.defaultdict(list), []
+    for edit in edits:
+        if len(edit.functions) == 1:
+            of_function[next(iter(edit.functions))].append(edit)
+    is_listed = lambda edit: edit.name.rpartition("/")[2] in listed
+    for one, some in of_function.items():
+        clauses, broken = CLAUSES.findall(crate.head(one)) if one else [], set()
+        for edit in sorted(some, key=lambda it: (not is_listed(it), not it.clause, it.name)):
+            own = {edit.clause} if edit.clause else {*clauses}
+            if not is_listed(edit) and own and own <= broken:
+                found.append(edit)
+            elif len(own) == 1:
+                broken |= own
+    return found
 
 
 class Trial:
@@ -54,11 +85,11 @@ class Trial:
         used = sources.crates(root)
         for name in used:
             crate = EditedCrate(root / "crates" / name)
-            edits = [crate.read_edit(it) for it in sorted((crate.folder / "wrong-bodies").glob("*/*.edit"))]
+            edits = crate.edits()
             parts_of = lambda edit: {*edit.label().split("/"), edit.label().rpartition("/")[0], edit.label()}
             edits = [it for it in edits if not names or parts_of(it) & {*names}]
             if since is not None:
-                edits = [it for it in edits if since.touches(it)]
+                edits = [it for it in edits if since.touches(crate, sources.below(used, name), it)]
             for edit in edits:
                 if edit.fault:
                     self.tell(edit, "", edit.fault)
@@ -141,21 +172,137 @@ def unproved(task: Task, room: Room):
             yield edit, f"its right body is not proved beside it: {goal}"
 
 
+def git(*words: str, check=True) -> str:
+    return subprocess.run(["git", *words], cwd=ROOT, capture_output=True, text=True, check=check).stdout
+
+
+def base(given=None) -> str:
+    """The commit that the files are compared with."""
+    if given:
+        return git("rev-parse", "--verify", given + "^{commit}").strip()
+    return (git("merge-base", "HEAD", "origin/main", check=False) or git("rev-parse", "HEAD")).strip()
+
+
+def changed_files(commit: str) -> list:
+    """The files of crates/ that differ from the commit, those among them that git doesn't know yet."""
+    told = git("diff", "--name-only", "--no-renames", commit, "--", "crates")
+    return sorted({*told.split("\n"), *git("ls-files", "--others", "--exclude-standard", "crates").split("\n")} - {""})
+
+
+def changed_lines(commit: str, path: str):
+    """The lines of a file as it stands that differ from the commit; None where it is new or gone."""
+    if not git("cat-file", "-t", f"{commit}:{path}", check=False) or not (ROOT / path).exists():
+        return None
+    said = git("diff", "--unified=0", commit, "--", path)
+    spans = [(int(first), 1 if count is None else int(count)) for first, count in (it.groups() for it in HUNK.finditer(said))]
+    # Lines that are gone leave the places before and behind them.
+    return [line for first, count in spans for line in (range(first, first + count) if count else (first, first + 1))]
+
+
+def read_source(change, crate, commit: str, path: str):
+    """Adds what changed in a source file of a crate."""
+    file, lines = path.split("/", 2)[2], changed_lines(commit, path)
+    if lines is None:
+        change.kind = "contracts"
+        change.functions += [it for it in crate.functions if it.file == file]
+        return
+    text = [*crate.texts[file].split("\n"), ""]
+    for line in (it for it in lines if not re.match(r" *(//|$)", text[min(it, len(text)) - 1])):
+        inner = crate.function_at(file, line)
+        if inner is None or line <= inner.body:
+            change.kind = "contracts"
+            change.contracts |= {inner.name()} if inner else set()
+        elif change.kind == "data":
+            change.kind = "bodies"
+        if inner and inner not in change.functions:
+            change.functions.append(inner)
+
+
+def changes(commit: str) -> dict:
+    """What changed since the commit, by crate."""
+    found = {}
+    for path in changed_files(commit):
+        _, name, part, *_ = path.split("/", 2) + [""]
+        if not (ROOT / "crates" / name / "src").is_dir():
+            continue
+        # Its kind, the functions that differ, and the names of those whose contract does.
+        change = found.setdefault(name, types.SimpleNamespace(kind="data", functions=[], contracts=set()))
+        if part.startswith("src/") and part.endswith(".rt"):
+            read_source(change, sources.Crate(ROOT / "crates" / name), commit, path)
+        elif part.startswith(("specs/", "proofs/", "src/")):
+            change.kind = "contracts"
+    return found
+
+
+class Reach:
+    """Which functions have clauses that lead to a definition that changed since a commit. An import alone counts for none."""
+
+    def __init__(self, commit: str):
+        self.reader, self.known = Reader(), {}
+        # The members of a trait count for every type.
+        self.reader.types = None
+        self.lines = {ROOT / path: changed_lines(commit, path) for path in changed_files(commit) if path.endswith((".antt", ".rt"))}
+
+    def is_changed(self, one) -> bool:
+        """Whether a line of a definition changed, without the comments."""
+        lines, text = self.lines.get(one.path, ()), one.text.split("\n")
+        if lines is None:
+            return True
+        own = (line - one.line for line in lines)
+        return any(0 <= at < len(text) and not text[at].lstrip().startswith(("--", "//")) for at in own)
+
+    def leads_to_change(self, found) -> bool:
+        """Whether one of these definitions changed, or one that they lead to."""
+        left, seen = list(found), set()
+        while left:
+            one = left.pop()
+            place = (one.path, one.line)
+            if place not in self.known:
+                self.known[place] = self.is_changed(one), [] if one.kind == "type" else [*self.reader.used_by(one)]
+            is_changed, used = self.known[place]
+            if is_changed:
+                return True
+            left += [] if place in seen else used
+            seen.add(place)
+        return False
+
+    def functions(self, crates) -> set:
+        """The crate, file and path of each function of some crates whose clauses lead to a changed definition."""
+        found = set()
+        for source in (it for (crate, _), it in self.reader.sources.items() if crate in crates):
+            for one in source.functions:
+                text, uses, _, _ = self.reader.contract(source, one)
+                if self.leads_to_change(self.reader.used(text, uses, {})):
+                    found.add((source.crate, one.file, one.path))
+        return found
+
+
 class Since:
-    """The functions that changed since a commit, those of which a definition changed that their clauses lead to, and
-    names of edits that count besides."""
+    """The functions that changed since a commit, those of which a definition changed that their clauses lead to, the names of the
+    functions of each crate whose contracts changed or say something else now, and names of edits that count besides."""
 
     def __init__(self, commit: str, names=()):
-        base, self.names = changed.base(commit), names
-        self.functions = {(name, one.file, one.path) for name, change in changed.changes(base).items() for one in change.functions}
-        self.functions |= changed.Reach(base).functions(sources.crates())
-        self.files = {it for it in changed.changed_files(base) if it.endswith(".edit")}
+        start, self.names, self.contracts = base(commit), names, collections.defaultdict(set)
+        self.functions = Reach(start).functions(sources.crates())
+        for crate, _, path in self.functions:
+            self.contracts[crate].add(path.rpartition("::")[2])
+        for name, change in changes(start).items():
+            self.functions |= {(name, one.file, one.path) for one in change.functions}
+            self.contracts[name] |= change.contracts
+        self.files = {it for it in changed_files(start) if it.endswith(".edit")}
 
-    def touches(self, edit: Edit) -> bool:
-        """Whether an edit is named or new, or one of its functions is among those."""
+    def touches(self, crate: EditedCrate, below: list, edit: Edit) -> bool:
+        """Whether an edit is named or new, one of its functions is among those, or it calls one whose contract changed: a name that
+        a function of this crate or of one below has counts, whatever it is of."""
         is_new = any(it.startswith(f"crates/{edit.crate}/wrong-bodies/{edit.name}.") for it in self.files)
-        is_named = edit.name.rpartition("/")[2] in self.names
-        return is_new or is_named or any(one and (edit.crate, one.file, one.path) in self.functions for one in edit.functions)
+        if is_new or edit.name.rpartition("/")[2] in self.names:
+            return True
+        if any(one and (edit.crate, one.file, one.path) in self.functions for one in edit.functions):
+            return True
+        bodies = [crate.texts[one.file].split("\n")[one.body : one.last] for one in edit.functions if one]
+        text = "\n".join([*(line for body in bodies for line in body), *(new for _, _, new in edit.changes)])
+        called = {*CALLED.findall(text)}
+        return any(called & self.contracts[name] for name in (edit.crate, *below))
 
 
 PAIR = """//! Three functions, of which one calls another.
@@ -226,6 +373,22 @@ def self_test() -> int:
     return 0 if well else 1
 
 
+def told_changes(commit: str) -> int:
+    """Prints what a change touches: `bodies CRATE`, `contracts CRATE` or `data CRATE` for a crate that differs from a commit,
+    `function CRATE FILE PATH` for a function of it, and `above CRATE`, lowest first. A change of bodies alone changes nothing that a
+    proof of another function rests on; one of what the gate alone reads is one of data."""
+    found, used = changes(base(commit)), sources.crates()
+    under = {name: sources.below(used, name) for name in used}
+    for name, change in found.items():
+        print(f"{change.kind} {name}")
+        for one in change.functions:
+            print(f"function {name} {one.file} {one.path}")
+    touched = {name for name, change in found.items() if change.kind != "data"}
+    for name in sorted((it for it in under if it not in found and touched & {*under[it]}), key=lambda it: len(under[it])):
+        print(f"above {name}")
+    return 0
+
+
 def must_stay() -> list:
     lines = MUST_STAY.read_text(encoding="utf-8").splitlines()
     return [it for it in lines if it and not it.startswith("#")]
@@ -234,7 +397,7 @@ def must_stay() -> list:
 def of_gate():
     """What the gate tries; None for all, where the commit at which all were refused isn't known here."""
     commit = REFUSED_AT.read_text(encoding="utf-8").strip() if REFUSED_AT.exists() else ""
-    if commit and changed.git("cat-file", "-t", commit, check=False).startswith("commit"):
+    if commit and git("cat-file", "-t", commit, check=False).startswith("commit"):
         return Since(commit, set(must_stay()))
     print(f"{REFUSED_AT.name}: commit {commit or 'none'} is not here, so that all edits are tried")
     return None
@@ -242,10 +405,10 @@ def of_gate():
 
 def store() -> int:
     """Stores the commit at which all edits were refused."""
-    if changed.git("diff", "HEAD", "--", "crates"):
+    if git("diff", "HEAD", "--", "crates"):
         print("crates/ differs from the last commit, so that none is stored")
         return 1
-    REFUSED_AT.write_text(changed.git("rev-parse", "HEAD"), encoding="utf-8")
+    REFUSED_AT.write_text(git("rev-parse", "HEAD"), encoding="utf-8")
     return 0
 
 
@@ -254,16 +417,24 @@ def main() -> int:
     words.add_argument("--jobs", type=int, default=2, help="how many checks run side by side (each takes some 2 GB)")
     words.add_argument("--since", metavar="COMMIT", help="those of functions that changed since then, or of which a definition changed that "
                        "the clauses lead to, and new edits")
+    words.add_argument("--changed", metavar="COMMIT", nargs="?", const="", help="only what differs from a commit, by default from where this "
+                       "branch left origin/main: the crates, their functions, and the crates above")
     for flag, said in FLAGS.items():
         words.add_argument(f"--{flag}", action="store_true", help=said)
     words.add_argument("names", nargs="*", metavar="NAME", help="a crate, a topic or an edit; none: all")
     given = words.parse_args()
     if given.self_test:
         return self_test()
+    if given.changed is not None:
+        return told_changes(given.changed)
     there = {it.stem for folder in ("wrong-bodies/*", "must-fail") for it in ROOT.glob(f"crates/*/{folder}/*.edit")}
     if missing := [it for it in must_stay() if it not in there]:
         print(f"FAILED: no edit has the name {', '.join(missing)}")
         return 1
+    if given.doubled:
+        listed, crates = {*must_stay()}, [EditedCrate(ROOT / "crates" / name) for name in sources.crates()]
+        found = [it.label() for crate in crates for it in doubled(crate, crate.edits(), listed)]
+        return sources.ended(found, f"{len(found)} edits break a clause that another edit of the function breaks")
     since = of_gate() if given.gate else Since(given.since) if given.since else None
     trial = Trial(ROOT, given.names, max(given.jobs, 1), since, given.proved)
     if given.compile:

@@ -45,6 +45,15 @@ Which calls return which error, with its text. The description of a call says wh
 | Error | Text | Calls |
 |---|---|---|"""
 
+# What is said above the files of definitions, and of lemmas: their folder, the heads of the table, and the head.
+FILES = (
+    ("specs", ("File", "What it defines, and by which source"), """## Definitions
+
+The files of `specs`: what clauses say. A comment above each definition says what it means."""),
+    ("proofs/lemmas", ("File", "What its lemmas say", "Lemmas"), """## Lemmas
+
+For proofs of callers ([how](../../CALLING.md#lemmas)), by file of `proofs/lemmas`."""))
+
 SPECS = ROOT / "crates" / "xmas_elf" / "specs"
 TYPES, PRELUDE = SPECS / "Types.antt", SPECS / "Prelude.antt"
 
@@ -167,9 +176,10 @@ class CratePage:
     def constants(self, module: str, found: list):
         self.lines += [f"### Constants of `{module}`", "", "| Name | Type | Value | What it is |", "|---|---|---|---|"]
         for item in found:
-            said = re.match(r"pub const (\w+): (.*?) = (.*);", item.text)
+            # Of a table that has a line for each row stands only how many rows it has.
+            said = re.match(r"pub const (\w+): (.*?) = (.*);", item.text) or re.match(r"pub const (\w+): (.*?) = (\[)", item.text)
             self.reached.add((item.source.module, item.at))
-            self.lines.append(f"| `{said[1]}` | `{said[2]}` | `{said[3]}` | {' '.join(item.doc.split())} |")
+            self.lines.append(f"| `{said[1]}` | `{said[2]}` | `{said[3].replace('[', '[..]')}` | {' '.join(item.doc.split())} |")
         self.count += len(found)
         self.lines.append("")
 
@@ -188,9 +198,10 @@ class CratePage:
             texts, calls = errors.texts(), errors.calls_by_error()
             rows = [f"| `{name}` | {texts[name]} | {', '.join(f'`{it}`' for it in of) or 'none'} |" for name, of in calls.items()]
             self.lines += [ERRORS, *rows, ""]
+        self.lines += files(self.crate)
         others = ", ".join(f"[`{it}`]({it}.md)" for it in LIBRARIES if it != self.crate)
         head = HEAD.format(crate=self.crate, about=self.sources[self.crate, ""].about(), others=others)
-        found = re.findall(r"^## (`[\w:]+`|Errors)$", "\n".join(self.lines), re.M)
+        found = re.findall(r"^## (`[\w:]+`|Errors|Definitions|Lemmas)$", "\n".join(self.lines), re.M)
         contents = "\n".join(f"- [{it}](#{anchor(it)})" for it in found)
         return re.sub(r"\n{3,}", "\n\n", "\n".join([head, contents, "", *self.lines])).rstrip() + "\n"
 
@@ -205,6 +216,20 @@ class CratePage:
                 if module in public or not ITEM.match(line):
                     found.append(f"{crate}::{module}: no page has {line}")
         return found
+
+
+def files(crate: str) -> list:
+    """The lines of the files of definitions and of lemmas, with the comment at the head of each."""
+    lines = []
+    for folder, heads, said in FILES:
+        rows = []
+        for path in sorted(it for it in (ROOT / "crates" / crate / folder).glob("*.antt") if it.stem != "Lib"):
+            text = path.read_text(encoding="utf-8")
+            about = " ".join(re.sub(r"^-- ?", "", it) for it in re.match(r"(?:--.*\n)*", text)[0].splitlines()).replace("|", "\\|")
+            names = [", ".join(f"`{it}`" for it in re.findall(r"^ *pub ([a-z][\w-]*) :", text, re.M))]
+            rows.append(f"| {' | '.join([f'`{path.stem}`', about, *names][:len(heads)])} |")
+        lines += [said, "", f"| {' | '.join(heads)} |", "|---" * len(heads) + "|", *rows, ""] if rows else []
+    return lines
 
 
 def faults_of_types(sources: dict) -> list:

@@ -42,7 +42,7 @@ def lines() -> list:
     found = []
     for name in LIBRARIES + CALLERS:
         crate = EditedCrate(ROOT / "crates" / name)
-        edits = [crate.read_edit(it) for it in sorted(crate.folder.glob("wrong-bodies/*/*.edit")) if name in CALLERS]
+        edits = crate.edits() if name in CALLERS else []
         tried = {one.path for edit in edits for one in edit.functions if one}
         for one in crate.functions:
             head = crate.head(one)

@@ -12,7 +12,7 @@ import re
 
 from pages.sources import ROOT, read
 
-LIBRARIES = ("elf_base", "elf_records", "xmas_elf", "elf_linking")
+LIBRARIES = ("elf_base", "elf_records", "xmas_elf", "elf_linking", "elf_addresses", "elf_loading")
 
 USE = re.compile(r"^\s*(?:ghost )?(?:pub )?use ((?:Rattle|lib)\.[\w.]+?)(?:\.\{([^}]*)\}| as (\w+))?;?$", re.M)
 WORD = re.compile(r"(?<![.\w])[\w◌][\w◌'-]*(?:\.[\w]+)?|[^\s\w(){}\[\],;.:\"]+")
@@ -177,12 +177,13 @@ class Reader:
         return self.used(one.text, one.uses, self.spec(one.path) if one.path.suffix == ".antt" else {})
 
     def contract(self, source, one) -> tuple:
-        """The text of a function's contract, what its words mean, its file and its line."""
+        """The text of a function's contract behind the head of its impl, what its words mean, its file and its line."""
         block = source.block_at(one.named_at - 1)
         outside = "\n".join(line for line in source.lines if not line.startswith(" "))
         inside = "\n".join(source.lines[block.at : block.end]) if block else ""
         margin = re.match(" *", source.lines[one.named_at - 1])[0]
-        return source.text_from(one.named_at - 1, margin), uses_in(outside + "\n" + inside), source.path, one.named_at
+        text = inside.split("{")[0] + "\n" + source.text_from(one.named_at - 1, margin)
+        return text, uses_in(outside + "\n" + inside), source.path, one.named_at
 
     def named(self, module: str, call: str) -> tuple:
         """The contract of a public call, `name` or `Type::name` of a module."""
@@ -203,6 +204,7 @@ class Reader:
             order.append(one)
 
         for text, uses, _, _ in contracts:
+            # The bounds of the type parameters are those of the impl and of the function.
             head, clauses = re.split(r"^(?=\s+(?:requires|ensures))", text, maxsplit=1, flags=re.M)
             self.types = set().union(*(self.implementors(it) for it in re.findall(r"\b[A-Z]: ([\w +]+)", head)))
             for one in self.used(clauses, uses, {}):

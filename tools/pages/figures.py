@@ -1,5 +1,6 @@
 #!/usr/bin/env python3
-"""Lists the figures of the pages, each with the number of commits since that touched what it measures.
+"""Warns of each figure of the pages that is of a commit before its code, with the number of commits since that touched what it
+measures. The gate runs it last, and fails at none.
 
     tools/pages/figures.py
 
@@ -22,7 +23,7 @@ from pages.sources import ROOT, below, crates
 PAGES = ("README.md", "CONTRIBUTING.md", "CALLING.md", "docs/*.md", "bindings/*.md", "bench/*.md")
 
 # The crate whose program or archive a comparison runs, by the name of its script.
-PROGRAMS = {name: it.needs[0].split("/")[1] for name, it in ORACLES.items()}
+PROGRAMS = {it.script or name: it.needs[0].split("/")[1] for name, it in ORACLES.items()}
 
 
 def of(crate: str, *others: str) -> tuple:
@@ -35,8 +36,10 @@ PATHS = {
     "bench/run.sh": of("elf_c", "bench", "bindings/c/speed.c"),
     "bench/layouts.sh": of("xmas_elf", "bench/here", "bench/peers"),
     "bench/relocate.py": of("elf_c", "bench/relocate.c"),
-    "bench/growth.sh": of("elf_linking", "bench/here", "bench/files.sh", "bench/hostile.py"),
+    "bench/library.sh": of("xmas_elf", "bench/here"),
+    "bench": of("xmas_elf", "bench/here", "bench/peers"),
     "elfinfo": of("elfinfo", "bench/hostile.py"),
+    "elfsize": of("elfsize"),
     **dict.fromkeys((r"\time", "rt"), ("crates/elf_base", "crates/elf_records", "crates/xmas_elf")),
     **{f"tools/compare/{name}.py": of(crate) for name, crate in PROGRAMS.items()},
     "tools/compare/rust.py": of("elfanswers", "oracle"),
@@ -44,10 +47,8 @@ PATHS = {
     "tools/compare/fuzz_bindings.py": of("elfbind", "crates/elfsym/src"),
     "tools/exports/bindings.sh": of("elf_c", "bindings/rust/src", "bindings/compare/src"),
     "tools/exports/python.sh": of("elf_c", "bindings/python/xmas_elf", "bindings/python/speed.py"),
-    "tools/web/page.py": of("elf_c", "bindings/web"),
-    "tools/web/web.sh": of("elf_c", "bindings/web/*.js", "tools/web"),
+    "tools/web/web.sh": of("elf_c", "bindings/web/*.js", "bindings/web/tests", "tools/web"),
     "tools/gate/wrong_bodies.py": ("crates", "tools/gate/edits.py"),
-    "tools/gate/quick.sh": ("crates", "tools"),
     ".ci/run": ("crates", "tools"),
 }
 
@@ -78,7 +79,7 @@ def main() -> int:
         for commit, command, machine in found:
             warning = age(commit, command)
             figures, warnings = figures + 1, warnings + bool(warning)
-            print(f"{place}: {commit}, `{command}`, {machine}: {'WARNING: ' + warning if warning else 'as measured'}")
+            print(f"{place}: {commit}, `{command}`, {machine}: WARNING: {warning}\n" if warning else "", end="")
         if not found:
             warnings += 1
             print(f"{place}: WARNING: no commit, command and machine in the form of tools/pages/figures.py: {line[:90]}")

@@ -23,7 +23,7 @@ LINK = re.compile(r"\]\(([^)\s]+)\)")
 IMPORT = re.compile(r"ghost use ([\w.]+)\.\{([^}]*)\};")
 HEADING = re.compile(r"^#+ (.*)$", re.MULTILINE)
 CALLERS = ("elf_callers", "linking_callers")
-CALLER = re.compile(r"`((?:elf_callers::|linking_callers::)?(?:callers(?:::[a-z]\w*)+|recipes::\w+|evidence(?:::\w+)+)|elf_evidence(?:::\w+)+)`")
+CALLER = re.compile(r"`((?:elf_callers::|linking_callers::)?(?:callers(?:::[a-z]\w*)+|recipes::\w+))`")
 
 
 def one_line(text: str) -> str:

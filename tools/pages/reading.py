@@ -1,13 +1,14 @@
 #!/usr/bin/env python3
-"""Writes the lists of docs/READING.md: the definitions that must be believed for a headline, callees first.
+"""Writes the definitions of docs/READING.md: those that must be believed for a claim, each after those that it uses.
 
-    tools/pages/reading.py            writes the lists and the bytes into the page
+    tools/pages/reading.py            writes the definitions and the bytes into the page
     tools/pages/reading.py --check    fails where they aren't what the sources give; writes nothing
 
-Both print how many definitions the contracts of some calls lead to, and fail where there are more than the call's bound.
+Both print how many definitions the contracts of some calls lead to, and their lines, and fail where there are more than the
+call's bounds.
 
-The page is written by hand but for two kinds of rooms. `<!-- read CRATE::MODULE CALL .. -->` takes a row for each definition that
-the clauses of these calls lead to (tools/pages/definitions.py), but for those that stand in a room above.
+The page is written by hand but for two kinds of rooms. `<!-- read CRATE::MODULE CALL .. -->` takes the text of each definition that
+the clauses of these calls lead to (tools/pages/definitions.py), and a folded list of those that stand in a room above.
 `<!-- bytes FILE FIRST COUNT -->` takes bytes of a file of the repository in hexadecimal. A room ends with `<!-- end -->`.
 """
 import pathlib
@@ -16,23 +17,30 @@ import sys
 
 sys.path.insert(0, str(pathlib.Path(__file__).resolve().parents[1]))
 from pages.definitions import Reader
-from pages.sources import ROOT, differing, ended, parser_of
+from pages.sources import ROOT, anchor, differing, ended, parser_of
 
 PAGE = ROOT / "docs" / "READING.md"
 
-# How many definitions the contract of a call may lead to.
+# How many definitions the contract of a call may lead to, and how many lines they may have.
 BOUNDS = {
-    "xmas_elf::hash::lookup HashTable::lookup_in": 90,
-    "xmas_elf::hash::check HashTable::check_in": 85,
-    "elf_linking::gnu_hash::lookup GnuHashTable::lookup_in": 105,
-    "elf_linking::object DynamicObject::find": 190,
-    "elf_linking::scope Scope::bind": 250,
-    "elf_linking::values value_by_name": 260,
-    "elf_loading::bytes LoadPlan::byte_at": 95,
-    "elf_loading::load_scope ScopeLoadScope::relocate": 510,
+    "xmas_elf::hash::lookup HashTable::lookup_in": (85, 290),
+    "xmas_elf::hash::check HashTable::check_in": (80, 285),
+    "elf_linking::gnu_hash::lookup GnuHashTable::lookup_in": (95, 295),
+    "elf_linking::object DynamicObject::read": (165, 650),
+    "elf_linking::object DynamicObject::find": (155, 600),
+    "elf_linking::scope Scope::bind": (216, 860),
+    "elf_linking::checked CheckedObject::find": (40, 135),
+    "elf_linking::checked::scope CheckedScope::bind": (65, 280),
+    "elf_linking::values value_by_name": (220, 935),
+    "elf_loading::plan LoadPlan::check_load": (75, 305),
+    "elf_loading::bytes LoadPlan::byte_at": (56, 200),
+    "elf_loading::bytes LoadPlan::fill": (51, 215),
+    "elf_loading::checked::image CheckedImage::relocate": (125, 550),
+    "elf_loading::checked::image CheckedImage::loads": (240, 900),
+    "elf_loading::load_scope LoadScope::words": (162, 630),
+    "elf_loading::load_scope LoadScope::check_image": (378, 1450),
+    "elf_loading::load_scope LoadScope::relocate": (385, 1505),
 }
-# An impl's call, as `definitions` names it by the type and the trait, and as the page does.
-SHOWN = {"ScopeLoadScope::relocate": "LoadScope::relocate"}
 ROOM = re.compile(r"(<!-- (read|bytes) ([^>]*) -->\n).*?(<!-- end -->)", re.S)
 
 
@@ -41,7 +49,7 @@ def place(path, line: int) -> str:
 
 
 class Lists:
-    """The lists of a page, in order: a definition has its row in the first list that needs it."""
+    """The definitions of a page, in order: each stands in the first room that needs it, and has a number."""
 
     def __init__(self):
         self.reader, self.above = Reader(), {}
@@ -51,19 +59,17 @@ class Lists:
         words = named.split()
         contracts = {call: self.reader.named(whole, call) for whole, call in zip(words[::2], words[1::2])}
         found = self.reader.reached([*contracts.values()])
-        of = " and ".join(f"[`{SHOWN.get(call, call)}`]({place(path, line)})" for call, (_, _, path, line) in contracts.items())
+        of = " and ".join(f"[`{call}`]({place(path, line)})" for call, (_, _, path, line) in contracts.items())
+        above = [one for one in found if (one.path, one.line) in self.above]
         lines = [f"By {of}: {self.sizes(found)}.", ""]
-        if seen := [one for one in found if (one.path, one.line) in self.above]:
-            lines[0] += f" Of these, {len(seen)} {'is' if len(seen) == 1 else 'are'} in a list above; the others are"
-            lines[0] += f" {self.sizes([one for one in found if one not in seen])}."
-        lines += ["| | Definition | Lines | What it says |", "|---:|---|---:|---|"]
-        for one in found:
-            if self.above.setdefault((one.path, one.line), len(self.above) + 1) == len(self.above) and one not in seen:
-                # The first sentence above the definition.
-                said = re.split(r"(?<=\.) ", " ".join(one.about.split()))[0].replace("|", "\\|").rstrip(".")
-                said = said or {"type": "a type of the code"}.get(one.kind, "")
-                lines.append(f"| {self.above[one.path, one.line]} | [`{one.name}`]({place(one.path, one.line)}) | {one.size} | {said} |")
-        return "\n".join([*lines, "", f"Words of std: {', '.join(f'`{it}`' for it in self.reader.std)}.", ""])
+        if above:
+            links = ", ".join(f"[`{one.name}`](#{self.above[one.path, one.line]}-{anchor(one.name)})" for one in above)
+            lines += [f"<details><summary>{self.sizes(above)}, which an earlier claim has too</summary>", "", links, "", "</details>", ""]
+        for one in (it for it in found if it not in above):
+            number = self.above[one.path, one.line] = len(self.above) + 1
+            source = f"[{one.path.relative_to(ROOT)}]({place(one.path, one.line)})"
+            lines += [f"##### {number} `{one.name}`", "", f"{' '.join(one.about.split())} ({source})".strip(), "", "```text", one.text, "```", ""]
+        return "\n".join([*lines, f"Words of std: {', '.join(f'`{it}`' for it in self.reader.std)}.", ""])
 
     @staticmethod
     def sizes(found: list) -> str:
@@ -81,13 +87,14 @@ def bytes_of(named: str) -> str:
 
 
 def closures() -> int:
-    """Prints the number of definitions of each call beside its bound; how many are above theirs."""
+    """Prints the definitions and the lines of each call beside its bounds; how many calls are above theirs."""
     reader, above = Reader(), 0
-    for named, bound in BOUNDS.items():
+    for named, (most, most_lines) in BOUNDS.items():
         whole, call = named.split()
         found = reader.reached([reader.named(whole, call)])
-        above += len(found) > bound
-        print(f"{whole} {call}: {Lists.sizes(found)}, of at most {bound}{'' if len(found) <= bound else ': TOO MANY'}")
+        fits = len(found) <= most and sum(one.size for one in found) <= most_lines
+        above += not fits
+        print(f"{whole} {call}: {Lists.sizes(found)}, of at most {most} and {most_lines}{'' if fits else ': TOO MANY'}")
     return above
 
 

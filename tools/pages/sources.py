@@ -104,7 +104,7 @@ class Source:
             taken.append(line.removeprefix(margin))
             # A `let` in a clause ends with `;` too, inside the braces of the clause.
             open_ = "\n".join(taken).count("{") > "\n".join(taken).count("}")
-            if line.startswith(margin + "}") or line.endswith(";") and (is_function and not open_ or len(taken) == 1):
+            if line.startswith((margin + "}", margin + "]")) or line.endswith(";") and (is_function and not open_ or len(taken) == 1):
                 break
             if is_function and line.endswith(" {") and not re.search(r"(ensures|requires)\b.*{$", line):
                 taken[-1] = taken[-1].removesuffix(" {")

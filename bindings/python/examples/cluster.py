@@ -3,7 +3,6 @@
 
 SCHEDULER is an address, as tcp://host:8786; without one, processes of this machine do the work. Each machine must see the
 files at the same paths, and have the package. It needs Debian's python3-dask and python3-distributed."""
-import csv
 import sys
 
 import dask.bag
@@ -22,9 +21,7 @@ def main(words):
     with Client(scheduler) if scheduler else Client(n_workers=2, threads_per_worker=1, dashboard_address=None) as client:
         paths = list(xmas_elf.elf_files(words))
         rows = rows_of(paths, 8 * max(1, len(client.scheduler_info()["workers"])))
-    table = csv.DictWriter(sys.stdout, rows[0] if rows else ["path"])
-    table.writeheader()
-    table.writerows(rows)
+    xmas_elf.write_csv(rows, sys.stdout)
     print(f"{len(rows)} files, {sum(row['error'] is not None for row in rows)} couldn't be read", file=sys.stderr)
 
 

@@ -10,7 +10,7 @@ from elftools.elf.segments import NoteSegment
 
 from xmas_elf import ElfError, ElfFile, Status
 
-# Types whose data the archive doesn't give: SHT_NULL, and those that it doesn't know.
+# Types whose data the archive doesn't give: PT_NULL, and those that it doesn't know.
 REFUSED = (Status.NULL_DATA, Status.INVALID_SH_TYPE, Status.INVALID_PH_TYPE)
 
 
@@ -51,7 +51,9 @@ def compare_data(ours, theirs, refused):
 
 def compare_section(ours, theirs):
     assert section(ours) == beside.section(theirs)
-    if ours.type != 8:  # SHT_NOBITS has no data: pyelftools gives zero bytes.
+    if ours.type == 8:  # SHT_NOBITS has no bytes in the file: pyelftools gives zero bytes.
+        assert ours.data() == b"" and not any(theirs.data())
+    else:
         compare_data(ours, theirs, REFUSED)
     if ours.type in (2, 11):
         assert list(map(symbol, ours.symbols())) == list(map(beside.symbol, theirs.iter_symbols()))

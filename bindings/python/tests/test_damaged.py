@@ -1,8 +1,11 @@
 """Damaged files: each call returns, or raises ElfError, and nothing else."""
 import gc
+import subprocess
+import sys
 
 import damage
 import pytest
+from conftest import PYTHON, ROOT
 
 from xmas_elf import ElfError, ElfFile
 
@@ -85,6 +88,42 @@ def test_file_cut_in_its_sections():
         next(sections)
     with pytest.raises(ElfError, match="section header offset"):
         next(sections)
+
+
+def test_symbols_that_are_lost_are_errors(tmp_path):
+    """Fifty files whose symbols can't be listed: the first program of the page, and what is said of their hardening."""
+    (tmp_path / "a.c").write_text("int one, two; int main(void) { return one + two; }\n")
+    subprocess.run(["gcc", tmp_path / "a.c", "-o", tmp_path / "a"], check=True)
+    whole = (tmp_path / "a").read_bytes()
+    assert listed(whole) and ElfFile(whole).hardening()
+    for index, data in enumerate(damage.lost(whole)):
+        with pytest.raises(ElfError):
+            listed(data)
+        with pytest.raises(ElfError):
+            ElfFile(data).hardening()
+        (tmp_path / "lost").write_bytes(data)
+        done = subprocess.run([sys.executable, ROOT / "bindings/examples/symbols.py", tmp_path / "lost"], cwd=PYTHON,
+            env={"PYTHONPATH": str(PYTHON)}, capture_output=True, text=True)
+        assert done.returncode == 1 and str(tmp_path / "lost") in done.stderr and "Traceback" not in done.stderr, index
+    assert index == 49
+
+
+def test_a_number_of_sections_that_is_lost_is_an_error():
+    data = bytearray(damage.worked(True, "little"))
+    layout = damage.Layout(True, "little")
+    layout.fill(data, 0, layout.header, shnum=0, shoff=len(data) - 20)
+    with pytest.raises(ElfError, match="section header offset"):
+        list(ElfFile(bytes(data)).sections())
+
+
+def listed(data):
+    """The names of all symbols; an error for the first that can't be read."""
+    found = []
+    for symbol in ElfFile(data).symbols():
+        if symbol.name is None:
+            raise ElfError(symbol.name_status)
+        found.append(symbol.name)
+    return found
 
 
 def read_notes(file):

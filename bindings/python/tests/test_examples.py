@@ -43,8 +43,9 @@ def test_questions():
 def test_programs_of_the_page(tmp_path):
     pytest.importorskip("pandas")
     programs = re.findall(r"^```python$(.*?)^```$", (PYTHON / "README.md").read_text(), re.M | re.S)
-    assert len(programs) == 2
-    for program in programs:
+    assert len(programs) == 3
+    # That of the memory of a process is run by test_memory.py.
+    for program in programs[:2]:
         done = subprocess.run([sys.executable, "-c", program], cwd=PYTHON, capture_output=True, text=True, check=True)
         assert len(done.stdout) > 100
 

@@ -1,7 +1,6 @@
 """What new users ask for, beside what nm, readelf, pyelftools and dlsym say of the same files."""
 import collections
 import ctypes
-import io
 import pathlib
 import re
 import subprocess
@@ -10,7 +9,7 @@ import sys
 import beside
 import pydoc
 import pytest
-from conftest import LIBRARIES, PYTHON, system_files
+from conftest import LIBRARIES, PYTHON
 from elftools.elf.gnuversions import GNUVerDefSection, GNUVerNeedSection
 
 import xmas_elf
@@ -113,6 +112,14 @@ def test_symbols_that_are_not_dynamic(tmp_path):
     assert not file.symbol("__libc_start_main").is_defined and file.symbol("none") is None
 
 
+def test_a_symbol_without_a_version_comes_before_the_default_version():
+    """libfuse2 has `fuse_new` with three versions and without one: dlsym takes the last."""
+    path = path_of("libfuse.so.2")
+    values = {version: value for value, _, name, version in nm(path) if name == "fuse_new"}
+    assert len(values) > 2 and "" in values and any(it.startswith("@@") for it in values)
+    assert str(ElfFile.load_from_path(path).symbol("fuse_new").value) == loaded(path, ["fuse_new"])["fuse_new"] == str(values[""])
+
+
 # Versions, over the files of the system.
 
 
@@ -168,6 +175,39 @@ def test_parts_by_segments(path):
     assert [(it.offset, it.symbol, it.type, it.addend, it.has_addend) for it in cut.relocations()] == theirs
     packed = [address for it in whole.sections() if it.type == SHT.SHT_RELR for address in it.packed_relocations()]
     assert list(whole.packed_relocations()) == list(cut.packed_relocations()) == packed
+
+
+def test_types_of_relocations_have_the_names_of_readelf(path):
+    file = ElfFile.load_from_path(path)
+    if file.header.machine not in (constants.EM_X86_64, constants.EM_386):
+        pytest.skip("a file for another machine")
+    printed = re.findall(r"^[0-9a-f]{8,} +[0-9a-f]{8,} (R_\w+)", said("readelf", "--wide", "--relocs", path), re.M)
+    # readelf prints 17 signs of a name.
+    assert [it.type.name[:17] for it in file.relocations()] == [it[:17] for it in printed]
+
+
+def test_sections_without_bytes_in_the_file():
+    file = ElfFile.load_from_path(path_of("libc.so.6"))
+    empty = [it for it in file.sections() if it.type in (SHT.SHT_NULL, SHT.SHT_NOBITS)]
+    assert len(empty) > 2 and any(it.size for it in empty) and all(it.data() == b"" for it in empty)
+    with pytest.raises(ElfError):
+        file.section(".bss").text(0)
+
+
+def test_zeros_in_memory():
+    """The addresses of `.bss`, and those over the end of the bytes of the file, as a process has them."""
+    for name in ("libc.so.6", "libm.so.6"):
+        file = ElfFile.load_from_path(path_of(name))
+        load = next(it for it in file.segments() if it.type == constants.PT_LOAD and it.mem_size > it.file_size)
+        end = load.virtual_addr + load.file_size
+        assert file.bytes_at(end, load.mem_size - load.file_size) == bytes(load.mem_size - load.file_size)
+        assert file.bytes_at(end - 4, 8) == bytes(file.bytes_at(end - 4, 4)) + bytes(4)
+        image = file.load_image(Loader.GLIBC)
+        start = file.load_plan().span.start
+        assert file.bytes_at(load.virtual_addr, load.mem_size) == image[load.virtual_addr - start :][: load.mem_size]
+        for count in (load.mem_size - load.file_size + 1, 1 << 63):
+            with pytest.raises(ElfError, match="Address is in no loaded segment"):
+                file.bytes_at(end, count)
 
 
 def test_build_id_of_a_section_with_another_name(tmp_path):
@@ -435,6 +475,11 @@ def test_why_a_file_is_not_loaded(tmp_path):
     with pytest.raises(ElfError) as raised:
         ElfFile.load_from_path(compiled(tmp_path, "-c")).load_plan()
     assert raised.value.status == Status.LOAD_TYPE and str(raised.value) == "Type is neither executable nor shared object"
+    verdict = ElfFile.load_from_path(tmp_path / "a").loads()
+    assert not verdict and verdict.status == Status.LOAD_TYPE and str(verdict) == "no: Type is neither executable nor shared object"
+    whole = path_of("libc.so.6").read_bytes()
+    assert ElfFile(whole).loads() and str(ElfFile(whole).loads()) == ElfFile(whole).overview().loads == "yes"
+    assert str(ElfFile(whole[: len(whole) // 2]).loads()) == "no: Load segment is past the end of the file"
     file = ElfFile.load_from_path(path_of("libc.so.6"))
     for words, status in (({"page": 1 << 40}, Status.LOAD_OVERLAP), ({"limit": 4096}, Status.LOAD_RANGE)):
         with pytest.raises(ElfError) as raised:
@@ -465,85 +510,18 @@ def test_words_of_a_program_and_its_library(tmp_path):
     with pytest.raises(ElfError) as raised:
         relocate(objects, 2, images[0])
     assert raised.value.status == Status.LINK_OBJECT_INDEX
+    # Without the library the program's symbols are in no object.
+    with pytest.raises(ElfError, match="^Symbol is in no object: (number|twice)$") as raised:
+        relocate(objects[:1], 0, images[0])
+    assert raised.value.status == Status.LOAD_UNRESOLVED and raised.value.about in ("number", "twice")
 
 
-# Overviews and surveys.
-
-
-def readelf_overview(path):
-    """The fields of an overview as readelf prints them."""
-    printed = said("readelf", "--wide", "--file-header", "--program-headers", "--dynamic", path)
-    only = lambda pattern: next(iter(re.findall(pattern, printed)), None)  # noqa: E731
-    bind_now = bool(re.search(r"\(BIND_NOW\)|\(FLAGS\) +.*BIND_NOW|\(FLAGS_1\) +Flags:.*\bNOW\b", printed))
-    relro = re.search(r"^  GNU_RELRO ", printed, re.M)
-    stack = only(r"  GNU_STACK .* ([R ][W ][E ]) 0x")
-    return {
-        "soname": only(r"\(SONAME\).*\[(.*)\]"),
-        "interpreter": only(r"Requesting program interpreter: (.*)\]"),
-        "needed": re.findall(r"\(NEEDED\).*\[(.*)\]", printed),
-        "pie": "Position-Independent Executable" in printed,
-        "relro": ("full" if bind_now else "partial") if relro else "none",
-        "nx": stack is not None and "E" not in stack,
-        "bind_now": bind_now,
-        "wx": bool(re.search(r"^  LOAD .* RWE 0x", printed, re.M)),
-        "rpath": only(r"\(RPATH\).*\[(.*)\]"),
-        "runpath": only(r"\(RUNPATH\).*\[(.*)\]"),
-    }
-
-
-def test_overview_is_that_of_readelf(path):
-    ours = ElfFile.load_from_path(path).overview()._asdict()
-    theirs = readelf_overview(path)
-    assert {name: ours[name] for name in theirs} == theirs
-
-
-@pytest.mark.parametrize("words, field, value", [
-    (["-no-pie"], "pie", False), (["-pie"], "pie", True), (["-z", "execstack"], "nx", False), (["-Wl,-z,norelro"], "relro", "none"),
-    (["-Wl,-z,relro,-z,lazy"], "relro", "partial"), (["-Wl,-z,relro,-z,now"], "relro", "full"), (["-Wl,-z,now"], "bind_now", True),
-    (["-no-pie", "-nostdlib", "-Wl,-N,-e,main"], "wx", True), (["-Wl,-rpath,/a", "-Wl,--disable-new-dtags"], "rpath", "/a"), (["-Wl,-rpath,/a"], "runpath", "/a"),
-])
-def test_overview_of_each_option(words, field, value, tmp_path):
-    (tmp_path / "a.c").write_text("int main(void) { return 0; }\n")
-    subprocess.run(["gcc", tmp_path / "a.c", "-o", tmp_path / "a", "-Wl,--enable-new-dtags", *words], check=True, capture_output=True)
-    overview = ElfFile.load_from_path(tmp_path / "a").overview()
-    assert getattr(overview, field) == value == readelf_overview(tmp_path / "a")[field]
-    assert str(overview).count("\n") == len(overview) - 1
-
-
-def test_survey(capsys):
-    files = system_files(300)
-    rows = xmas_elf.survey(files)
-    assert "300 of 300 files, 0 couldn't be read" in capsys.readouterr().err
-    assert xmas_elf.survey(files, processes=2, progress=False) == rows and not capsys.readouterr().err
-    for path, row in list(zip(files, rows))[::10]:
-        theirs = readelf_overview(path)
-        assert row["path"] == str(path) and {name: row[name] for name in theirs} == theirs
-        needs = re.findall(r"Name: (\S+) +Flags", said("readelf", "--wide", "--version-info", path))
-        assert sorted(it.split(":")[1] for it in row["imported_versions"]) == sorted(needs)
-    printed = said("readelf", "--wide", "--version-info", path_of("libc.so.6"))
-    defined = re.findall(r"Flags: (?:none|WEAK) .* Name: (\S+)", printed)
-    assert len(defined) > 30 and xmas_elf.survey_row(FOLDER / "libc.so.6")["exported_versions"] == sorted(defined)
-
-
-def test_survey_counts_what_cannot_be_read(tmp_path, capsys):
-    (tmp_path / "b").mkdir()
-    (tmp_path / "b/cut").write_bytes(path_of("libm.so.6").read_bytes()[:5000])
-    (tmp_path / "a").write_bytes(path_of("libm.so.6").read_bytes())
-    (tmp_path / "text").write_text("no ELF file")
-    rows = xmas_elf.survey(tmp_path)
-    assert [(row["path"], bool(row["error"])) for row in rows] == [(f"{tmp_path}/a", False), (f"{tmp_path}/b/cut", True)]
-    assert "2 of 2 files, 1 couldn't be read" in capsys.readouterr().err
-    with pytest.raises(FileNotFoundError):
-        xmas_elf.survey(tmp_path / "none")
-
-
-def test_table_of_the_command(tmp_path):
-    import csv
-
-    command = [sys.executable, "-m", "xmas_elf", path_of("libm.so.6")]
-    done = subprocess.run(command, cwd=PYTHON, capture_output=True, text=True, check=True)
-    (row,) = csv.DictReader(io.StringIO(done.stdout))
-    assert (row["soname"], row["type"], row["pie"]) == ("libm.so.6", "ET_DYN", "False")
+def test_a_missing_symbol_is_named_with_its_version(tmp_path):
+    (tmp_path / "a.c").write_text("#include <stdio.h>\nint main(void) { return puts(\"\"); }\n")
+    subprocess.run(["gcc", tmp_path / "a.c", "-o", tmp_path / "a"], check=True)
+    file = ElfFile.load_from_path(tmp_path / "a")
+    with pytest.raises(ElfError, match=r"^Symbol is in no object: (puts|__libc_start_main)@GLIBC_2\.\d+(\.\d+)?$"):
+        relocate([LoadObject(file)], 0, file.load_image())
 
 
 def test_libraries_are_here():

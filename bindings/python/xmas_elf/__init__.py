@@ -12,16 +12,20 @@ from ._addresses import SymbolAt
 from ._archive import ElfError
 from ._declarations import Status
 from ._file import ElfFile
-from ._loading import Addresses, Contents, Loader, LoadPlan, Mapping, TlsTemplate
+from ._hardening import Hardening
+from ._loading import Addresses, Contents, Loader, LoadPlan, Mapping, TlsTemplate, Verdict
 from ._overview import Overview
 from ._parts import Dynamic, Header, Note, Relocation, Section, Segment, Symbol
 from ._pieces import Owner, Piece, SymbolPiece
-from ._process import LoadObject, check_image, relocate
-from ._survey import elf_files, survey, survey_row
+from ._process import LoadObject, check_image, relocate, with_thread_storage
+from ._survey import elf_files, hardening, hardening_row, survey, survey_row, write_csv
 from ._versions import Version, VersionKind
 
+__version__ = "0.1.0"
+
 __all__ = [
-    "Addresses", "Contents", "Dynamic", "ElfError", "ElfFile", "Header", "LoadObject", "LoadPlan", "Loader", "Mapping", "Note",
-    "Overview", "Owner", "Piece", "Relocation", "Section", "Segment", "Status", "Symbol", "SymbolAt", "SymbolPiece", "TlsTemplate",
-    "Version", "VersionKind", "check_image", "elf_files", "relocate", "survey", "survey_row",
+    "Addresses", "Contents", "Dynamic", "ElfError", "ElfFile", "Hardening", "Header", "LoadObject", "LoadPlan", "Loader",
+    "Mapping", "Note", "Overview", "Owner", "Piece", "Relocation", "Section", "Segment", "Status", "Symbol", "SymbolAt",
+    "SymbolPiece", "TlsTemplate", "Verdict", "Version", "VersionKind", "check_image", "elf_files", "hardening",
+    "hardening_row", "relocate", "survey", "survey_row", "with_thread_storage", "write_csv",
 ]

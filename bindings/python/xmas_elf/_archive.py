@@ -3,7 +3,7 @@ from __future__ import annotations
 
 import ctypes
 import pathlib
-from typing import Union
+from typing import Optional, Union
 
 from ._declarations import EXPORTS, LONGEST_MESSAGE, Status
 
@@ -26,13 +26,17 @@ library = _loaded()
 
 
 class ElfError(Exception):
-    """A file, or a part of it, can't be read. The text is that of the status."""
+    """A file, or a part of it, can't be read. The text is that of the status, and then what it is about, if that is known."""
 
     status: Union[Status, int]
     """The reason; a number alone if the package doesn't know the status."""
 
-    def __init__(self, status: int) -> None:
+    about: Optional[str]
+    """What it is about, as the name of the symbol that is in no object; or None."""
+
+    def __init__(self, status: int, about: Optional[str] = None) -> None:
         super().__init__(status)
+        self.about = about
         try:
             self.status = Status(status)
         except ValueError:
@@ -44,7 +48,8 @@ class ElfError(Exception):
     def __str__(self) -> str:
         text = ctypes.create_string_buffer(LONGEST_MESSAGE)
         size = library.xmas_elf_message(int(self.status), text, LONGEST_MESSAGE)
-        return text.raw[:size].decode("ascii") or f"status {int(self.status)}"
+        reason = text.raw[:size].decode("ascii") or f"status {int(self.status)}"
+        return f"{reason}: {self.about}" if self.about else reason
 
 
 def check(status: int) -> None:

@@ -831,8 +831,8 @@ EXPORTS: Dict[str, Tuple[Any, Tuple[Any, ...]]] = {
     "xmas_elf_load_plan": (c_uint32, (c_void_p, c_size_t, c_void_p, c_uint64, c_uint64, c_void_p,)),
     "xmas_elf_load_mappings": (c_uint32, (c_void_p, c_size_t, c_void_p, c_uint64, c_uint64, c_uint32, c_uint64, c_void_p, c_size_t, c_void_p,)),
     "xmas_elf_load_image": (c_uint32, (c_void_p, c_size_t, c_void_p, c_uint64, c_uint64, c_uint32, c_void_p, c_size_t,)),
-    "xmas_elf_check_image": (c_uint32, (c_void_p, c_size_t, c_uint64, c_void_p, c_size_t,)),
-    "xmas_elf_relocate": (c_uint32, (c_void_p, c_size_t, c_uint64, c_uint32, c_uint64, c_void_p, c_size_t, c_void_p,)),
+    "xmas_elf_check_image": (c_uint32, (c_void_p, c_size_t, c_uint64, c_uint64, c_uint64, c_void_p, c_size_t,)),
+    "xmas_elf_relocate": (c_uint32, (c_void_p, c_size_t, c_uint64, c_uint32, c_uint64, c_uint64, c_void_p, c_size_t, c_void_p,)),
     "xmas_elf_message": (c_size_t, (c_uint32, c_void_p, c_size_t,)),
 }
 

@@ -11,7 +11,8 @@ from . import _declarations as declared
 from ._addresses import AddressIndex, SymbolAt
 from ._archive import ElfError, check, library
 from ._declarations import Status
-from ._loading import Loader, LoadPlan, load_plan_of
+from ._hardening import Hardening, hardening_of
+from ._loading import Loader, LoadPlan, Verdict, load_plan_of, verdict_of
 from ._numbers import unsigned, utf_8
 from ._overview import Overview, overview_of
 from ._parts import Dynamic, Header, Note, Relocation, Section, Segment, Symbol
@@ -23,11 +24,11 @@ from ._rows import Row, batches, one, rows
 from ._tables import packed_relocations_of, relocations_of
 from ._versions import Version, versions
 from .constants import DT, DT_NEEDED, DT_NULL, DT_RPATH, DT_RUNPATH, DT_SONAME, DT_SYMTAB, ELFOSABI, EM, ET
-from .constants import NT_GNU_BUILD_ID, PT_DYNAMIC, PT_NOTE
+from .constants import NT_GNU_BUILD_ID, PT_DYNAMIC, PT_LOAD, PT_NOTE
 from .constants import SHT_DYNAMIC, SHT_DYNSYM, SHT_NOTE, SHT_REL, SHT_RELA, SHT_RELR, SHT_SYMTAB, SHT_SYMTAB_SHNDX
 
-# A name that is an error only for the type of its section is read from the name table.
-_BY_TYPE = (Status.NULL_NAME, Status.INVALID_SH_TYPE)
+# Where the type is in the row of a section header.
+_TYPE = declared.SectionRecord._fields.index("type") - declared.SectionRecord._fields.index("flags")
 
 
 class ElfFile(Reading):
@@ -89,8 +90,18 @@ class ElfFile(Reading):
         check(library.xmas_elf_check_header(*self._input))
 
     def overview(self) -> Overview:
-        """What a first look at a file asks for: what it needs, its build id, and how it is hardened."""
+        """What a first look at a file asks for: what it needs, its build id, how it is hardened, and whether it is loaded."""
         return overview_of(self)
+
+    def hardening(self, libc: Union[None, str, "os.PathLike[str]"] = None) -> Hardening:
+        """How the file is hardened, in the words of `checksec`. The functions that have a checked form are those of the C
+        library at the path, of this system's where none is given."""
+        return hardening_of(self, libc)
+
+    def loads(self, page: int = 0, limit: int = 0) -> Verdict:
+        """Whether Linux and glibc load the file, by its header and program headers: true or false, and the text `yes`, or `no`
+        with the reason. `page` and `limit` are those of `load_plan`."""
+        return verdict_of(self, unsigned(page), unsigned(limit))
 
     def load_plan(self, page: int = 0, limit: int = 0) -> LoadPlan:
         """What Linux and glibc put into memory for the file; an error if they don't load it. `page` is the size of a page, a
@@ -122,14 +133,28 @@ class ElfFile(Reading):
 
     def sections(self) -> Iterator[Section]:
         """The sections, from index 0 on. A table that is cut off raises after the last section that is there."""
+        rows, failed = self._section_rows
+        yield from (self._section_at(index) for index in range(len(rows)))
+        check(failed)
+
+    @cached_property
+    def _section_rows(self) -> Tuple[List[Tuple[Row, Row]], int]:
+        """The fields and the name of each section that can be read, and why not all can be; they are read once."""
         headers = batches("xmas_elf_sections", declared.SECTION, *self._input)
         names = batches("xmas_elf_section_names", declared.NAME, *self._input)
-        both = zip(chain.from_iterable(headers), chain.from_iterable(names))
-        count = 0
-        for count, (fields, (offset, size, status)) in enumerate(both, 1):
-            yield self._section(count - 1, fields, (offset, size), status)
-        if count < self.num_sections():
-            self._asked("xmas_elf_section", declared.SECTION, count)
+        rows = list(zip(chain.from_iterable(headers), chain.from_iterable(names)))
+        # A number of sections that needs more than 16 bits is in the header of section 0, which may be missing.
+        if len(rows) == self.num_sections() and (rows or not self.header.sh_offset):
+            return rows, 0
+        try:
+            self._asked("xmas_elf_section", declared.SECTION, len(rows))
+        except ElfError as error:
+            return rows, int(error.status)
+        return rows, 0
+
+    def _section_at(self, index: int) -> Section:
+        fields, (offset, size, status) = self._section_rows[0][index]
+        return self._section(index, fields, (offset, size), status)
 
     def section(self, wanted: Union[int, str]) -> Section:
         """The section at an index, or the first with a name: an error if there is none."""
@@ -140,21 +165,12 @@ class ElfFile(Reading):
             raise ElfError(Status.NOT_FOUND)
         if unsigned(wanted) >= self.num_sections():
             raise ElfError(Status.NO_RECORD)
-        fields = self._asked("xmas_elf_section", declared.SECTION, wanted)
-        offset, size, status = one("xmas_elf_section_names", declared.NAME, *self._input, wanted)
-        return self._section(wanted, fields, (offset, size), status)
+        if wanted >= len(self._section_rows[0]):
+            check(self._section_rows[1])
+        return self._section_at(wanted)
 
     def _section(self, index: int, fields: Row, name: Row, status: int) -> Section:
-        if not status:
-            return section_of(self, index, self._text_in(name), 0, fields)
-        section = section_of(self, index, None, status, fields)
-        if status not in _BY_TYPE:
-            return section
-        try:
-            names = self._asked("xmas_elf_names", declared.RANGE)
-            return section._replace(name=self._text(names, section.name_index), name_status=0)
-        except ElfError as error:
-            return section._replace(name_status=int(error.status))
+        return section_of(self, index, None if status else self._text_in(name), status, fields)
 
     # Segments.
 
@@ -163,12 +179,14 @@ class ElfFile(Reading):
         return self._counts.segments
 
     def segments(self) -> Iterator[Segment]:
-        """The segments, from index 0 on."""
-        count = 0
-        for count, fields in enumerate(rows("xmas_elf_segments", declared.SEGMENT, *self._input), 1):
-            yield segment_of(self, count - 1, fields)
-        if count < self.num_segments():
-            self._asked("xmas_elf_segment", declared.SEGMENT, count)
+        """The segments, from index 0 on. A table that is cut off raises after the last segment that is there."""
+        yield from (segment_of(self, index, fields) for index, fields in enumerate(self._segment_rows))
+        if len(self._segment_rows) < self.num_segments():
+            self._asked("xmas_elf_segment", declared.SEGMENT, len(self._segment_rows))
+
+    @cached_property
+    def _segment_rows(self) -> List[Row]:
+        return list(rows("xmas_elf_segments", declared.SEGMENT, *self._input))
 
     def segment(self, index: int) -> Segment:
         """The segment at an index."""
@@ -330,13 +348,30 @@ class ElfFile(Reading):
         return {}
 
     def bytes_at(self, address: int, count: int) -> memoryview:
-        """The bytes of the file for `count` addresses from `address` on: those of the first segment of type PT_LOAD that
-        has them all."""
-        return self._slice("xmas_elf_bytes_at", unsigned(address), unsigned(count))
+        """The bytes for `count` addresses from `address` on, as a loader maps them: those of the first segment of type PT_LOAD
+        that has them all in the file; else those of the first that has them all in memory, where zeros follow the bytes of
+        the file (`.bss`). An error if no segment has them."""
+        try:
+            return self._stored_at(unsigned(address), unsigned(count))
+        except ElfError as error:
+            segment = self._segment_in_memory(address, count) if error.status == Status.LINK_ADDRESS else None
+            if segment is None:
+                raise
+        stored = max(0, segment.virtual_addr + segment.file_size - address)
+        return memoryview(bytes(self._stored_at(address, stored) if stored else b"") + bytes(count - stored))
+
+    def _stored_at(self, address: int, count: int) -> memoryview:
+        """The bytes of the file for addresses."""
+        return self._slice("xmas_elf_bytes_at", address, count)
+
+    def _segment_in_memory(self, address: int, count: int) -> Optional[Segment]:
+        loads = (it for it in self.segments() if it.type == PT_LOAD)
+        return next((it for it in loads if it.virtual_addr <= address and address + count <= it.virtual_addr + it.mem_size), None)
 
     def symbol(self, name: str, version: Optional[str] = None) -> Optional[Symbol]:
-        """The symbol that `dlsym` gets by a name, which is that of the default version, or `dlvsym` by a name and a
-        version. It needs no sections.
+        """The symbol that `dlsym` gets by a name, or `dlvsym` by a name and a version. It needs no sections. Of several with the
+        name and no version asked for it is the first without a version (of number 0 or 1), and else that of the default
+        version.
 
         If there is none, and no version is asked for, it is the first of the symbols that `dlsym` can't get: those of
         sections of type SHT_SYMTAB, and those that aren't defined here. One that is defined comes first."""
@@ -383,7 +418,9 @@ class ElfFile(Reading):
     # The archive's results.
 
     def _sections_of(self, *types: int) -> List[Section]:
-        return [section for section in self.sections() if section.type in types]
+        rows, failed = self._section_rows
+        check(failed)
+        return [self._section_at(index) for index, (fields, _) in enumerate(rows) if fields[_TYPE] in types]
 
     def _dynamic_text(self, tag: int) -> Optional[str]:
         """The text that the first dynamic entry with a tag names."""

@@ -5,7 +5,8 @@ from enum import IntEnum
 from typing import Any, List, NamedTuple, Optional
 
 from . import _declarations as declared
-from ._declarations import _document
+from ._archive import ElfError
+from ._declarations import Status, _document
 from ._parts import permissions
 from ._rows import rows
 from .constants import PF
@@ -55,6 +56,20 @@ class TlsTemplate(NamedTuple):
     align: int
 
 
+class Verdict(NamedTuple):
+    """Whether Linux and glibc load a file: true or false, and as a text `yes`, or `no` with the reason."""
+
+    loads: bool
+    status: int
+    text: str
+
+    def __bool__(self) -> bool:
+        return self.loads
+
+    def __str__(self) -> str:
+        return "yes" if self.loads else f"no: {self.text}"
+
+
 class LoadPlan(NamedTuple):
     """What Linux and glibc put into memory for a file. Addresses are relative to a base, which is 0 for type ET_EXEC."""
 
@@ -90,6 +105,12 @@ _document(
     align="The alignment of the storage in bytes.",
 )
 _document(
+    Verdict,
+    loads="Whether they load it.",
+    status="The status: OK, or why they don't.",
+    text="The text of the status.",
+)
+_document(
     LoadPlan,
     span="The pages from the first of the first load segment (PT_LOAD) to the last of the last one.",
     relro="The pages that are only readable after relocation (PT_GNU_RELRO), or None.",
@@ -105,6 +126,14 @@ _document(
 def _mappings(file: Any, page: int, limit: int, by: Loader) -> List[Mapping]:
     found = rows("xmas_elf_load_mappings", declared.LOAD_MAPPING, *file._input, page, limit, int(by))
     return [Mapping(start, end, offset, PF(flags), Contents(contents)) for start, end, offset, flags, contents in found]
+
+
+def verdict_of(file: Any, page: int, limit: int) -> Verdict:
+    try:
+        file._asked("xmas_elf_load_plan", declared.LOAD_PLAN, page, limit)
+    except ElfError as error:
+        return Verdict(False, error.status, str(error))
+    return Verdict(True, Status.OK, "")
 
 
 def load_plan_of(file: Any, page: int, limit: int) -> LoadPlan:

@@ -29,6 +29,7 @@ class Overview(NamedTuple):
     wx: bool
     rpath: Optional[str]
     runpath: Optional[str]
+    loads: str
 
     def __str__(self) -> str:
         return "\n".join(f"{name:12}{_shown(value)}" for name, value in zip(self._fields, self))
@@ -51,6 +52,7 @@ _document(
     wx="Whether memory is mapped writable and executable.",
     rpath="The folders of DT_RPATH.",
     runpath="The folders of DT_RUNPATH.",
+    loads="Whether Linux and glibc load it: `yes`, or `no` with the reason.",
 )
 
 
@@ -98,4 +100,5 @@ def overview_of(file: "ElfFile") -> Overview:
         wx=any(flags & PF_W and flags & PF_X for flags in mapped),
         rpath=file._dynamic_text(DT_RPATH),
         runpath=file._dynamic_text(DT_RUNPATH),
+        loads=str(file.loads()),
     )

@@ -11,7 +11,8 @@ from ._archive import check, library
 from ._declarations import _document
 from ._numbers import unsigned
 from ._rows import NUMBER, Row, batches, one, rows
-from .constants import DT, PF, PF_R, PF_W, PF_X, PT, SHF, SHN, SHN_LORESERVE, SHN_UNDEF, SHT, STB, STT, STV
+from .constants import DT, EM_386, EM_AARCH64, EM_X86_64, PF, PF_R, PF_W, PF_X, PT, R_386, R_AARCH64, R_X86_64
+from .constants import SHF, SHN, SHN_LORESERVE, SHN_UNDEF, SHT, SHT_NOBITS, SHT_NULL, STB, STT, STV
 
 _Record = TypeVar("_Record", bound=Tuple[Any, ...])
 
@@ -69,12 +70,54 @@ class Symbol(declared.SymbolRecord):
 
 
 class Relocation(declared.RelocationRecord):
-    """A relocation. Its addend is a signed number of the width of the file's class, and 0 in a table without addends."""
+    """A relocation. Its addend is a signed number of the width of the file's class, and 0 in a table without addends. In a
+    file for x86-64, 386 or AArch64 its type has a name: `relocation.type == R_X86_64_RELATIVE`, `relocation.type.name`."""
 
     __slots__ = ()
 
     def __repr__(self) -> str:
         return f"<Relocation at {self.offset:#x} of type {self.type}, symbol {self.symbol}, addend {self.addend:#x}>"
+
+
+class RelocationX86_64(Relocation):
+    """A relocation for x86-64."""
+
+    __slots__ = ()
+
+    @property
+    def type(self) -> R_X86_64:
+        """How to compute the value that is stored (r_info)."""
+        return R_X86_64(self[3])
+
+
+class Relocation386(Relocation):
+    """A relocation for 386."""
+
+    __slots__ = ()
+
+    @property
+    def type(self) -> R_386:
+        """How to compute the value that is stored (r_info)."""
+        return R_386(self[3])
+
+
+class RelocationAArch64(Relocation):
+    """A relocation for AArch64."""
+
+    __slots__ = ()
+
+    @property
+    def type(self) -> R_AARCH64:
+        """How to compute the value that is stored (r_info)."""
+        return R_AARCH64(self[3])
+
+
+_OF_MACHINES = {EM_X86_64: RelocationX86_64, EM_386: Relocation386, EM_AARCH64: RelocationAArch64}
+
+
+def relocation_kind(file: Any) -> Type[Relocation]:
+    """The class of the relocations of a file."""
+    return _OF_MACHINES.get(file.header.machine, Relocation)
 
 
 class Dynamic(declared.DynamicRecord):
@@ -145,17 +188,18 @@ class Section(declared.SectionRecord):
         check(library.xmas_elf_check_section(*self.file._input, self.index))
 
     def data(self) -> memoryview:
-        """The data. An error for type SHT_NULL and for types that the reader doesn't know; for type SHT_NOBITS these bytes
-        belong to other sections, or to none."""
+        """The bytes in the file: none for types SHT_NOBITS and SHT_NULL. An error for types that the reader doesn't know."""
         offset, size = self._data_range()
         return self.file._view[offset : offset + size]
 
     def _data_range(self) -> Row:
+        if self.type in (SHT_NOBITS, SHT_NULL):
+            return 0, 0
         return self.file._asked("xmas_elf_section_data", declared.RANGE, self.index)
 
     def text(self, index: int) -> str:
         """The text that begins at an index of a string table, in bytes."""
-        return self.file._text(self.file._asked("xmas_elf_section_data", declared.RANGE, self.index), unsigned(index))
+        return self.file._text(self._data_range(), unsigned(index))
 
     def symbols(self) -> Iterator[Symbol]:
         """The symbols with their names, from index 0 on. An error if the section isn't a symbol table."""
@@ -171,7 +215,7 @@ class Section(declared.SectionRecord):
     def relocations(self) -> Iterator[Relocation]:
         """The relocations. An error if the section has none by its type."""
         layout = _RELOCATIONS[self.file.elfclass]
-        return _records(Relocation, "xmas_elf_relocations", layout, *self.file._input, self.index)
+        return _records(relocation_kind(self.file), "xmas_elf_relocations", layout, *self.file._input, self.index)
 
     def packed_relocations(self) -> Iterator[int]:
         """The addresses in the packed relative relocations. An error if the section isn't of type SHT_RELR."""

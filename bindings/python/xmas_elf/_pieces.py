@@ -89,7 +89,7 @@ def pieces_of(file: Any) -> Iterator[Piece]:
 
     count = sizes(None, 0, None, 0).words
     words = create_string_buffer(4 * count)
-    for begin, end, index, number in _stored(lambda pieces, room: sizes(words, count, pieces, room).count, count + 7):
+    for begin, end, index, number in _stored(lambda pieces, room: int(sizes(words, count, pieces, room).count), count + 7):
         owner = Owner(number)
         yield Piece(begin, end, owner, index if owner in (Owner.SECTION, Owner.SEGMENT) else None)
 
@@ -101,7 +101,7 @@ def symbol_pieces_of(file: Any, section: Section) -> Iterator[SymbolPiece]:
     index = file._address_index(section.index) if section.index else None
     if index is None:
         return iter([SymbolPiece(begin, end, None, None)] if begin < end else [])
-    found = _stored(lambda pieces, room: index.pieces(begin, end, pieces, room), 2 * index.sizes.sized_count + 1)
+    found = _stored(lambda pieces, room: int(index.pieces(begin, end, pieces, room)), 2 * index.sizes.sized_count + 1)
     return (
         SymbolPiece(first, last, number, index.symbol(number)) if owner == _SYMBOL else SymbolPiece(first, last, None, None)
         for first, last, number, owner in found

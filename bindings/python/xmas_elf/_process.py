@@ -2,12 +2,15 @@
 from __future__ import annotations
 
 from ctypes import byref, c_uint64
-from typing import Any, NamedTuple, Sequence
+from typing import Any, List, NamedTuple, Optional, Sequence
 
 from . import _declarations as declared
-from ._archive import check, library
-from ._declarations import _document
+from ._archive import ElfError, check, library
+from ._declarations import Status, _document
 from ._input import address_of, view_of
+from ._tables import relocations_of
+from ._versions import Version, VersionKind
+from .constants import EM_386, EM_X86_64, STB_LOCAL, STB_WEAK
 
 
 class LoadObject(NamedTuple):
@@ -53,12 +56,71 @@ def check_image(objects: Sequence[LoadObject], of: int, page: int = 0, limit: in
     """Raises if the words of the object at index `of` can't be written before the program runs."""
     span = objects[of].file.load_plan(page, limit).span
     marks = bytearray((span.end - span.start) // 8 + 1)
-    check(library.xmas_elf_check_image(*_Packed(objects).arguments, of, address_of(view_of(marks)), len(marks)))
+    check(library.xmas_elf_check_image(*_Packed(objects).arguments, of, page, limit, address_of(view_of(marks)), len(marks)))
 
 
-def relocate(objects: Sequence[LoadObject], of: int, image: bytearray, lazy: bool = False, page: int = 0) -> int:
+def relocate(objects: Sequence[LoadObject], of: int, image: bytearray, lazy: bool = False, page: int = 0, limit: int = 0) -> int:
     """Writes the words of the object at index `of` to its image, which `ElfFile.load_image` gave, and returns how many have no
-    number: what functions return, and descriptors of thread-local storage."""
+    number: what functions return, and descriptors of thread-local storage. The error LOAD_UNRESOLVED has the name of the
+    first symbol that is in no object."""
     packed, count = _Packed(objects), c_uint64()
-    check(library.xmas_elf_relocate(*packed.arguments, of, int(lazy), page, address_of(view_of(image)), len(image), byref(count)))
+    status = library.xmas_elf_relocate(*packed.arguments, of, int(lazy), page, limit, address_of(view_of(image)), len(image), byref(count))
+    if status == Status.LOAD_UNRESOLVED:
+        raise ElfError(status, _unresolved(objects, of))
+    check(status)
     return count.value
+
+
+def _is_in(file: Any, name: str, version: str) -> bool:
+    try:
+        return file._found(name, version) is not None
+    except ElfError:
+        return False
+
+
+def _unresolved(objects: Sequence[LoadObject], of: int) -> Optional[str]:
+    """The first symbol of the relocations of an object that is in none of the objects, with its version."""
+    file = objects[of].file
+    symbols = list(file.versioned_symbols())
+    for index in dict.fromkeys(it.symbol for it in relocations_of(file)):
+        symbol, version = symbols[index] if index < len(symbols) else (None, None)
+        if symbol is None or not symbol.name or symbol.binding in (STB_LOCAL, STB_WEAK):
+            continue
+        if not any(_is_in(it.file, symbol.name, _wanted(version)) for it in objects):
+            return f"{symbol.name}{version or ''}"
+    return None
+
+
+def _wanted(version: Optional[Version]) -> str:
+    return version.name or "" if version is not None and version.kind != VersionKind.UNNAMED else ""
+
+
+def with_thread_storage(objects: Sequence[LoadObject]) -> List[LoadObject]:
+    """The objects with the numbers that glibc on x86-64 and 386 gives the thread-local storage of those that it loads when a
+    program starts: modules in their order from 1 on, each at the first place below the thread pointer that it fits in."""
+    found, number, end, free, free_end = [], 0, 0, 0, 0
+    for it in objects:
+        if it.file.header.machine not in (EM_X86_64, EM_386):
+            raise ElfError(Status.LOAD_MACHINE)
+        tls = it.file.load_plan().tls
+        if tls is None:
+            found.append(it)
+            continue
+        size, align = tls.mem_size, max(tls.align, 1)
+        first = -tls.address % align
+        offset, is_between = _place(free, size, align, first), False
+        if offset <= free_end:
+            free, is_between = offset, True
+        if not is_between:
+            offset = _place(end, size, align, first)
+            if offset - size - end > free_end - free:
+                free, free_end = end, offset - size
+            end = offset
+        number += 1
+        found.append(it._replace(module=number, thread=-offset % (1 << 64)))
+    return found
+
+
+def _place(end: int, size: int, align: int, first: int) -> int:
+    """How far below an aligned address storage begins that ends at least so far below it, and has its aligned byte at `first`."""
+    return -(-(end + size - first) // align) * align + first

@@ -6,7 +6,7 @@ from typing import Any, Dict, Iterator, Tuple
 
 from ._archive import ElfError
 from ._declarations import Status
-from ._parts import Relocation
+from ._parts import Relocation, relocation_kind
 from .constants import DT_JMPREL, DT_NULL, DT_PLTREL, DT_PLTRELSZ, DT_REL, DT_RELA, DT_RELASZ, DT_RELR, DT_RELRSZ, DT_RELSZ
 
 
@@ -25,7 +25,7 @@ def _records(file: Any, values: Dict[int, int], tags: Tuple[int, int], format_64
     if tags[1] not in values:
         raise ElfError(Status.LINK_NO_ENTRY)
     layout = Struct(("<" if file.little_endian else ">") + (format_64 if file.elfclass == 64 else format_32))
-    data = bytes(file.bytes_at(values[tags[0]], values[tags[1]]))
+    data = bytes(file._stored_at(values[tags[0]], values[tags[1]]))
     if len(data) % layout.size:
         raise ElfError(Status.NOT_MULTIPLE)
     return layout.iter_unpack(data)
@@ -33,7 +33,7 @@ def _records(file: Any, values: Dict[int, int], tags: Tuple[int, int], format_64
 
 def relocations_of(file: Any) -> Iterator[Relocation]:
     """Those of the tables DT_RELA, DT_REL and DT_JMPREL, in this order."""
-    values = _entries(file)
+    values, kind_of_record = _entries(file), relocation_kind(file)
     bits = 32 if file.elfclass == 64 else 8
     tables = ((DT_RELA, DT_RELASZ, DT_RELA), (DT_REL, DT_RELSZ, DT_REL), (DT_JMPREL, DT_PLTRELSZ, values.get(DT_PLTREL)))
     for address, size, kind in tables:
@@ -41,7 +41,7 @@ def relocations_of(file: Any) -> Iterator[Relocation]:
             raise ElfError(Status.LINK_NO_ENTRY if kind is None else Status.LINK_RELOCATION_KIND)
         has_addend = kind == DT_RELA
         for offset, info, *addend in _records(file, values, (address, size), *(("QQq", "IIi") if has_addend else ("QQ", "II"))):
-            yield Relocation(offset, sum(addend), info >> bits, info & ((1 << bits) - 1), int(has_addend))
+            yield kind_of_record(offset, sum(addend), info >> bits, info & ((1 << bits) - 1), int(has_addend))
 
 
 def packed_relocations_of(file: Any) -> Iterator[int]:

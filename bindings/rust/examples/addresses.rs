@@ -7,7 +7,7 @@ fn list(path: &str, addresses: &[String]) -> Result<(), Box<dyn std::error::Erro
     let bytes = std::fs::read(path)?;
     let file = ElfFile::new(&bytes)?;
     let addresses = addresses.iter().map(|text| u64::from_str_radix(text, 16)).collect::<Result<Vec<u64>, _>>()?;
-    for found in file.symbol_map().symbols_at(&addresses) {
+    for found in file.symbol_map()?.symbols_at(&addresses) {
         match found {
             Some(symbol) => println!("{}+{:#x}", symbol.name().unwrap_or("?"), symbol.offset()),
             None => println!("?"),

@@ -67,9 +67,9 @@ fn print(bytes: &[u8], names: &[String]) -> Result<(), Error> {
     print_dynamic(&file)?;
     print_versions(&file)?;
     print_tables(&file)?;
-    for section in file.sections() {
-        let relocations = section.relocations().len() + section.packed_relocations().count();
-        println!("section {} {} {} {relocations}", section.index(), section.name().unwrap_or("?"), section.size);
+    for section in file.sections()? {
+        let relocations = section.relocations()?.len() + section.packed_relocations()?.count();
+        println!("section {} {} {} {relocations}", section.index(), section.name()?, section.size);
     }
     for wanted in names {
         let (name, version) = wanted.split_once('@').map_or((&**wanted, None), |(name, version)| (name, Some(version)));

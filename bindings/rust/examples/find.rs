@@ -42,7 +42,7 @@ fn main() -> ExitCode {
     match found {
         Ok(()) => ExitCode::SUCCESS,
         Err(error) => {
-            println!("{error}");
+            eprintln!("{path}: {error}");
             ExitCode::FAILURE
         }
     }

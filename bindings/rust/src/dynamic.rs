@@ -38,7 +38,7 @@ impl<'a> ElfFile<'a> {
     }
 
     // The text that the first dynamic entry with a tag names, if there is one.
-    fn dynamic_text(&self, tag: u64) -> Result<Option<&'a str>, Error> {
+    pub(crate) fn dynamic_text(&self, tag: u64) -> Result<Option<&'a str>, Error> {
         match one(|out| ffi::dynamic_texts(self.input, &self.header, tag, 0, out)) {
             Ok(name) => self.name_of(&name).map(Some),
             Err(Error::NoRecord | Error::LinkNoDynamic) => Ok(None),
@@ -49,22 +49,20 @@ impl<'a> ElfFile<'a> {
     /// The dynamic entries up to that of tag 0 (DT_NULL), which is the last: those of the section of type SHT_DYNAMIC, or
     /// else of the segment of type PT_DYNAMIC, which this crate reads itself. None if the file has neither.
     pub fn dynamic(&self) -> Result<impl Iterator<Item = Dynamic> + '_, Error> {
-        let section = self.sections().find(|section| section.type_ == SHT_DYNAMIC);
-        let segment = self.segments().find(|segment| section.is_none() && segment.type_ == PT_DYNAMIC);
+        let section = self.sections()?.find(|section| section.type_ == SHT_DYNAMIC);
+        let segment = self.segments()?.find(|segment| section.is_none() && segment.type_ == PT_DYNAMIC);
         let data = segment.map_or(Ok(&[][..]), |segment| segment.data())?;
         let width = if self.is_64() { 8 } else { 4 };
         if data.len() % (2 * width) != 0 {
             return Err(Error::NotMultiple);
         }
-        if let Some(section) = section {
-            begun(section.dynamic_from(0, &mut []).map(|count| count as u64))?;
-        }
+        let of_section = section.map(|section| section.dynamic()).transpose()?;
         let big = self.header.encoding == 2;
         let of_segment = data.chunks_exact(2 * width).map(move |entry| {
             let (tag, value) = entry.split_at(width);
             Dynamic { tag: number(tag, big), value: number(value, big) }
         });
-        let mut entries = section.into_iter().flat_map(|section| section.dynamic()).chain(of_segment);
+        let mut entries = of_section.into_iter().flatten().chain(of_segment);
         let mut is_last = false;
         Ok(core::iter::from_fn(move || {
             let entry = if is_last { None } else { entries.next() };
@@ -103,8 +101,9 @@ impl<'a> ElfFile<'a> {
         ffi::dynamic_symbols_open(self.input, &self.header)
     }
 
-    /// The symbol of the dynamic segment that `dlsym` gets by a name, which is that of the default version, or `dlvsym`
-    /// by a name and a version; none if there is none, or no dynamic segment. Each call counts the symbols anew.
+    /// The symbol of the dynamic segment that `dlsym` gets by a name, or `dlvsym` by a name and a version; none if there is
+    /// none, or no dynamic segment. Of several with the name it is the first without a version (of number 0 or 1), and else
+    /// that of the default version. Each call counts the symbols anew.
     pub fn find_symbol(&self, name: &str, version: Option<&str>) -> Result<Option<DynamicSymbol<'a>>, Error> {
         let version = version.unwrap_or_default();
         let said = match ffi::find_symbol(self.input, &self.header, name.as_bytes(), version.as_bytes()) {

@@ -88,10 +88,10 @@ extern "C" {
         loader: u32, first: u64, out: *mut Mapping, out_len: usize, count: *mut u64) -> u32;
     fn xmas_elf_load_image(input: *const u8, input_len: usize, header: *const Header, page: u64, limit: u64,
         loader: u32, image: *mut u8, image_len: usize) -> u32;
-    fn xmas_elf_check_image(objects: *const LoadObject<'_>, objects_len: usize, of: u64, marks: *mut u8,
-        marks_len: usize) -> u32;
+    fn xmas_elf_check_image(objects: *const LoadObject<'_>, objects_len: usize, of: u64, page: u64, limit: u64,
+        marks: *mut u8, marks_len: usize) -> u32;
     fn xmas_elf_relocate(objects: *const LoadObject<'_>, objects_len: usize, of: u64, lazy: u32, page: u64,
-        image: *mut u8, image_len: usize, count: *mut u64) -> u32;
+        limit: u64, image: *mut u8, image_len: usize, count: *mut u64) -> u32;
     fn xmas_elf_message(status: u32, out: *mut u8, out_len: usize) -> usize;
 }
 
@@ -190,10 +190,9 @@ pub(crate) fn section_data(input: &[u8], header: &Header, index: u64) -> Result<
 }
 
 /// The ranges of the names of sections from index `first` on, each with a status of its own, without the zero bytes
-/// that end them. They are UTF-8. `NullName` is for type SHT_NULL, which section 0 has, `InvalidShType` for a type
-/// that this reader does not know; `names` and `text` give the names of these too. The call gives as many names as
-/// `sections` gives headers. Errors: `NoRecord`. Errors of a record, in the order of the tests: `InvalidShType`,
-/// `NullName`, `ReservedIndex`, `ShortSectionHeader`, `ShortSectionOffset`, `TextStart`, `TextEnd`, `TextUtf8`.
+/// that end them. They are UTF-8. A section of any type has a name. The call gives as many names as `sections` gives
+/// headers. Errors: `NoRecord`. Errors of a record, in the order of the tests: `ReservedIndex`, `ShortSectionHeader`,
+/// `ShortSectionOffset`, `TextStart`, `TextEnd`, `TextUtf8`.
 pub(crate) fn section_names(input: &[u8], header: &Header, first: u64, out: &mut [Name]) -> Result<u64, Error> {
     let mut count = u64::default();
     // SAFETY: see the head of this file.
@@ -607,46 +606,52 @@ pub(crate) fn load_image(input: &[u8], header: &Header, page: u64, limit: u64, l
 /// Whether the words of the object at index `of` can be written before the program runs: the tables of its dynamic
 /// segment can be read, and each word that its relocations write is in the memory of one load segment, which is
 /// writable unless the file asks for writes elsewhere (DT_TEXTREL), and has no byte in common with one of these
-/// tables or with another word. Of the objects only the files are read. `marks` has at least a bit for each byte of
-/// the span of the object's plan: its size in bytes, divided by 8, and one more. What it holds before and after has
-/// no meaning. A call takes up to 64 objects; for more it returns `LoadImageSize`. It reads all files before it tests
-/// `of`, so `LinkObjectIndex` comes before errors of the files only where there is no object. Errors, in the order of
-/// the tests: `LinkObjectIndex`, `LoadImageSize`, `ShortPart1`, `NoMagic`, `InvalidClass`, `ShortHeaders`,
-/// `LinkNoDynamic`, `DataRange`, `NotMultiple`, `LinkNoEntry`, `LinkAddress`, `ShortData`, `LinkShortTable`,
-/// `LinkBloomCount`, `LinkChainIndex`, `LinkChainData`, `LinkSymbolIndex`, `LinkUnknownClass`, `LinkNotMultiple`,
-/// `LinkRelocationKind`, `SymbolIndex`, `HashData`, `ChainIndex`, `ChainSum`, `HashCycle`, `LinkShortVersion`,
-/// `LinkVersionCount`, `TextStart`, `TextEnd`, `TextUtf8`, `LoadDynamic`, `LoadNoEntry`, `LoadRelocationSize`,
-/// `LoadNotMultiple`, `LoadUnreadable`, `LoadSlotKind`, `LoadMachine`, `LoadFewMarks`, `LoadWordType`,
-/// `LoadWordAddress`, `LoadReadOnly`, `LoadWordsOverlap`, `LoadWordInTable`.
-pub(crate) fn check_image(objects: &[LoadObject<'_>], of: u64, marks: &mut [u8]) -> Result<(), Error> {
+/// tables or with another word. Of the objects only the files are read. `page` and `limit` are those of `load_plan`,
+/// which each file must pass. `marks` has at least a bit for each byte of the span of the object's plan: its size in
+/// bytes, divided by 8, and one more. What it holds before and after has no meaning. A call takes up to 64 objects;
+/// for more it returns `LoadImageSize`. It reads all files before it tests `of`, so `LinkObjectIndex` comes before
+/// errors of the files only where there is no object. Errors, in the order of the tests: `LinkObjectIndex`,
+/// `LoadImageSize`, `ShortPart1`, `NoMagic`, `InvalidClass`, `ShortHeaders`, `LinkNoDynamic`, `DataRange`,
+/// `NotMultiple`, `LinkNoEntry`, `LinkAddress`, `ShortData`, `LinkShortTable`, `LinkBloomCount`, `LinkChainIndex`,
+/// `LinkChainData`, `LinkSymbolIndex`, `LinkUnknownClass`, `LinkNotMultiple`, `LinkRelocationKind`, `SymbolIndex`,
+/// `HashData`, `ChainIndex`, `ChainSum`, `HashCycle`, `LinkShortVersion`, `LinkVersionCount`, `TextStart`, `TextEnd`,
+/// `TextUtf8`, `LoadType`, `LoadEntrySize`, `LoadCount`, `LoadTable`, `LoadFileSize`, `LoadEmpty`, `LoadMisaligned`,
+/// `LoadAlignment`, `LoadRange`, `LoadData`, `LoadOverlap`, `LoadZeros`, `LoadNoLoad`, `LoadHeaders`,
+/// `LoadInterpreter`, `LoadRelro`, `LoadTls`, `LoadDynamic`, `LoadNoEntry`, `LoadRelocationSize`, `LoadNotMultiple`,
+/// `LoadUnreadable`, `LoadSlotKind`, `LoadMachine`, `LoadFewMarks`, `LoadWordType`, `LoadWordAddress`,
+/// `LoadReadOnly`, `LoadWordsOverlap`, `LoadWordInTable`.
+pub(crate) fn check_image(objects: &[LoadObject<'_>], of: u64, page: u64, limit: u64,
+    marks: &mut [u8]) -> Result<(), Error> {
     // SAFETY: see the head of this file.
-    let status = unsafe { xmas_elf_check_image(objects.as_ptr(), objects.len(), of, marks.as_mut_ptr(), marks.len())
-        };
+    let status = unsafe { xmas_elf_check_image(objects.as_ptr(), objects.len(), of, page, limit, marks.as_mut_ptr(),
+        marks.len()) };
     answered(status, ())
 }
 
-/// Writes the words of the object at index `of` to `image`, which holds what `load_image` writes for a page of `page`
-/// bytes (0 means 4096). `count` is the number of words without a number, whose bytes stay as they are: what a
-/// function returns (the resolver of a symbol of type STT_GNU_IFUNC), and descriptors of thread-local storage. The
-/// caller must write these. `lazy` is 1 where jump slots get their symbols when a function is called first, and any
-/// other number where they get them now. Relocate an object whose bytes are copied (R_X86_64_COPY) before the one
-/// that they are copied to, and give it its image then; `image` shares no byte with the images of objects. If
-/// `check_image` is OK for the object, each byte is that of the one word over it, else that of the file. If a call is
-/// not OK, the words before the first that can't be written are written. A call takes up to 64 objects; for more it
-/// returns `LoadImageSize`. It reads all files before it tests `of` and the size of `image`, so `LinkObjectIndex` and
-/// `LoadImageSize` come before errors of the files only where there is no object or more than 64. It needs about 200
-/// KiB of stack. Errors, in the order of the tests: `LinkObjectIndex`, `LoadImageSize`, `ShortPart1`, `NoMagic`,
-/// `InvalidClass`, `ShortHeaders`, `LinkNoDynamic`, `DataRange`, `NotMultiple`, `LinkNoEntry`, `LinkAddress`,
-/// `ShortData`, `LinkShortTable`, `LinkBloomCount`, `LinkChainIndex`, `LinkChainData`, `LinkSymbolIndex`,
-/// `LinkUnknownClass`, `LinkNotMultiple`, `LinkRelocationKind`, `SymbolIndex`, `HashData`, `ChainIndex`, `ChainSum`,
-/// `HashCycle`, `LinkShortVersion`, `LinkVersionCount`, `TextStart`, `TextEnd`, `TextUtf8`, `LoadWordType`,
-/// `LoadUnresolved`, `LoadWordAddress`, `LoadCopySource`.
-pub(crate) fn relocate(objects: &[LoadObject<'_>], of: u64, lazy: u32, page: u64,
+/// Writes the words of the object at index `of` to `image`, which holds what `load_image` writes. `page` and `limit`
+/// are those of `load_plan`, which each file must pass. `count` is the number of words without a number, whose bytes
+/// stay as they are: what a function returns (the resolver of a symbol of type STT_GNU_IFUNC), and descriptors of
+/// thread-local storage. The caller must write these. `lazy` is 1 where jump slots get their symbols when a function
+/// is called first, and any other number where they get them now. Relocate an object whose bytes are copied
+/// (R_X86_64_COPY) before the one that they are copied to, and give it its image then; `image` shares no byte with
+/// the images of objects. If `check_image` is OK for the object, each byte is that of the one word over it, else that
+/// of the file. If a call is not OK, the words before the first that can't be written are written. A call takes up to
+/// 64 objects; for more it returns `LoadImageSize`. It reads all files before it tests `of` and the size of `image`,
+/// so `LinkObjectIndex` and `LoadImageSize` come before errors of the files only where there is no object or more
+/// than 64. It needs about 200 KiB of stack. Errors, in the order of the tests: `LinkObjectIndex`, `LoadImageSize`,
+/// `ShortPart1`, `NoMagic`, `InvalidClass`, `ShortHeaders`, `LinkNoDynamic`, `DataRange`, `NotMultiple`,
+/// `LinkNoEntry`, `LinkAddress`, `ShortData`, `LinkShortTable`, `LinkBloomCount`, `LinkChainIndex`, `LinkChainData`,
+/// `LinkSymbolIndex`, `LinkUnknownClass`, `LinkNotMultiple`, `LinkRelocationKind`, `SymbolIndex`, `HashData`,
+/// `ChainIndex`, `ChainSum`, `HashCycle`, `LinkShortVersion`, `LinkVersionCount`, `TextStart`, `TextEnd`, `TextUtf8`,
+/// `LoadType`, `LoadEntrySize`, `LoadCount`, `LoadTable`, `LoadFileSize`, `LoadEmpty`, `LoadMisaligned`,
+/// `LoadAlignment`, `LoadRange`, `LoadData`, `LoadOverlap`, `LoadZeros`, `LoadNoLoad`, `LoadHeaders`,
+/// `LoadInterpreter`, `LoadRelro`, `LoadTls`, `LoadWordType`, `LoadUnresolved`, `LoadWordAddress`, `LoadCopySource`.
+pub(crate) fn relocate(objects: &[LoadObject<'_>], of: u64, lazy: u32, page: u64, limit: u64,
     image: &mut [u8]) -> Result<u64, Error> {
     let mut count = u64::default();
     // SAFETY: see the head of this file.
-    let status = unsafe { xmas_elf_relocate(objects.as_ptr(), objects.len(), of, lazy, page, image.as_mut_ptr(),
-        image.len(), &mut count) };
+    let status = unsafe { xmas_elf_relocate(objects.as_ptr(), objects.len(), of, lazy, page, limit,
+        image.as_mut_ptr(), image.len(), &mut count) };
     answered(status, count)
 }
 

@@ -4,7 +4,7 @@ use crate::batch::{one, Batch};
 use crate::ffi;
 #[cfg(feature = "alloc")]
 use crate::SymbolMap;
-use crate::constants::SHT_RELA;
+use crate::constants::{SHT_NOBITS, SHT_NULL, SHT_RELA};
 use crate::{ByteRange, Dynamic, ElfFile, Entry, Error, HashTable, Name, Notes, ProgramHeader, Relocation, SectionHeader, Symbol, SymbolTable, Symbols};
 use core::fmt;
 use core::ops::Deref;
@@ -49,18 +49,20 @@ impl<'f, 'a> Section<'f, 'a> {
         Ok(self.file.text(ffi::text(self.file.input, &names, u64::from(self.header.name))?))
     }
 
-    /// The data of the section. An error for type Null and for types that the reader doesn't know; for type NoBits
-    /// these bytes belong to other sections, or to none.
+    /// The bytes of the section in the file: none for types NoBits and Null. An error for types that the reader doesn't know.
     pub fn data(&self) -> Result<&'a [u8], Error> {
         Ok(self.file.bytes(self.data_range()?))
     }
 
     fn data_range(&self) -> Result<ByteRange, Error> {
+        if [SHT_NULL, SHT_NOBITS].contains(&self.header.type_) {
+            return Ok(ByteRange::default());
+        }
         ffi::section_data(self.file.input, &self.file.header, self.index)
     }
 
-    /// The symbols of the section, from index 0 on; none where it holds others.
-    pub fn symbols(&self) -> Symbols<'f, 'a> {
+    /// The symbols of the section, from index 0 on; none if it has other data. An error if the table can't be read.
+    pub fn symbols(&self) -> Result<Symbols<'f, 'a>, Error> {
         Symbols::new(self.file, self.index)
     }
 
@@ -88,7 +90,7 @@ impl<'f, 'a> Section<'f, 'a> {
 
     /// The symbols that name addresses in this section of an object file (ET_REL), whose values are offsets in it.
     #[cfg(feature = "alloc")]
-    pub fn symbol_map(&self) -> SymbolMap<'f, 'a> {
+    pub fn symbol_map(&self) -> Result<SymbolMap<'f, 'a>, Error> {
         SymbolMap::new(self.file, self.within())
     }
 
@@ -104,18 +106,21 @@ impl<'f, 'a> Section<'f, 'a> {
         HashTable::new(self.file, self.index, &self.header)
     }
 
-    // How many records of so many bytes the data of the section is, where a call for none of them, `begun`, is Ok. In class
-    // 32 each number has half its size.
-    fn count_of(&self, begun: Result<usize, Error>, size: u64) -> u64 {
+    // How many records of so many bytes the data of the section is, by what a call for none of them returned; none of other
+    // data. In class 32 each number has half its size.
+    fn count_of(&self, said: Result<usize, Error>, size: u64) -> Result<u64, Error> {
         let size = if self.file.is_64() { size } else { size / 2 };
-        begun.and_then(|_| self.data_range()).map_or(0, |data| data.size / size)
+        if unless_other(said)?.is_none() {
+            return Ok(0);
+        }
+        Ok(self.data_range()?.size / size)
     }
 
-    /// The relocations of the section; none where it holds others.
-    pub fn relocations(&self) -> impl ExactSizeIterator<Item = Relocation> + 'f {
+    /// The relocations of the section; none if it has other data. An error if the table can't be read.
+    pub fn relocations(&self) -> Result<impl ExactSizeIterator<Item = Relocation> + 'f, Error> {
         let (file, section) = (self.file, self.index);
-        let count = self.count_of(self.relocations_from(0, &mut []), if self.header.type_ == SHT_RELA { 24 } else { 16 });
-        Batch::<Relocation, 64>::counted(count, move |first, out| ffi::relocations(file.input, &file.header, section, first, out))
+        let count = self.count_of(self.relocations_from(0, &mut []), if self.header.type_ == SHT_RELA { 24 } else { 16 })?;
+        Ok(Batch::<Relocation, 64>::counted(count, move |first, out| ffi::relocations(file.input, &file.header, section, first, out)))
     }
 
     /// The relocation at an index; an error if the section has none there.
@@ -129,17 +134,20 @@ impl<'f, 'a> Section<'f, 'a> {
         ffi::relocations(self.file.input, &self.file.header, self.index, first, out).map(|count| count as usize)
     }
 
-    /// The addresses in the packed relative relocations of the section; none where it is of another type than SHT_RELR (19).
-    pub fn packed_relocations(&self) -> impl Iterator<Item = u64> + 'f {
+    /// The addresses in the packed relative relocations of the section; none if it is of another type than SHT_RELR (19). An
+    /// error if they can't be read.
+    pub fn packed_relocations(&self) -> Result<impl Iterator<Item = u64> + 'f, Error> {
         let (file, section) = (self.file, self.index);
-        Batch::<u64, 64>::items(move |first, out| ffi::packed_relocations(file.input, &file.header, section, first, out))
+        unless_other(ffi::packed_relocations(file.input, &file.header, section, 0, &mut []))?;
+        Ok(Batch::<u64, 64>::items(move |first, out| ffi::packed_relocations(file.input, &file.header, section, first, out)))
     }
 
-    /// The dynamic entries of the section, those after the entry of tag 0 too; none if it has other data.
-    pub fn dynamic(&self) -> impl ExactSizeIterator<Item = Dynamic> + 'f {
+    /// The dynamic entries of the section, those after the entry of tag 0 too; none if it has other data. An error if the
+    /// table can't be read.
+    pub fn dynamic(&self) -> Result<impl ExactSizeIterator<Item = Dynamic> + 'f, Error> {
         let (file, section) = (self.file, self.index);
-        let count = self.count_of(self.dynamic_from(0, &mut []), 16);
-        Batch::<Dynamic, 32>::counted(count, move |first, out| ffi::dynamics(file.input, &file.header, section, first, out))
+        let count = self.count_of(self.dynamic_from(0, &mut []), 16)?;
+        Ok(Batch::<Dynamic, 32>::counted(count, move |first, out| ffi::dynamics(file.input, &file.header, section, first, out)))
     }
 
     /// The dynamic entry at an index; an error if the section has none there.
@@ -155,12 +163,21 @@ impl<'f, 'a> Section<'f, 'a> {
 
     /// The text that begins at an index of the data of the section, in bytes, as of a string table.
     pub fn text(&self, index: u64) -> Result<&'a str, Error> {
-        Ok(self.file.text(ffi::text(self.file.input, &ffi::section_data(self.file.input, &self.file.header, self.index)?, index)?))
+        Ok(self.file.text(ffi::text(self.file.input, &self.data_range()?, index)?))
     }
 
     /// The notes that the data of the section is.
     pub fn notes(&self) -> Result<Notes<'f, 'a>, Error> {
         Ok(Notes::new(self.file, self.data_range()?, self.header.align))
+    }
+}
+
+// What a call for records of a section returned; none if the section has other data, by its type.
+pub(crate) fn unless_other<T>(said: Result<T, Error>) -> Result<Option<T>, Error> {
+    match said {
+        Ok(found) => Ok(Some(found)),
+        Err(Error::OtherData | Error::InvalidShType | Error::NoRecord) => Ok(None),
+        Err(error) => Err(error),
     }
 }
 
@@ -197,7 +214,7 @@ impl fmt::Debug for Sections<'_, '_> {
 
 impl<'f, 'a> Sections<'f, 'a> {
     pub(crate) fn new(file: &'f ElfFile<'a>) -> Sections<'f, 'a> {
-        let count = readable(file.section_count(), |index| file.section(index).is_ok());
+        let count = readable(file.section_count().unwrap_or(0), |index| file.section(index).is_ok());
         Sections { file, count, batch: Batch::new() }
     }
 }
@@ -235,7 +252,7 @@ impl fmt::Debug for Segments<'_, '_> {
 
 impl<'f, 'a> Segments<'f, 'a> {
     pub(crate) fn new(file: &'f ElfFile<'a>) -> Segments<'f, 'a> {
-        let count = readable(file.segment_count().into(), |index| file.segment(index as u32).is_ok());
+        let count = readable(file.segment_count().unwrap_or(0).into(), |index| file.segment(index as u32).is_ok());
         Segments { file, count, batch: Batch::new() }
     }
 }

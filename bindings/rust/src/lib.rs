@@ -11,9 +11,9 @@
 //! # fn main() -> Result<(), xmas_elf_proved::Error> {
 //! let bytes = std::fs::read("/proc/self/exe").unwrap_or_default();
 //! let file = xmas_elf_proved::ElfFile::new(&bytes)?;
-//! for section in file.sections() {
-//!     for symbol in section.symbols() {
-//!         println!("{:016x} {}", symbol.value, symbol.name().unwrap_or(""));
+//! for section in file.sections()? {
+//!     for symbol in section.symbols()? {
+//!         println!("{:016x} {}", symbol.value, symbol.name()?);
 //!     }
 //! }
 //! if let Some(symbol) = file.find_symbol("main", None)? {
@@ -39,6 +39,7 @@ mod error;
 // The calls of the archive, and nothing else: slices and texts are taken by safe code. Some serve tests alone.
 #[allow(unsafe_code, dead_code)]
 mod ffi;
+mod hardening;
 mod hash;
 pub mod header;
 mod items;
@@ -65,6 +66,9 @@ mod versions;
 use batch::one;
 
 pub use error::Error;
+pub use hardening::{Hardening, Pie, Relro};
+#[cfg(feature = "alloc")]
+pub use hardening::Fortified;
 pub use hash::HashTable;
 pub use items::{Section, Sections, Segment, Segments};
 pub use load_plan::{Contents, LoadPlan, Loader};
@@ -111,7 +115,8 @@ impl<'a> ElfFile<'a> {
         &self.header
     }
 
-    /// Whether the header makes sense over the input.
+    /// Whether the header makes sense over the input: its size, class, version and byte order, and whether the tables of
+    /// headers end inside the input. It doesn't read the tables.
     pub fn check_header(&self) -> Result<(), Error> {
         ffi::check_header(self.input, &self.header)
     }
@@ -121,14 +126,14 @@ impl<'a> ElfFile<'a> {
         self.header.class == 2
     }
 
-    /// How many sections the file has.
-    pub fn section_count(&self) -> u64 {
-        ffi::counts(self.input, &self.header).map_or(0, |counts| counts.sections)
+    /// How many sections the file says that it has.
+    pub fn section_count(&self) -> Result<u64, Error> {
+        Ok(ffi::counts(self.input, &self.header)?.sections)
     }
 
-    /// How many segments the file has.
-    pub fn segment_count(&self) -> u32 {
-        ffi::counts(self.input, &self.header).map_or(0, |counts| counts.segments)
+    /// How many segments the file says that it has.
+    pub fn segment_count(&self) -> Result<u32, Error> {
+        Ok(ffi::counts(self.input, &self.header)?.segments)
     }
 
     /// The section at an index.
@@ -136,8 +141,17 @@ impl<'a> ElfFile<'a> {
         Ok(Section { file: self, index, header: ffi::section(self.input, &self.header, index)? })
     }
 
-    /// The sections in order, up to their count or the first that can't be read: then fewer than `section_count` says.
-    pub fn sections(&self) -> Sections<'_, 'a> {
+    /// The sections in order. An error if one of them can't be read.
+    pub fn sections(&self) -> Result<Sections<'_, 'a>, Error> {
+        let (count, sections) = (self.section_count()?, self.readable_sections());
+        let first_cut = sections.len() as u64;
+        // A count that needs more than 16 bits is in the header of section 0, which may be missing.
+        let is_whole = first_cut == count && (count > 0 || self.header.sh_offset == 0);
+        if is_whole { Ok(sections) } else { self.section(first_cut).map(|_| sections) }
+    }
+
+    /// The sections in order, up to the first that can't be read: of a damaged file, fewer than `section_count` says.
+    pub fn readable_sections(&self) -> Sections<'_, 'a> {
         Sections::new(self)
     }
 
@@ -159,23 +173,28 @@ impl<'a> ElfFile<'a> {
         Ok(self.text(name.range()?))
     }
 
-    /// The first section with this name.
-    pub fn section_by_name(&self, name: &str) -> Option<Section<'_, 'a>> {
-        self.section(self.section_index_by_name(name)?).ok()
+    /// The first section with this name, if there is one. An error if there is none and a section can't be read.
+    pub fn section_by_name(&self, name: &str) -> Result<Option<Section<'_, 'a>>, Error> {
+        self.section_index_by_name(name)?.map(|index| self.section(index)).transpose()
     }
 
-    /// The index of the first section with this name, whatever its type but Null.
-    pub fn section_index_by_name(&self, name: &str) -> Option<u64> {
+    /// The index of the first section with this name, whatever its type but Null, if there is one.
+    pub fn section_index_by_name(&self, name: &str) -> Result<Option<u64>, Error> {
         let known = ffi::find_section_index(self.input, &self.header, name.as_bytes()).ok();
         // The archive finds no section of a type that it doesn't know.
         let of_other_type = |section: &Section<'_, 'a>| !matches!(section.get_type(), Ok(known) if known != sections::ShType::Relr);
-        let other = self.sections().find(|section| of_other_type(section) && section.name() == Ok(name)).map(|section| section.index());
-        known.into_iter().chain(other).min()
+        let is_named = |section: &Section<'_, 'a>| of_other_type(section) && section.name() == Ok(name);
+        let other = self.readable_sections().find(is_named).map(|section| section.index());
+        match known.into_iter().chain(other).min() {
+            Some(index) => Ok(Some(index)),
+            None if self.sections()?.len() == 0 => Ok(None),
+            None => ffi::names(self.input, &self.header).map(|_| None),
+        }
     }
 
-    /// The header of the first section with this name.
+    /// The header of the first section with this name; the error is `NotFound` if there is none.
     pub fn section_header_by_name(&self, name: &str) -> Result<SectionHeader, Error> {
-        self.section_by_name(name).map(|section| *section).ok_or(Error::NotFound)
+        self.section_by_name(name)?.map(|section| *section).ok_or(Error::NotFound)
     }
 
     /// The index of the section with the names of sections; an error if the file names none.
@@ -188,8 +207,15 @@ impl<'a> ElfFile<'a> {
         Ok(Segment { file: self, index, header: ffi::segment(self.input, &self.header, index)? })
     }
 
-    /// The segments in order, up to their count or the first that can't be read: then fewer than `segment_count` says.
-    pub fn segments(&self) -> Segments<'_, 'a> {
+    /// The segments in order. An error if one of them can't be read.
+    pub fn segments(&self) -> Result<Segments<'_, 'a>, Error> {
+        let (count, segments) = (self.segment_count()?, self.readable_segments());
+        let first_cut = segments.len() as u32;
+        if first_cut == count { Ok(segments) } else { self.segment(first_cut).map(|_| segments) }
+    }
+
+    /// The segments in order, up to the first that can't be read: of a damaged file, fewer than `segment_count` says.
+    pub fn readable_segments(&self) -> Segments<'_, 'a> {
         Segments::new(self)
     }
 
@@ -217,15 +243,16 @@ impl<'a> ElfFile<'a> {
     }
 
     /// The first hash table of symbols among the sections: GNU's, or else the gABI's.
-    pub fn hash_table(&self) -> Option<HashTable<'_, 'a>> {
-        let first = |gnu| self.sections().filter_map(|section| section.hash_table()).find(|table| table.is_gnu() == gnu);
-        first(true).or_else(|| first(false))
+    pub fn hash_table(&self) -> Result<Option<HashTable<'_, 'a>>, Error> {
+        let sections = self.sections()?;
+        let first = |gnu| sections.clone().filter_map(|section| section.hash_table()).find(|table| table.is_gnu() == gnu);
+        Ok(first(true).or_else(|| first(false)))
     }
 
     /// The symbols of the file by their addresses: an index that is built once for many addresses. It allocates 8 bytes for
     /// each of them. In an object file (ET_REL) values are offsets in sections: see [`Section::symbol_map`].
     #[cfg(feature = "alloc")]
-    pub fn symbol_map(&self) -> SymbolMap<'_, 'a> {
+    pub fn symbol_map(&self) -> Result<SymbolMap<'_, 'a>, Error> {
         SymbolMap::new(self, 0)
     }
 

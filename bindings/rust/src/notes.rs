@@ -73,18 +73,20 @@ fn each<'f, 'a: 'f>(notes: Result<Notes<'f, 'a>, Error>) -> impl Iterator<Item =
 
 impl<'a> ElfFile<'a> {
     /// The notes of all sections of type SHT_NOTE; of a file without such sections, of all segments of type PT_NOTE. An
-    /// item is an error where a part holds no whole note.
+    /// item is an error where a part holds no whole note, or a header can't be read.
     pub fn notes(&self) -> impl Iterator<Item = Result<Note<'a>, Error>> + '_ {
-        let has_sections = self.sections().any(|section| section.type_ == SHT_NOTE);
+        let has_sections = self.readable_sections().any(|section| section.type_ == SHT_NOTE);
         self.notes_of_sections().chain(self.notes_of_segments().filter(move |_| !has_sections))
     }
 
     fn notes_of_sections(&self) -> impl Iterator<Item = Result<Note<'a>, Error>> + '_ {
-        self.sections().filter(|section| section.type_ == SHT_NOTE).flat_map(|section| each(section.notes()))
+        let notes = self.readable_sections().filter(|section| section.type_ == SHT_NOTE).flat_map(|section| each(section.notes()));
+        notes.chain(self.sections().err().map(Err))
     }
 
     fn notes_of_segments(&self) -> impl Iterator<Item = Result<Note<'a>, Error>> + '_ {
-        self.segments().filter(|segment| segment.type_ == PT_NOTE).flat_map(|segment| each(segment.notes()))
+        let notes = self.readable_segments().filter(|segment| segment.type_ == PT_NOTE).flat_map(|segment| each(segment.notes()));
+        notes.chain(self.segments().err().map(Err))
     }
 
     /// The build id, if the file has one: the description of the first note of GNU with type 3 in the sections of type

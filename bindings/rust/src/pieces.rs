@@ -95,18 +95,17 @@ impl<'a> ElfFile<'a> {
 impl<'f, 'a> Section<'f, 'a> {
     /// Which addresses of the section belong to which symbol: that of [`crate::SymbolMap::symbol_at`], of the symbols of the
     /// section, if its size is not 0. Every address is in exactly one piece. It allocates 8 bytes for each symbol of the
-    /// section, and 32 for each piece.
-    pub fn symbol_pieces(&self) -> impl ExactSizeIterator<Item = SymbolPiece<'a>> + 'f {
+    /// section, and 32 for each piece. An error if the symbols can't be read; of a file without symbols all is in none.
+    pub fn symbol_pieces(&self) -> Result<impl ExactSizeIterator<Item = SymbolPiece<'a>> + 'f, Error> {
         let file = self.file;
         let begin = if file.header.type_ == ET_REL { 0 } else { self.header.address };
         let end = begin.saturating_add(self.header.size);
-        // A file without symbols has an index of none.
-        let index = asked_index(file, self.within()).unwrap_or_default();
+        let index = asked_index(file, self.within())?;
         let mut words = vec![0; index.words as usize];
         let found = stored(words.len() + 1, |out| ffi::symbol_pieces(file.input, &index, begin, end, 0, &mut words, out));
-        found.into_iter().map(move |piece| {
+        Ok(found.into_iter().map(move |piece| {
             let symbol = if piece.owner == SYMBOL { Symbol::of_table(file, &index.table, piece.index).ok() } else { None };
             SymbolPiece { begin: piece.begin, end: piece.end, symbol }
-        })
+        }))
     }
 }

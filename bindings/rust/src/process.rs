@@ -34,15 +34,16 @@ impl<'a> LoadObject<'a> {
     }
 }
 
-/// Checks that the words of the object at index `of` can be written before the program runs. `marks` has a bit for each byte of the
-/// span of its plan: so many bytes as an eighth of them, and one more.
-pub fn check_image(objects: &[LoadObject<'_>], of: usize, marks: &mut [u8]) -> Result<(), Error> {
-    ffi::check_image(objects, of as u64, marks)
+/// Checks that the words of the object at index `of` can be written before the program runs. Each file must have a plan for this
+/// page size and limit, of which 0 are those of Linux. `marks` has a bit for each byte of the span of its plan: so many bytes as an
+/// eighth of them, and one more.
+pub fn check_image(objects: &[LoadObject<'_>], of: usize, page: u64, limit: u64, marks: &mut [u8]) -> Result<(), Error> {
+    ffi::check_image(objects, of as u64, page, limit, marks)
 }
 
-/// Writes the words of the object at index `of` to its image, which [`LoadPlan::fill`](crate::LoadPlan::fill) filled for pages of
-/// `page` bytes. The result is the number of words without a number, which are left to the caller: results of functions, and
-/// descriptors of thread-local storage.
-pub fn relocate(objects: &[LoadObject<'_>], of: usize, when: Binding, page: u64, image: &mut [u8]) -> Result<u64, Error> {
-    ffi::relocate(objects, of as u64, u32::from(when == Binding::Lazy), page, image)
+/// Writes the words of the object at index `of` to its image, which [`LoadPlan::fill`](crate::LoadPlan::fill) filled. Each file must
+/// have a plan for this page size and limit, of which 0 are those of Linux. The result is the number of words without a number, which
+/// are left to the caller: results of functions, and descriptors of thread-local storage.
+pub fn relocate(objects: &[LoadObject<'_>], of: usize, when: Binding, page: u64, limit: u64, image: &mut [u8]) -> Result<u64, Error> {
+    ffi::relocate(objects, of as u64, u32::from(when == Binding::Lazy), page, limit, image)
 }

@@ -1,7 +1,7 @@
 //! The relocations of a file: those of its sections, or else those of the dynamic segment, which this crate reads itself.
 
 use crate::constants::{DT_JMPREL, DT_PLTREL, DT_PLTRELSZ, DT_REL, DT_RELA, DT_RELASZ, DT_RELR, DT_RELRSZ, DT_RELSZ, SHT_REL, SHT_RELA, SHT_RELR};
-use crate::dynamic::{begun, number};
+use crate::dynamic::number;
 use crate::{ElfFile, Error, Relocation};
 
 // The bytes of a table of the dynamic segment, and the numbers in it.
@@ -57,19 +57,21 @@ impl<'a> ElfFile<'a> {
     /// `link`. Of a file without such sections those of the dynamic segment (DT_RELA, DT_REL, DT_JMPREL), whose symbols are
     /// [`ElfFile::dynamic_symbols`].
     pub fn relocations(&self) -> Result<impl Iterator<Item = Relocation> + '_, Error> {
-        let tables = || self.sections().filter(|section| [SHT_RELA, SHT_REL].contains(&section.type_));
-        tables().try_for_each(|section| begun(section.relocations_from(0, &mut []).map(|count| count as u64)))?;
-        let of_segment = if tables().next().is_some() { [Table::default(); 3] } else { self.relocation_tables()? };
-        let of_sections = tables().flat_map(|section| section.relocations());
+        let tables = self.sections()?.filter(|section| [SHT_RELA, SHT_REL].contains(&section.type_));
+        tables.clone().try_for_each(|section| section.relocations().map(|_| ()))?;
+        let of_segment = if tables.clone().next().is_some() { [Table::default(); 3] } else { self.relocation_tables()? };
+        // Each table was read above.
+        let of_sections = tables.flat_map(|section| section.relocations().into_iter().flatten());
         Ok(of_sections.chain(of_segment.into_iter().flat_map(|table| table.relocations())))
     }
 
     /// The addresses in the packed relative relocations of all sections of type SHT_RELR; of a file without such sections
     /// those of the dynamic segment (DT_RELR).
     pub fn packed_relocations(&self) -> Result<impl Iterator<Item = u64> + '_, Error> {
-        let tables = || self.sections().filter(|section| section.type_ == SHT_RELR);
-        let of_segment = if tables().next().is_some() { Table::default() } else { self.table(DT_RELR, DT_RELRSZ, 1)? };
-        Ok(tables().flat_map(|section| section.packed_relocations()).chain(of_segment.addresses()))
+        let tables = self.sections()?.filter(|section| section.type_ == SHT_RELR);
+        tables.clone().try_for_each(|section| section.packed_relocations().map(|_| ()))?;
+        let of_segment = if tables.clone().next().is_some() { Table::default() } else { self.table(DT_RELR, DT_RELRSZ, 1)? };
+        Ok(tables.flat_map(|section| section.packed_relocations().into_iter().flatten()).chain(of_segment.addresses()))
     }
 
     fn relocation_tables(&self) -> Result<[Table<'a>; 3], Error> {

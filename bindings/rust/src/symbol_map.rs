@@ -48,41 +48,53 @@ impl core::fmt::Debug for SymbolMap<'_, '_> {
 }
 
 // The section with the symbols of a file, if there is one.
-fn section_with_symbols<'f, 'a>(file: &'f ElfFile<'a>) -> Option<Section<'f, 'a>> {
-    let of_type = |type_| file.sections().find(|section| section.type_ == type_);
-    of_type(SHT_SYMTAB).or_else(|| of_type(SHT_DYNSYM))
+fn section_with_symbols<'f, 'a>(file: &'f ElfFile<'a>) -> Result<Option<Section<'f, 'a>>, Error> {
+    let sections = file.sections()?;
+    let of_type = |type_| sections.clone().find(|section| section.type_ == type_);
+    Ok(of_type(SHT_SYMTAB).or_else(|| of_type(SHT_DYNSYM)))
 }
 
-fn table_of(file: &ElfFile<'_>, section: Option<Section<'_, '_>>) -> Result<SymbolTable, Error> {
-    section.map_or_else(|| file.dynamic_symbol_table(), |section| section.symbol_table())
+// The table of the symbols of a section, or else of the dynamic segment; none if the file has neither.
+fn table_of(file: &ElfFile<'_>, section: Option<Section<'_, '_>>) -> Result<Option<SymbolTable>, Error> {
+    match section.map_or_else(|| file.dynamic_symbol_table(), |section| section.symbol_table()) {
+        Ok(table) => Ok(Some(table)),
+        Err(Error::LinkNoDynamic) => Ok(None),
+        Err(error) => Err(error),
+    }
 }
 
 // The range of the section indices that need more than 16 bits.
 fn indices_of(file: &ElfFile<'_>, section: Option<Section<'_, '_>>) -> ByteRange {
-    let of = |symbols: &Section<'_, '_>| file.sections().find(|one| one.type_ == SHT_SYMTAB_SHNDX && u64::from(one.link) == symbols.index());
-    let found = section.as_ref().and_then(of);
+    let is_of = |one: &Section<'_, '_>, symbols: &Section<'_, '_>| one.type_ == SHT_SYMTAB_SHNDX && u64::from(one.link) == symbols.index();
+    let found = section.and_then(|symbols| file.readable_sections().find(|one| is_of(one, &symbols)));
     found.map_or(ByteRange::default(), |indices| ByteRange { offset: indices.offset, size: indices.size })
 }
 
-// The symbols of a file, or of one of its sections alone, and the number of words that an index of them takes.
+// The symbols of a file, or of one of its sections alone, and the number of words that an index of them takes; none if the file
+// has no symbols.
 pub(crate) fn asked_index(file: &ElfFile<'_>, within: u32) -> Result<AddressIndex, Error> {
-    let section = section_with_symbols(file);
-    let (table, indices) = (table_of(file, section)?, indices_of(file, section));
-    ffi::address_index(file.input(), file.header(), &table, &indices, within, &mut [])
+    let section = section_with_symbols(file)?;
+    let Some(table) = table_of(file, section)? else {
+        return Ok(AddressIndex::default());
+    };
+    ffi::address_index(file.input(), file.header(), &table, &indices_of(file, section), within, &mut [])
 }
 
 // The index of these symbols, with its words.
 fn index_of(file: &ElfFile<'_>, within: u32) -> Result<(AddressIndex, Vec<u32>), Error> {
     let asked = asked_index(file, within)?;
+    if asked == AddressIndex::default() {
+        return Ok((asked, Vec::new()));
+    }
     let mut words = vec![0; asked.words as usize];
     let index = ffi::address_index(file.input(), file.header(), &asked.table, &asked.indices, within, &mut words)?;
     Ok((index, words))
 }
 
 impl<'f, 'a> SymbolMap<'f, 'a> {
-    pub(crate) fn new(file: &'f ElfFile<'a>, within: u32) -> SymbolMap<'f, 'a> {
-        let (index, words) = index_of(file, within).unwrap_or_default();
-        SymbolMap { file, index, words }
+    pub(crate) fn new(file: &'f ElfFile<'a>, within: u32) -> Result<SymbolMap<'f, 'a>, Error> {
+        let (index, words) = index_of(file, within)?;
+        Ok(SymbolMap { file, index, words })
     }
 
     /// The number of symbols in the map.

@@ -1,6 +1,7 @@
 //! The symbols of a section.
 
 use crate::batch::Batch;
+use crate::items::unless_other;
 use crate::ranges::checked;
 use crate::{ffi, ByteRange, ElfFile, Entry, Error, SymbolTable};
 use core::fmt;
@@ -78,10 +79,9 @@ pub struct Symbols<'f, 'a> {
 }
 
 impl<'f, 'a> Symbols<'f, 'a> {
-    pub(crate) fn new(file: &'f ElfFile<'a>, section: u64) -> Symbols<'f, 'a> {
-        // A section with other data has none.
-        let table = ffi::symbols_open(file.input, &file.header, section).unwrap_or_default();
-        Symbols { file, table, strings: strings_of(file, &table), batch: Batch::new() }
+    pub(crate) fn new(file: &'f ElfFile<'a>, section: u64) -> Result<Symbols<'f, 'a>, Error> {
+        let table = unless_other(ffi::symbols_open(file.input, &file.header, section))?.unwrap_or_default();
+        Ok(Symbols { file, table, strings: strings_of(file, &table), batch: Batch::new() })
     }
 }
 

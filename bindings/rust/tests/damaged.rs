@@ -47,26 +47,28 @@ fn visit_section_names(file: &ElfFile<'_>) {
     let mut names = [Name::default(); 9];
     for first in [0, 1, 5, u64::MAX] {
         let count = file.section_names_from(first, &mut names).unwrap_or(0);
-        let left = usize::try_from(first).map_or(0, |first| file.sections().skip(first).take(9).count());
+        let left = usize::try_from(first).map_or(0, |first| file.readable_sections().skip(first).take(9).count());
         assert_eq!(count, left);
         for (place, name) in names.iter().take(count).enumerate() {
             let section = file.section(first + place as u64).expect("a section with a name");
-            // These are names for their types.
-            let by_type = [Err(Error::NullName), Err(Error::InvalidShType)].contains(&file.name_of(name));
-            assert!(by_type || file.name_of(name) == section.name());
+            assert_eq!(file.name_of(name), section.name());
         }
     }
-    let read = (0..file.section_count()).map_while(|index| file.section(index).ok()).take(200);
-    assert!(read.zip(file.sections()).all(|(one, of_many)| one.index() == of_many.index() && one.offset == of_many.offset));
+    let read = (0..file.section_count().unwrap_or(0)).map_while(|index| file.section(index).ok()).take(200);
+    assert!(read.zip(file.readable_sections()).all(|(one, of_many)| one.index() == of_many.index() && one.offset == of_many.offset));
     let mut headers = [SectionHeader::default(); 3];
-    assert_eq!(file.sections_from(0, &mut headers).unwrap_or(0), file.sections().take(3).count());
-    assert_eq!(file.section_names_from(0, &mut []).is_ok(), file.sections().next().is_some());
-    assert_eq!(file.sections().len(), file.sections().count());
-    for section in file.sections().filter(|section| section.type_ != SHT_NULL).take(200) {
+    assert_eq!(file.sections_from(0, &mut headers).unwrap_or(0), file.readable_sections().take(3).count());
+    assert_eq!(file.section_names_from(0, &mut []).is_ok(), file.readable_sections().next().is_some());
+    assert_eq!(file.readable_sections().len(), file.readable_sections().count());
+    // A table that is cut off is an error of the call for all.
+    let is_whole = file.section_count() == Ok(file.readable_sections().len() as u64)
+        && (file.readable_sections().len() > 0 || file.header().sh_offset == 0 || file.section(0).is_ok());
+    assert_eq!(file.sections().map(|all| all.len()).ok(), is_whole.then(|| file.readable_sections().len()));
+    for section in file.readable_sections().filter(|section| section.type_ != SHT_NULL).take(200) {
         let Ok(name) = section.name() else { continue };
-        let first = file.sections().find(|one| one.name() == Ok(name) && one.type_ != SHT_NULL).map(|one| one.index());
-        assert!(first.is_some() && file.section_index_by_name(name) == first);
-        assert_eq!(file.section_by_name(name).map(|one| *one), file.section_header_by_name(name).ok());
+        let first = file.readable_sections().find(|one| one.name() == Ok(name) && one.type_ != SHT_NULL).map(|one| one.index());
+        assert!(first.is_some() && file.section_index_by_name(name) == Ok(first));
+        assert_eq!(file.section_by_name(name).map(|one| one.map(|one| *one)), file.section_header_by_name(name).map(Some));
     }
 }
 
@@ -74,8 +76,11 @@ fn visit_section_names(file: &ElfFile<'_>) {
 fn visit_symbol_names(file: &ElfFile<'_>, section: &Section<'_, '_>) {
     let mut names = [Name::default(); 7];
     let count = section.symbol_names_from(3, &mut names).unwrap_or(0);
-    assert_eq!(count, section.symbols().skip(3).take(7).count());
-    for (name, symbol) in names.iter().take(count).zip(section.symbols().skip(3)) {
+    let Ok(symbols) = section.symbols() else {
+        return assert!(count == 0);
+    };
+    assert_eq!(count, symbols.clone().skip(3).take(7).count());
+    for (name, symbol) in names.iter().take(count).zip(symbols.skip(3)) {
         assert_eq!(file.name_of(name).map(str::as_bytes), symbol.name_bytes());
     }
 }
@@ -83,17 +88,18 @@ fn visit_symbol_names(file: &ElfFile<'_>, section: &Section<'_, '_>) {
 // Relocations, dynamic entries and segments by many at once, as each by itself.
 fn visit_batches(file: &ElfFile<'_>, section: &Section<'_, '_>) {
     let (mut relocations, mut tags) = ([Relocation::default(); 7], [Dynamic::default(); 7]);
-    for (place, one) in section.relocations().take(200).enumerate() {
+    for (place, one) in section.relocations().into_iter().flatten().take(200).enumerate() {
         assert_eq!(section.relocation(place as u64), Ok(one));
     }
-    for (place, one) in section.dynamic().take(200).enumerate() {
+    for (place, one) in section.dynamic().into_iter().flatten().take(200).enumerate() {
         assert_eq!(section.dynamic_entry(place as u64), Ok(one));
     }
     let count = section.relocations_from(3, &mut relocations).unwrap_or(0);
-    assert!(section.relocations().skip(3).take(7).eq(relocations[..count].iter().copied()));
+    assert!(section.relocations().into_iter().flatten().skip(3).take(7).eq(relocations[..count].iter().copied()));
     let count = section.dynamic_from(3, &mut tags).unwrap_or(0);
-    assert!(section.dynamic().skip(3).take(7).eq(tags[..count].iter().copied()));
-    assert_eq!((section.relocations().len(), section.dynamic().len()), (section.relocations().count(), section.dynamic().count()));
+    assert!(section.dynamic().into_iter().flatten().skip(3).take(7).eq(tags[..count].iter().copied()));
+    assert_eq!(section.relocations().map(|records| records.len()), section.relocations().map(|records| records.count()));
+    assert_eq!(section.dynamic().map(|records| records.len()), section.dynamic().map(|records| records.count()));
     let text = section.text(1);
     assert!(text.map_or(true, |text| lies_in(file.input(), text.as_bytes())));
 }
@@ -104,12 +110,14 @@ fn visit_segments(file: &ElfFile<'_>) {
     for name in needed.chain([file.soname(), file.run_path()].into_iter().filter_map(Result::transpose)) {
         assert!(name.map_or(true, |name| lies_in(file.input(), name.as_bytes())));
     }
-    let read = (0..file.segment_count()).map_while(|index| file.segment(index).ok()).take(200);
-    assert!(read.map(|one| *one).eq(file.segments().take(200).map(|one| *one)));
-    assert_eq!(file.segments().len(), file.segments().count());
+    let read = (0..file.segment_count().unwrap_or(0)).map_while(|index| file.segment(index).ok()).take(200);
+    assert!(read.map(|one| *one).eq(file.readable_segments().take(200).map(|one| *one)));
+    assert_eq!(file.readable_segments().len(), file.readable_segments().count());
+    let is_whole = file.segment_count() == Ok(file.readable_segments().len() as u32);
+    assert_eq!(file.segments().map(|all| all.len()).ok(), is_whole.then(|| file.readable_segments().len()));
     let mut headers = [ProgramHeader::default(); 3];
     let count = file.segments_from(1, &mut headers).unwrap_or(0);
-    assert!(file.segments().skip(1).take(3).map(|one| *one).eq(headers[..count].iter().copied()));
+    assert!(file.readable_segments().skip(1).take(3).map(|one| *one).eq(headers[..count].iter().copied()));
 }
 
 // Each byte is in one piece, each address of a section in one piece by symbols, and each symbol covers its addresses.
@@ -121,9 +129,9 @@ fn visit_pieces(file: &ElfFile<'_>) {
         end = piece.end;
     }
     assert_eq!(end, file.input().len() as u64);
-    for section in file.sections().take(100) {
+    for section in file.readable_sections().take(100) {
         let mut end = None;
-        for piece in section.symbol_pieces() {
+        for piece in section.symbol_pieces().into_iter().flatten() {
             assert!(end.map_or(true, |end| end == piece.begin) && piece.begin < piece.end);
             assert!(piece.symbol.map_or(true, |symbol| symbol.value <= piece.begin && piece.end - symbol.value <= symbol.size));
             end = Some(piece.end);
@@ -193,17 +201,17 @@ fn visit_versions(file: &ElfFile<'_>) {
 fn visit_section(input: &[u8], section: &Section<'_, '_>) -> usize {
     let mut found = 0;
     assert_eq!(section.check(), section.get_type().map(|_| ()));
-    for symbol in section.symbols().take(200) {
+    for symbol in section.symbols().into_iter().flatten().take(200) {
         found += 1;
         assert!(symbol.name().map_or(true, |name| lies_in(input, name.as_bytes())));
         assert_eq!(symbol.name().map(str::as_bytes), symbol.name_bytes());
     }
     let mut many = [Entry::default(); 7];
     let count = section.symbols_from(3, &mut many).unwrap_or(0);
-    assert_eq!(section.symbols().len(), section.symbols().count());
-    let left = section.symbols().skip(3).take(7);
+    assert_eq!(section.symbols().map(|symbols| symbols.len()), section.symbols().map(|symbols| symbols.count()));
+    let left = section.symbols().into_iter().flatten().skip(3).take(7);
     assert!(left.clone().count() == count && left.zip(&many).all(|(symbol, entry)| symbol.value == entry.value));
-    found += section.relocations().take(200).count() + section.dynamic().take(200).count();
+    found += section.relocations().map_or(0, |records| records.take(200).count()) + section.dynamic().map_or(0, |records| records.take(200).count());
     for note in section.notes().into_iter().flatten().take(200).flatten() {
         found += 1;
         assert!(lies_in(input, note.name) && lies_in(input, note.desc));
@@ -218,7 +226,7 @@ fn visit_section(input: &[u8], section: &Section<'_, '_>) -> usize {
             }
         }
     }
-    assert!(section.data().map_or(true, |data| lies_in(input, data) && data.len() as u64 == section.size));
+    assert!(section.data().map_or(true, |data| lies_in(input, data) && [0, section.size].contains(&(data.len() as u64))));
     assert!(section.name().map_or(true, |name| lies_in(input, name.as_bytes())));
     assert!(format!("{section:?}").len() < 1000 + section.name().map_or(0, str::len) * 4);
     found
@@ -227,8 +235,10 @@ fn visit_section(input: &[u8], section: &Section<'_, '_>) -> usize {
 // A symbol that the map finds covers the address.
 #[cfg(feature = "alloc")]
 fn visit_symbol_map(file: &ElfFile<'_>) {
-    let map = file.symbol_map();
-    for symbol in file.sections().take(200).flat_map(|section| section.symbols().take(20)) {
+    let Ok(map) = file.symbol_map() else {
+        return;
+    };
+    for symbol in file.readable_sections().take(200).flat_map(|section| section.symbols().into_iter().flatten().take(20)) {
         for address in [symbol.value, symbol.value.wrapping_add(symbol.size), u64::MAX] {
             assert!(map.get(address).map_or(true, |found| found.value <= address && address - found.value < found.size.max(1)));
         }
@@ -258,8 +268,8 @@ fn header_fault(file: &ElfFile<'_>) -> Result<(), Error> {
         (header.header_size == if file.is_64() { 64 } else { 52 }, Error::HeaderSize),
         (header.header_version != 0, Error::NoVersion),
         (header.encoding != 0, Error::NoDataFormat),
-        (ends(header.ph_offset, header.ph_entry_size, file.segment_count().into()), Error::PhTableRange),
-        (ends(header.sh_offset, header.sh_entry_size, file.section_count()), Error::ShTableRange),
+        (ends(header.ph_offset, header.ph_entry_size, file.segment_count().unwrap_or(0).into()), Error::PhTableRange),
+        (ends(header.sh_offset, header.sh_entry_size, file.section_count().unwrap_or(0)), Error::ShTableRange),
     ];
     tests.into_iter().try_for_each(|(passes, fault)| if passes { Ok(()) } else { Err(fault) })
 }
@@ -284,14 +294,17 @@ fn visit(input: &[u8]) -> usize {
     };
     assert_eq!(file.check_header(), header_fault(&file));
     visit_section_names(&file);
-    file.sections().take(200).for_each(|section| visit_symbol_names(&file, &section));
-    file.sections().take(200).for_each(|section| visit_batches(&file, &section));
+    file.readable_sections().take(200).for_each(|section| visit_symbol_names(&file, &section));
+    file.readable_sections().take(200).for_each(|section| visit_batches(&file, &section));
     visit_segments(&file);
     #[cfg(feature = "alloc")]
     visit_pieces(&file);
     visit_dynamic_symbols(&file);
     visit_versions(&file);
     visit_load_plan(&file);
+    // Of a file whose headers can't be read no word is said.
+    assert!(file.hardening().is_err() || file.sections().is_ok() && file.segments().is_ok());
+    assert_eq!(file.loads().err(), file.load_plan().err());
     assert!(file.build_id().ok().flatten().map_or(true, |id| lies_in(input, id)));
     assert!(file.notes().take(200).flatten().all(|note| lies_in(input, note.name) && lies_in(input, note.desc)));
     assert!(file.dynamic().map_or(true, |entries| entries.take(200).count() <= 200));
@@ -300,7 +313,7 @@ fn visit(input: &[u8]) -> usize {
     assert!(format!("{file:?}").len() < 1000);
     #[cfg(feature = "alloc")]
     visit_symbol_map(&file);
-    let segments = file.segments().take(200).map(|segment| {
+    let segments = file.readable_segments().take(200).map(|segment| {
         assert_eq!(segment.check(), segment_fault(&file, &segment));
         assert!(segment.data().map_or(true, |data| lies_in(input, data)));
         for count in [0, 1, segment.file_size, u64::MAX] {
@@ -309,7 +322,7 @@ fn visit(input: &[u8]) -> usize {
         }
         1
     });
-    segments.sum::<usize>() + file.sections().take(200).map(|section| visit_section(input, &section)).sum::<usize>()
+    segments.sum::<usize>() + file.readable_sections().take(200).map(|section| visit_section(input, &section)).sum::<usize>()
 }
 
 #[test]
@@ -334,6 +347,15 @@ fn damaged_files_are_read_or_refused() {
         }
         visit(&bytes);
     }
+}
+
+#[test]
+fn a_number_of_sections_that_is_lost_is_an_error() {
+    let mut bytes = std::fs::read("/bin/true").expect("a program");
+    let place = bytes.len() as u64 - 20;
+    bytes[40..48].copy_from_slice(&place.to_le_bytes());
+    bytes[60..62].fill(0);
+    assert_eq!(ElfFile::new(&bytes).and_then(|file| file.sections().map(|all| all.len())), Err(Error::ShortSectionHeader));
 }
 
 #[test]

@@ -16,14 +16,14 @@ fn types_of_this_file() {
     let file = ElfFile::new(&bytes).expect("an ELF file");
     assert_eq!(file.header().get_type(), header::Type::SharedObject);
     assert_eq!(file.header().machine, EM_X86_64);
-    let of_type = |wanted| file.sections().find(|section| section.get_type() == Ok(wanted));
+    let of_type = |wanted| file.sections().expect("sections").find(|section| section.get_type() == Ok(wanted));
     for (wanted, name) in [(ShType::DynSym, ".dynsym"), (ShType::Dynamic, ".dynamic"), (ShType::NoBits, ".tbss"), (ShType::OsSpecific(SHT_GNU_HASH), ".gnu.hash")] {
         assert_eq!(of_type(wanted).map(|section| section.name()), Some(Ok(name)));
     }
     assert_eq!(file.section_header_by_name(".bss").map(|section| section.flags), Ok(SHF_ALLOC | SHF_WRITE));
-    let code = file.segments().find(|segment| segment.get_type() == Ok(program::Type::Load) && segment.is_execute());
+    let code = file.segments().expect("segments").find(|segment| segment.get_type() == Ok(program::Type::Load) && segment.is_execute());
     assert!(code.is_some_and(|segment| segment.is_read() && !segment.is_write() && segment.flags == PF_R | PF_X));
-    let main = of_type(ShType::SymTab).and_then(|section| section.symbols().find(|symbol| symbol.name() == Ok("main"))).expect("a main");
+    let main = of_type(ShType::SymTab).and_then(|section| section.symbols().expect("symbols").find(|symbol| symbol.name() == Ok("main"))).expect("a main");
     assert_eq!((main.get_type(), main.get_binding(), main.get_other()), (Ok(Type::Func), Ok(Binding::Global), Visibility::Default));
     assert!(main.is_defined() && main.kind() == STT_FUNC && main.binding() == STB_GLOBAL);
 }
@@ -69,7 +69,7 @@ fn sought(symbols: &[(u64, Entry)], address: u64) -> Option<u64> {
 fn addresses_are_covered_by_symbols() {
     let bytes = whole();
     let file = ElfFile::new(&bytes).expect("an ELF file");
-    let table = file.sections().find(|section| section.type_ == SHT_SYMTAB).expect("symbols");
+    let table = file.sections().expect("sections").find(|section| section.type_ == SHT_SYMTAB).expect("symbols");
     let is_named = |symbol: &xmas_elf_proved::Symbol<'_>| {
         let name = symbol.name().unwrap_or("");
         !name.is_empty() && !(symbol.info == 0 && name.starts_with(".L"))
@@ -78,8 +78,8 @@ fn addresses_are_covered_by_symbols() {
         let placed = symbol.shndx != SHN_UNDEF && symbol.shndx < SHN_LORESERVE;
         placed && matches!(symbol.kind(), STT_NOTYPE | STT_OBJECT | STT_FUNC | STT_GNU_IFUNC) && is_named(symbol)
     };
-    let symbols: Vec<(u64, Entry)> = table.symbols().filter(kept).map(|symbol| (symbol.index(), *symbol)).collect();
-    let map = file.symbol_map();
+    let symbols: Vec<(u64, Entry)> = table.symbols().expect("symbols").filter(kept).map(|symbol| (symbol.index(), *symbol)).collect();
+    let map = file.symbol_map().expect("symbols");
     assert!(map.len() == symbols.len() && !map.is_empty());
     let mut addresses = Vec::new();
     for (_, entry) in symbols.iter().step_by(1 + symbols.len() / 500) {
@@ -142,7 +142,7 @@ fn offsets_in_a_section_of_an_object_file() {
     let bytes = object();
     let file = ElfFile::new(&bytes).expect("an ELF file");
     let names = |section: u64, offset: u64| {
-        let map = file.section(section).expect("a section").symbol_map();
+        let map = file.section(section).expect("a section").symbol_map().expect("symbols");
         map.symbol_at(offset).map(|symbol| (symbol.name().map(str::to_owned), symbol.offset()))
     };
     let named = |name: &str, offset| Some((Ok(name.to_owned()), offset));
@@ -151,5 +151,5 @@ fn offsets_in_a_section_of_an_object_file() {
     assert_eq!((names(2, 0), names(2, 7), names(2, 8), names(3, 0)), (named("other", 0), named("other", 7), None, None));
     assert_eq!(names(0, 0), None);
     // Of all sections at once, the smallest of those that begin at 0.
-    assert_eq!(file.symbol_map().get(0).map(|symbol| symbol.index()), Some(3));
+    assert_eq!(file.symbol_map().expect("symbols").get(0).map(|symbol| symbol.index()), Some(3));
 }

@@ -13,7 +13,7 @@ use elf_addresses::{
     AddressSymbols, At, IndexError, Owner, Piece, Pieces, SymbolIndex, owner_of, symbol_at,
 };
 use elf_base::bytes::text_at;
-use elf_linking::view::{LinkedSymbol, strings};
+use elf_linking::view::{DynamicView, LinkedSymbol, strings};
 use elf_linking::{AnyTable, DynamicObject, LinkError};
 use std::io;
 use std::io::Write;
@@ -108,13 +108,18 @@ fn reach_by<'w>(table: &AnyTable<'_>, words: &'w mut [u32]) -> Reach<'w> {
 }
 
 /// The symbol that `dladdr` finds at an address, in a file of the class of `E`. There is a word for
-/// each dynamic symbol. The errors are those of `DynamicObject::read`.
+/// each dynamic symbol that the hash table counts: GNU's, if there is one.
 pub fn dladdr_in<E: LinkedSymbol>(
     file: &ElfFile<'_>,
     words: &mut [u32],
     address: u64,
 ) -> Result<Option<At<E>>, LinkError> {
-    let object = DynamicObject::<E>::read(file)?;
+    let view = DynamicView::read(file)?;
+    let count = match AnyTable::read(&view, file)? {
+        AnyTable::Gnu(table) => table.symbol_count()?,
+        AnyTable::Sysv(table) => u64::from(table.chain_count()),
+    };
+    let object = DynamicObject::<E>::read_counted(file, count)?;
     let symbols = DladdrSymbols {
         table: object.symbols().table(),
         strings: strings(file)?,

@@ -11,6 +11,7 @@ mod notes;
 mod object;
 mod relr;
 mod sections;
+mod segments;
 mod shared_object;
 mod symbols;
 mod version_parts;

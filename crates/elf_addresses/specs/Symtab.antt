@@ -1,14 +1,15 @@
 -- The symbols of a symbol table by its section header, with the string table that it is linked to, and its section
 -- indices (gABI, "Symbol Table" and "Sections", sh_link, SHT_SYMTAB and SHT_SYMTAB_SHNDX).
-use Rattle.std.specs.Prelude.{◌≡◌, ◌≢◌, ℕ, ◌%◌, ◌==◌, List, [], length, Option, None, Some, Result, Ok, Err, if◌then◌else◌}
+use Rattle.std.specs.Prelude.{◌≡◌, ◌≢◌, ℕ, ◌%◌, ◌==◌, List, [], length, Option, None, Some, Result, Ok, Err, IsOkAnd, IsSomeAnd, if◌then◌else◌}
 use Rattle.std.specs.Borrow.{Bor}
 use Rattle.elf_base.specs.FileHeader.{file_order}
 use Rattle.elf_base.specs.Refusal.{and_then}
-use Rattle.elf_base.specs.Table.{table_data, table_order}
+use Rattle.elf_base.specs.Table.{table_bytes, table_data, table_order}
 use Rattle.elf_base.specs.declared.error.ElfError.TheVariants.{NotMultiple}
 use Rattle.elf_addresses.specs.declared.symbols.AddressSymbols.{AddressSymbols}
 use Rattle.elf_linking.specs.References.{file_machine}
 use Rattle.xmas_elf.specs.First.{FindsFirstAt}
+use Rattle.xmas_elf.specs.Place.{LiesAsSection}
 use Rattle.xmas_elf.specs.SectionData.{section_data_of}
 use Rattle.xmas_elf.specs.SectionHeader.{section_fields, section_list, section_of}
 use Rattle.xmas_elf.specs.Types.{ElfError, ElfFile, SectionHeader}
@@ -59,6 +60,31 @@ pub record IsSymtab {E : Type 0} {r : _} (file : ElfFile) (index : ℕ) (symbols
   pub indices : IsIndexData file index (table_data symbols.indices)
   pub index_order : table_order symbols.indices ≡ file_order file.header
   pub machine : symbols.machine ≡ file_machine file
+
+-- The places of the symbols, of their names and of their section indices in the input.
+
+-- data is that of the section at an index
+abbrev pub LiesAsDataAt : ElfFile → ℕ → Bor (List ℕ) → Type 0
+LiesAsDataAt file index part = IsOkAnd (section_of file index) (λ section. LiesAsSection file section part)
+
+-- symbols are the data of the section at an index, and names that of the section that it is linked to
+abbrev pub LieAsParts : ElfFile → ℕ → Bor (List ℕ) → Bor (List ℕ) → Type 0
+LieAsParts file index symbols names = IsOkAnd (section_of file index) (λ section.
+    LiesAsSection file section symbols × LiesAsDataAt file (section_fields section).link names)
+
+-- words are the data of the section at an index; the empty slice may be anywhere
+abbrev pub LieAsWords : ElfFile → Option ℕ → Bor (List ℕ) → Type 0
+LieAsWords file place words = length words.now ≢ 0 → IsSomeAnd place (λ index. LiesAsDataAt file index words)
+
+-- section indices are those of the first section of them that is linked to a section
+abbrev pub LieAsIndices : ElfFile → ℕ → Bor (List ℕ) → Type 0
+LieAsIndices file index words =
+    (place : Option ℕ) × FindsFirstAt (IsIndexSection index) (section_list file) place × LieAsWords file place words
+
+-- the places of the symbols of the section at an index
+abbrev pub LieAsSymtab : {E : Type 0} → {r : _} → ElfFile → ℕ → AddressSymbols E r → Type 0
+LieAsSymtab file index symbols = LieAsParts file index (table_bytes symbols.table) symbols.strings
+    × LieAsIndices file index (table_bytes symbols.indices)
 
 -- why the section at an index has no symbols: an error of a section, or its data is not a whole number of symbols
 pub data IsSymtabRefused (size : ℕ) (file : ElfFile) (index : ℕ) : ElfError → Type 0 where

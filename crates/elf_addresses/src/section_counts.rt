@@ -51,6 +51,7 @@ impl<'s, 'a, 'w, E: Entry + Record> SectionCounts<'s, 'a, 'w, E> {
     /// a count.
     pub fn count(&self, section: u32) -> usize
         ensures small { result < 2 ^ 32 }
+        ensures none { length self.now.counts.now ≤ section → result ≡ 0 }
         ensures value { section < length self.now.counts.now → result
             ≡ length (listed (claim_of_symbols E.fields self.now.symbols.now (Some section)) false
             (symbol_count self.now.symbols.now)) }

@@ -36,13 +36,10 @@ pub struct SymbolIndex<'s, 'a, 'w, E: Entry + Record> {
 
 impl<'s, 'a, 'w, E: Entry + Record> SymbolIndex<'s, 'a, 'w, E> {
     /// The number of words that the index takes: two for each symbol with a size that names
-    /// addresses, and one for each of size 0.
+    /// addresses, and one for each of size 0; at most 2 to the 64 less one.
     pub fn words(symbols: &AddressSymbols<'_, E>, within: Option<u32>) -> usize
-        ensures least { result ≡ min (word_count (claim_of_symbols E.fields symbols.now within)
+        ensures { result ≡ min (word_count (claim_of_symbols E.fields symbols.now within)
             (symbol_count symbols.now)) (2 ^ 64 - 1) }
-        ensures exact { symbol_count symbols.now < 2 ^ 32
-            → result ≡ word_count (claim_of_symbols E.fields symbols.now within)
-            (symbol_count symbols.now) }
     {
         index_words(&SymbolClaims { symbols, within })
     }

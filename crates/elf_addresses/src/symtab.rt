@@ -1,10 +1,11 @@
 //! The symbols of `.symtab`, by the section headers.
 
-ghost use Rattle.std.specs.Prelude.{◌≡◌, ◌↔◌, ◌%◌, IsTrue, MatchResult, Ok, Err, length};
+ghost use Rattle.std.specs.Prelude.{◌≡◌, ◌≢◌, ◌↔◌, ◌%◌, IfOk, IsTrue, MatchResult, Ok, Err, length};
 ghost use Rattle.elf_base.specs.Lent.{Answers};
 ghost use Rattle.elf_addresses.specs.Symtab.{IsIndexData, IsIndexSection, IsSymtab};
 ghost use Rattle.elf_addresses.specs.Symtab.{IsSymtabRefused, IsSymtabSection, data_at};
-ghost use Rattle.elf_addresses.specs.Symtab.{lent_bytes, parts_of, whole_words, words_at};
+ghost use Rattle.elf_addresses.specs.Symtab.{LieAsIndices, LieAsParts, LieAsSymtab, LieAsWords};
+ghost use Rattle.elf_addresses.specs.Symtab.{LiesAsDataAt, lent_bytes, parts_of, whole_words, words_at};
 ghost use Rattle.xmas_elf.specs.First.{FindsFirstAt};
 ghost use Rattle.xmas_elf.specs.SectionHeader.{section_list};
 
@@ -42,8 +43,9 @@ pub fn symtab_at<'a, E: Entry + Record>(
     file: &ElfFile<'a>,
     index: usize,
 ) -> Result<AddressSymbols<'a, E>, ElfError>
-    ensures { MatchResult result (IsSymtab file.now index)
+    ensures symbols { MatchResult result (IsSymtab file.now index)
         (IsSymtabRefused E.SIZE file.now index) }
+    ensures place { IfOk result (LieAsSymtab file.now index) }
 {
     let parts = match parts_of(file, index) {
         Ok(parts) => parts,
@@ -66,9 +68,10 @@ pub fn symtab_at<'a, E: Entry + Record>(
 
 // The data of the section at an index, and of the section that it is linked to.
 fn parts_of<'a>(file: &ElfFile<'a>, index: usize) -> Result<(&'a [u8], &'a [u8]), ElfError>
-    ensures { MatchResult result
+    ensures parts { MatchResult result
         (λ parts. parts_of file.now index ≡ Ok (parts.0.now, parts.1.now))
         (λ error. parts_of file.now index ≡ Err error) }
+    ensures place { IfOk result (λ parts. LieAsParts file.now index parts.0 parts.1) }
 {
     let section = file.section_header_at(index as u64)?;
     let bytes = section.raw_data(file)?;
@@ -78,7 +81,8 @@ fn parts_of<'a>(file: &ElfFile<'a>, index: usize) -> Result<(&'a [u8], &'a [u8])
 
 // The data of the section at an index.
 fn data_at<'a>(file: &ElfFile<'a>, index: usize) -> Result<&'a [u8], ElfError>
-    ensures { Answers (data_at file.now index) result }
+    ensures bytes { Answers (data_at file.now index) result }
+    ensures place { IfOk result (LiesAsDataAt file.now index) }
 {
     let section = file.section_header_at(index as u64)?;
     section.raw_data(file)
@@ -88,6 +92,7 @@ fn data_at<'a>(file: &ElfFile<'a>, index: usize) -> Result<&'a [u8], ElfError>
 // can be read and is of whole words.
 fn index_data<'a>(file: &ElfFile<'a>, index: usize) -> &'a [u8]
     ensures data { IsIndexData file.now index result.now }
+    ensures place { LieAsIndices file.now index result }
     ensures whole { length result.now % 4 ≡ 0 }
 {
     let place = index_position(file, index);
@@ -107,6 +112,7 @@ fn index_position(file: &ElfFile<'_>, index: usize) -> Option<usize>
 // words.
 fn words_at<'a>(file: &ElfFile<'a>, place: Option<usize>) -> &'a [u8]
     ensures value { result.now ≡ words_at file.now place }
+    ensures place { LieAsWords file.now place result }
     ensures whole { length result.now % 4 ≡ 0 }
 {
     match place {
@@ -125,6 +131,7 @@ fn is_index_section(section: &SectionHeader, index: usize) -> bool
 // Data, if it can be read and is of whole words; otherwise nothing.
 fn whole_words(bytes: Result<&[u8], ElfError>) -> &[u8]
     ensures value { result.now ≡ whole_words (lent_bytes bytes.entry) }
+    ensures same { length result.now ≢ 0 → bytes.entry ≡ Ok result }
     ensures whole { length result.now % 4 ≡ 0 }
 {
     match bytes {

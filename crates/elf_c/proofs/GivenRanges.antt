@@ -10,8 +10,10 @@ use Rattle.elf_records.specs.declared.program.Type.TheVariants.{Null}
 use Rattle.xmas_elf.specs.ProgramHeader.{program_fields, program_of, segment_data_of, segment_type}
 use Rattle.xmas_elf.proofs.FirstNamed.{not_refused, went_on}
 use Rattle.xmas_elf.specs.Ranges.{range_of}
-use Rattle.xmas_elf.specs.Types.{ElfFile, ProgramHeader, ProgramHeader64}
-use Rattle.elf_c.specs.Addresses.{range_at_address, range_in_segment}
+use Rattle.xmas_elf.specs.Types.{ElfFile, ProgramHeader64}
+use Rattle.elf_linking.specs.Segments.{segment_bytes}
+use Rattle.elf_linking.specs.declared.segments.Segment.{Segment}
+use Rattle.elf_c.specs.Addresses.{bytes_range, range_at_address, range_in_segment}
 use Rattle.elf_c.specs.Records.{LiesIn, range_at, segment_range}
 use Rattle.elf_base.specs.Message.{error_number}
 use Rattle.elf_c.specs.Status.{Gives, GivesBy, GivesHere, and_so, refusal_number}
@@ -47,25 +49,35 @@ pub given_range_here : (file known : ElfFile) (answer : Result Range Refusal) (o
 given_range_here file known answer old status new same has gave zero = subst (λ f. LiesIn f.input.now new) same (given_here (LiesIn file.input.now) answer old status new has gave zero)
 
 -- the data of a segment that has some lie in the input
+part_lies : (file : ElfFile) (offset size : ℕ) (part : Range) (bytes : List ℕ) → (if size == 0 then Ok [] else range_of file.input.now offset size) ≡ Ok bytes
+    → range_at (if size == 0 then 0 else offset) size ≡ part → LiesIn file.input.now part × (part.size ≡ size)
+part_lies file offset size part bytes read own = by_size (size == 0) refl read own
+  where
+    by_size : (none : Bool) → (size == 0) ≡ none → (if none then Ok [] else range_of file.input.now offset size) ≡ Ok bytes
+        → range_at (if size == 0 then 0 else offset) size ≡ part → LiesIn file.input.now part × (part.size ≡ size)
+    by_size true none taken own =
+        let there : range_at 0 size ≡ part = subst (λ b. range_at (if b then 0 else offset) size ≡ part) none own in
+        let zero : size ≡ 0 = eqb-true size 0 none in
+        let sum : 0 + size ≤ length file.input.now = omega (arith, zero) in
+        subst (λ r. LiesIn file.input.now r × (r.size ≡ size)) there (sum, refl)
+    by_size false some taken own =
+        let fits : offset + size ≤ length file.input.now = (part_within file.input.now offset size bytes taken).0 in
+        let there : range_at offset size ≡ part = subst (λ b. range_at (if b then 0 else offset) size ≡ part) some own in
+        subst (λ r. LiesIn file.input.now r × (r.size ≡ size)) there (fits, refl)
+
 segment_lies : (file : ElfFile) (segment : ProgramHeader64) (part : Range) → segment_range file segment ≡ Ok part → LiesIn file.input.now part × (part.size ≡ segment.file_size)
 unfolding segment_data_of
 segment_lies file segment part is =
     let (bytes, read, answered) = went_on (segment_data_of file segment) _ part is in
     let (kind, typed, checked) = went_on (segment_type segment) _ bytes read in
     let own : range_at (if segment.file_size == 0 then 0 else segment.offset) segment.file_size ≡ part = cc in
-    by_size bytes (segment.file_size == 0) refl (not_refused (is_ph_type Null kind) _ _ bytes checked).1 own
-  where
-    by_size : (bytes : List ℕ) (none : Bool) → (segment.file_size == 0) ≡ none → (if none then Ok [] else range_of file.input.now segment.offset segment.file_size) ≡ Ok bytes
-        → range_at (if segment.file_size == 0 then 0 else segment.offset) segment.file_size ≡ part → LiesIn file.input.now part × (part.size ≡ segment.file_size)
-    by_size bytes true none taken own =
-        let there : range_at 0 segment.file_size ≡ part = subst (λ b. range_at (if b then 0 else segment.offset) segment.file_size ≡ part) none own in
-        let zero : segment.file_size ≡ 0 = eqb-true segment.file_size 0 none in
-        let sum : 0 + segment.file_size ≤ length file.input.now = omega (arith, zero) in
-        subst (λ r. LiesIn file.input.now r × (r.size ≡ segment.file_size)) there (sum, refl)
-    by_size bytes false some taken own =
-        let fits : segment.offset + segment.file_size ≤ length file.input.now = (part_within file.input.now segment.offset segment.file_size bytes taken).0 in
-        let there : range_at segment.offset segment.file_size ≡ part = subst (λ b. range_at (if b then 0 else segment.offset) segment.file_size ≡ part) some own in
-        subst (λ r. LiesIn file.input.now r × (r.size ≡ segment.file_size)) there (fits, refl)
+    part_lies file segment.offset segment.file_size part bytes (not_refused (is_ph_type Null kind) _ _ bytes checked).1 own
+
+bytes_lie : (file : ElfFile) (segment : Segment) (part : Range) → bytes_range file segment ≡ Ok part → LiesIn file.input.now part × (part.size ≡ segment.file_size)
+bytes_lie file segment part is =
+    let (bytes, read, answered) = went_on (segment_bytes file segment) _ part is in
+    let own : range_at (if segment.file_size == 0 then 0 else segment.offset) segment.file_size ≡ part = cc in
+    part_lies file segment.offset segment.file_size part bytes read own
 
 found_lies : {A : Type 0} (file : ElfFile) (r : Result A ElfError) (next : A → Result Range ElfError) → ((a : A) (part : Range) → next a ≡ Ok part → LiesIn file.input.now part) → IfOk (and_then r next) (LiesIn file.input.now)
 found_lies {A} file (Err error) next has = tt
@@ -83,17 +95,17 @@ segment_data_lies file index = found_lies file (program_of file index) (λ progr
 pub address_lies : (file : ElfFile) (address count : ℕ) → IfOk (range_at_address file address count) (LiesIn file.input.now)
 address_lies file address count = by_segment (segment_at_of file address count) refl
   where
-    by_part : (program : ProgramHeader) (r : Result Range ElfError) → segment_at_of file address count ≡ Some program → segment_range file (program_fields program) ≡ r
-        → IfOk (and_so r (λ part. Ok (range_at (part.offset + (address - (program_fields program).virtual_addr)) count))) (LiesIn file.input.now)
-    by_part program (Err error) is ranged = tt
-    by_part program (Ok part) is ranged =
-        let holds = (first_segment_at file address count program is).holds in
+    by_part : (segment : Segment) (r : Result Range ElfError) → segment_at_of file address count ≡ Some segment → bytes_range file segment ≡ r
+        → IfOk (and_so r (λ part. Ok (range_at (part.offset + (address - segment.address)) count))) (LiesIn file.input.now)
+    by_part segment (Err error) is ranged = tt
+    by_part segment (Ok part) is ranged =
+        let holds = (first_segment_at file address count segment is).holds in
         let begins = holds.begins in
         let ends = holds.ends in
-        let (lies, long) = segment_lies file (program_fields program) part ranged in
+        let (lies, long) = bytes_lie file segment part ranged in
         let whole : part.offset + part.size ≤ length file.input.now = lies in
-        let sum : part.offset + (address - (program_fields program).virtual_addr) + count ≤ length file.input.now = omega (arith, begins, ends, whole, long) in sum
+        let sum : part.offset + (address - segment.address) + count ≤ length file.input.now = omega (arith, begins, ends, whole, long) in sum
 
-    by_segment : (found : Option ProgramHeader) → segment_at_of file address count ≡ found → IfOk (range_in_segment file address count found) (LiesIn file.input.now)
+    by_segment : (found : Option Segment) → segment_at_of file address count ≡ found → IfOk (range_in_segment file address count found) (LiesIn file.input.now)
     by_segment None is = tt
-    by_segment (Some program) is = by_part program (segment_range file (program_fields program)) is refl
+    by_segment (Some segment) is = by_part segment (bytes_range file segment) is refl

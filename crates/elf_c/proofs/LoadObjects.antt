@@ -13,7 +13,7 @@ use Rattle.elf_linking.specs.declared.object.DynamicObject.{DynamicObject}
 use Rattle.elf_loading.specs.declared.relocate.Place.{Place}
 use Rattle.xmas_elf.specs.declared.ElfFile.{ElfFile}
 use Rattle.elf_c.proofs.Batches.{put_elsewhere, put_there}
-use Rattle.elf_c.specs.LoadObjects.{AreFirstObjects, AreImagesOf, AreObjectsOf, ArePadded, ArePlacesOf, IsFirstRefused, IsObjectOfBytes, IsRefusedAsObject, no_object, place_of}
+use Rattle.elf_c.specs.LoadObjects.{AreFirstMade, AreImagesOf, AreMade, ArePadded, ArePlacesOf, IsFirstUnmade, IsObjectOfBytes, IsRefusedAsObject, no_object, place_of}
 use Rattle.elf_c.specs.declared.load_objects.LoadObject.{LoadObject}
 use Rattle.elf_c.specs.declared.load_objects.TheConstants.{MOST_OBJECTS}
 
@@ -53,44 +53,41 @@ replicated zero i x below = absurd (omega (arith, below))
 replicated (suc n) zero x below = refl
 replicated (suc n) (suc i) x below = replicated n i x (omega (arith, below))
 
-module _ {E : Type 0} {r : _} (class size : ℕ) (loads : List LoadObject) where
-  abbrev Is : LoadObject → DynamicObject E r → Type 0
-  Is load object = IsObjectOfBytes class size load.file.now object
-
-  -- of one file
-  pub first_object : (object : DynamicObject E r) (load : LoadObject) → slice_get loads 0 ≡ Some load → Is load object → AreFirstObjects class size loads 1 (replicate MOST_OBJECTS object)
-  first_object object load there is index other below at =
+module _ {A B : Type 0} (Is : A → B → Type 0) (from : List A) where
+  -- of one item
+  pub first_made : (item : A) (one : B) → slice_get from 0 ≡ Some item → Is item one → AreFirstMade Is from 1 (replicate MOST_OBJECTS one)
+  first_made item one there is index other below at =
       let none : index ≡ 0 = omega (arith, below) in
-      let same : load ≡ other = some_same load other (sym there ∙ ap (λ i. slice_get loads i) (sym none) ∙ at) in
-      subst (λ found. IsSomeAnd found (Is other)) (sym (replicated MOST_OBJECTS index object (omega (arith, none)))) (subst (λ one. Is one object) same is)
+      let same : item ≡ other = some_same item other (sym there ∙ ap (λ i. slice_get from i) (sym none) ∙ at) in
+      subst (λ found. IsSomeAnd found (Is other)) (sym (replicated MOST_OBJECTS index one (omega (arith, none)))) (subst (λ x. Is x one) same is)
 
   -- of one more
-  pub object_more : (objects : List (DynamicObject E r)) (place : ℕ) (object : DynamicObject E r) (load : LoadObject) → place < length objects → slice_get loads place ≡ Some load → Is load object
-      → AreFirstObjects class size loads place objects → AreFirstObjects class size loads (place + 1) (slice_set objects place object)
-  object_more objects place object load within there is before index other below at = by (cases_order index place)
+  pub one_more_made : (made : List B) (place : ℕ) (item : A) (one : B) → place < length made → slice_get from place ≡ Some item → Is item one
+      → AreFirstMade Is from place made → AreFirstMade Is from (place + 1) (slice_set made place one)
+  one_more_made made place item one within there is before index other below at = by (cases_order index place)
     where
-      by : ((index ≡ place) ⊎ ((index < place) ⊎ (place < index))) → IsSomeAnd (slice_get (slice_set objects place object) index) (Is other)
+      by : ((index ≡ place) ⊎ ((index < place) ⊎ (place < index))) → IsSomeAnd (slice_get (slice_set made place one) index) (Is other)
       by (inl same) =
-          let one : load ≡ other = some_same load other (sym there ∙ ap (λ i. slice_get loads i) (sym same) ∙ at) in
-          let found : slice_get (slice_set objects place object) index ≡ Some object = ap (λ i. slice_get (slice_set objects place object) i) same ∙ put_there objects place object within in
-          subst (λ some. IsSomeAnd some (Is other)) (sym found) (subst (λ x. Is x object) one is)
+          let own : item ≡ other = some_same item other (sym there ∙ ap (λ i. slice_get from i) (sym same) ∙ at) in
+          let found : slice_get (slice_set made place one) index ≡ Some one = ap (λ i. slice_get (slice_set made place one) i) same ∙ put_there made place one within in
+          subst (λ some. IsSomeAnd some (Is other)) (sym found) (subst (λ x. Is x one) own is)
       by (inr (inl less)) =
-          let found : slice_get (slice_set objects place object) index ≡ slice_get objects index = put_elsewhere objects place index object (λ same. absurd (omega (arith, less, same))) in
+          let found : slice_get (slice_set made place one) index ≡ slice_get made index = put_elsewhere made place index one (λ same. absurd (omega (arith, less, same))) in
           subst (λ some. IsSomeAnd some (Is other)) (sym found) (before index other less at)
       by (inr (inr more)) = absurd (omega (arith, more, below))
 
   -- of all
-  pub all_objects : (objects : List (DynamicObject E r)) → length objects ≡ MOST_OBJECTS → length loads ≤ MOST_OBJECTS → AreFirstObjects class size loads (length loads) objects → AreObjectsOf class size loads (take (length loads) objects)
-  all_objects objects long fit first = record {
-    same_count = length-take-le (length loads) objects (omega (arith, fit, long));
-    each = λ index load is. let below = slice_get_within loads index load is in
-        subst (λ found. IsSomeAnd found (Is load)) (sym (take_get objects (length loads) index below)) (first index load below is);
+  pub all_made : (made : List B) → length made ≡ MOST_OBJECTS → length from ≤ MOST_OBJECTS → AreFirstMade Is from (length from) made → AreMade Is from (take (length from) made)
+  all_made made long fit first = record {
+    same_count = length-take-le (length from) made (omega (arith, fit, long));
+    each = λ index item is. let below = slice_get_within from index item is in
+        subst (λ found. IsSomeAnd found (Is item)) (sym (take_get made (length from) index below)) (first index item below is);
   }
 
   -- not of the next
-  pub refused_at : (index : ℕ) (load : LoadObject) (objects : List (DynamicObject E r)) (error : LinkError) → slice_get loads index ≡ Some load → AreFirstObjects class size loads index objects
-      → IsRefusedAsObject class size load.file.now error → IsFirstRefused {E = E} r class size loads error
-  refused_at index load objects error is before why = record { index = index; load = load; load_is = is; objects = objects; before = before; why = why }
+  pub unmade_at : {C : Type 0} (Refuses : A → C → Type 0) (index : ℕ) (item : A) (made : List B) (error : C) → slice_get from index ≡ Some item → AreFirstMade Is from index made
+      → Refuses item error → IsFirstUnmade Is Refuses from error
+  unmade_at Refuses index item made error is before why = record { index = index; item = item; item_is = is; made = made; before = before; why = why }
 
 -- one of them in each place
 pub padded_none : (loads : List LoadObject) (spare : LoadObject) → (place : ℕ) × (slice_get loads place ≡ Some spare) → ArePadded loads (replicate MOST_OBJECTS spare) 0

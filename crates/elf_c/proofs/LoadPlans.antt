@@ -10,7 +10,8 @@ use Rattle.elf_loading.specs.Segments.{loads_of}
 use Rattle.elf_loading.specs.declared.mapping.Loader.{Loader}
 use Rattle.elf_loading.specs.declared.mapping.Mapping.{Mapping}
 use Rattle.elf_loading.specs.declared.plan.LoadPlan.{LoadPlan}
-use Rattle.xmas_elf.specs.Types.{ElfFile, ProgramHeader64}
+use Rattle.xmas_elf.specs.Types.{ElfFile}
+use Rattle.elf_linking.specs.declared.segments.Segment.{Segment}
 use Rattle.elf_c.specs.Batch.{Fills}
 use Rattle.elf_c.specs.LoadPlans.{if_checked, mapping_at, mapping_record, mapping_records, path_range, path_size}
 use Rattle.elf_c.specs.Records.{found_in, range_at}
@@ -18,20 +19,20 @@ use Rattle.elf_c.specs.declared.load_plans.LoadMapping.{LoadMapping}
 use Rattle.elf_c.specs.declared.status.Refusal.{Refusal}
 
 -- what a plan says of the path that it returns
-abbrev pub IsPath : Bor (List ℕ) → Option ProgramHeader64 → Bor (List ℕ) → Type 0
+abbrev pub IsPath : Bor (List ℕ) → Option Segment → Bor (List ℕ) → Type 0
 IsPath input found path = MatchOption found ⊥ (λ segment. EndsInZero input.now segment.offset path.now × LiesAt input segment.offset path)
 
 some_same : (a b : ℕ) → Some a ≡ Some b → a ≡ b
 some_same a b is = cc
 
 -- the range of this path
-pub path_is : (input : Bor (List ℕ)) (found : Option ProgramHeader64) (offset : ℕ) (path : Bor (List ℕ)) → Some offset ≡ option_map (λ segment. segment.offset) found → IsPath input found path → path_range input.now found ≡ range_at offset (length path.now)
+pub path_is : (input : Bor (List ℕ)) (found : Option Segment) (offset : ℕ) (path : Bor (List ℕ)) → Some offset ≡ option_map (λ segment. segment.offset) found → IsPath input found path → path_range input.now found ≡ range_at offset (length path.now)
 path_is input None offset path there ends = absurd ends
 path_is input (Some segment) offset path there ends =
     ap (λ r. range_at segment.offset (path_size r)) (bytes-ended input.now segment.offset path.now ends.0)
     ∙ ap (λ o. range_at o (length path.now)) (some_same segment.offset offset (sym there))
 
-pub path_lies : (input : Bor (List ℕ)) (found : Option ProgramHeader64) (offset : ℕ) (path : Bor (List ℕ)) → Some offset ≡ option_map (λ segment. segment.offset) found → IsPath input found path → offset + length path.now ≤ length input.now
+pub path_lies : (input : Bor (List ℕ)) (found : Option Segment) (offset : ℕ) (path : Bor (List ℕ)) → Some offset ≡ option_map (λ segment. segment.offset) found → IsPath input found path → offset + length path.now ≤ length input.now
 path_lies input None offset path there ends = absurd ends
 path_lies input (Some segment) offset path there ends =
     let within = zero_within input.now segment.offset path.now ends.0 in

@@ -1,5 +1,5 @@
 -- The symbols by a record are those of the dynamic segment that it was read from.
-use Rattle.std.proofs.Common.{◌≡◌, ◌<◌, ◌≤◌, ◌==◌, ◌+◌, ◌-◌, ◌*◌, ◌/◌, ◌%◌, ◌↔◌, ℕ, Bool, true, false, List, [], length, drop, take, Option, None, Some, Result, Ok, Err, IfOk, IsOk, eq-eqb, eqb-true, nat_lt, lit<, if◌then◌else◌, refl, sym, ap, subst, ◌∙◌, arith}
+use Rattle.std.proofs.Common.{◌≡◌, ◌≢◌, ◌<◌, ◌≤◌, ◌==◌, ◌+◌, ◌-◌, ◌*◌, ◌/◌, ◌%◌, ◌↔◌, ℕ, Bool, true, false, List, [], length, drop, take, Option, None, Some, Result, Ok, Err, IfOk, IsOk, eq-eqb, eqb-true, nat_lt, lit<, if◌then◌else◌, refl, sym, ap, subst, ◌∙◌, arith}
 use Rattle.std.proofs.Math.Nat.{mul-div_cancel, mul-mod_left}
 use Rattle.std.proofs.Math.Path.{fun_ext}
 use Rattle.std.specs.Option.{ok_or}
@@ -9,7 +9,7 @@ use Rattle.elf_base.specs.Refusal.{and_then}
 use Rattle.elf_base.specs.Table.{records}
 use Rattle.elf_base.specs.declared.bytes.Order.{Order}
 use Rattle.elf_base.specs.declared.error.ElfError.{ElfError}
-use Rattle.elf_base.specs.declared.error.ElfError.TheVariants.{DataRange, NotMultiple, NullData}
+use Rattle.elf_base.specs.declared.error.ElfError.TheVariants.{DataRange, NotMultiple}
 use Rattle.elf_linking.proofs.LoadedBytes.{first_segment_at, part_by}
 use Rattle.elf_linking.proofs.SymbolCounts.{symbol_count_once}
 use Rattle.elf_linking.specs.DynamicView.{AreSymbols, IsSymbolCount, as_link_error, dynamic_entries_of, number_with}
@@ -18,13 +18,11 @@ use Rattle.elf_linking.specs.declared.error.LinkError.{LinkError}
 use Rattle.elf_linking.specs.declared.error.LinkError.TheVariants.{NoEntry}
 use Rattle.elf_records.specs.declared.dynamic.Dynamic.{Dynamic}
 use Rattle.elf_linking.specs.declared.view.tags.TheConstants.{DT_SYMTAB}
-use Rattle.elf_records.specs.ProgramNumbers.{is_ph_type}
-use Rattle.elf_records.specs.declared.program.Type as the_type
-use Rattle.elf_records.specs.declared.program.Type.TheVariants.{Null}
-use Rattle.xmas_elf.specs.ProgramHeader.{IsSegmentData, program_fields, segment_data_of, segment_type}
-use Rattle.xmas_elf.specs.Ranges.{range_of}
+use Rattle.elf_linking.specs.Segments.{segment_bytes}
+use Rattle.elf_linking.specs.declared.segments.Segment.{Segment}
+use Rattle.xmas_elf.specs.Ranges.{IsRange, range_of}
 use Rattle.xmas_elf.specs.Symbol.{SymbolFields, dyn_entry_32, dyn_entry_32_fields, dyn_entry_64, dyn_entry_64_fields}
-use Rattle.xmas_elf.specs.Types.{ElfFile, ProgramHeader, ProgramHeader64}
+use Rattle.xmas_elf.specs.Types.{ElfFile}
 use Rattle.elf_c.specs.Addresses.{range_at_address, range_in_segment}
 use Rattle.elf_c.specs.DynamicSymbols.{AreDynamicSymbols, AreSymbolsBy, IsCountBy, IsDynamicCount, IsSegmentTable, dynamic_symbol_at, dynamic_symbol_name, linked_symbol_in, segment_table, strings_by, symbol_size, table_at_address, table_by, table_in_range}
 use Rattle.elf_c.specs.DynamicTexts.{linked_name, range_in_strings, strings_range, table_range}
@@ -42,35 +40,20 @@ use Rattle.elf_c.proofs.Statuses.{refusal_above}
 use Rattle.elf_c.proofs.StoredNames.{in_range_of, part_within}
 
 -- the data of a segment are bytes of the file
-data_kept : (file : ElfFile) (segment : ProgramHeader64) (kept : List ℕ) → segment_data_of file segment ≡ Ok kept → IsSegmentData file segment kept
-unfolding segment_data_of
-data_kept file segment kept is = by_type (segment_type segment) is
+data_kept : (file : ElfFile) (segment : Segment) (kept : List ℕ) → segment_bytes file segment ≡ Ok kept → segment.file_size ≢ 0 → IsRange file.input.now segment.offset segment.file_size kept
+data_kept file segment kept is filled = by_size (segment.file_size == 0) refl is
   where
-    by_range : (short : Bool) → (segment.file_size == 0) ≡ false → nat_lt (length file.input.now) (segment.offset + segment.file_size) ≡ short → (if short then Err DataRange else Ok (take segment.file_size (drop segment.offset file.input.now))) ≡ Ok kept → range_of file.input.now segment.offset segment.file_size ≡ Ok kept → IsSegmentData file segment kept
-    by_range true some test same whole = absurd (cc)
-    by_range false some test same whole =
+    by_range : (short : Bool) → (if short then Err DataRange else Ok (take segment.file_size (drop segment.offset file.input.now))) ≡ Ok kept → nat_lt (length file.input.now) (segment.offset + segment.file_size) ≡ short
+        → range_of file.input.now segment.offset segment.file_size ≡ Ok kept → IsRange file.input.now segment.offset segment.file_size kept
+    by_range true same some whole = absurd (cc)
+    by_range false same some whole =
         let both = part_within file.input.now segment.offset segment.file_size kept whole in
-        let taken : kept ≡ take segment.file_size (drop segment.offset file.input.now) = cc in record {
-          count_is = both.1;
-          lies_there = λ filled. record { within = both.0; bytes_are = taken; count_is = both.1 };
-        }
+        let taken : kept ≡ take segment.file_size (drop segment.offset file.input.now) = cc in
+        record { within = both.0; bytes_are = taken; count_is = both.1 }
 
-    by_size : (none : Bool) → (segment.file_size == 0) ≡ none → (if none then Ok [] else range_of file.input.now segment.offset segment.file_size) ≡ Ok kept → IsSegmentData file segment kept
-    by_size true none same =
-        let zero_is : segment.file_size ≡ 0 = eqb-true segment.file_size 0 none in
-        let empty_is : [] ≡ kept = cc in record {
-          count_is = ap length (sym empty_is) ∙ sym zero_is;
-          lies_there = λ filled. absurd (filled zero_is);
-        }
-    by_size false some same = by_range (nat_lt (length file.input.now) (segment.offset + segment.file_size)) some refl same same
-
-    by_null : (null : Bool) → (if null then Err NullData else (if segment.file_size == 0 then Ok [] else range_of file.input.now segment.offset segment.file_size)) ≡ Ok kept → IsSegmentData file segment kept
-    by_null true same = absurd (cc)
-    by_null false same = by_size (segment.file_size == 0) refl same
-
-    by_type : (kind : Result the_type.Type ElfError) → and_then kind (λ one. if is_ph_type Null one then Err NullData else (if segment.file_size == 0 then Ok [] else range_of file.input.now segment.offset segment.file_size)) ≡ Ok kept → IsSegmentData file segment kept
-    by_type (Err error) same = absurd (cc)
-    by_type (Ok kind) same = by_null (is_ph_type Null kind) same
+    by_size : (none : Bool) → (segment.file_size == 0) ≡ none → (if none then Ok [] else range_of file.input.now segment.offset segment.file_size) ≡ Ok kept → IsRange file.input.now segment.offset segment.file_size kept
+    by_size true none same = absurd (filled (eqb-true segment.file_size 0 none))
+    by_size false some same = by_range (nat_lt (length file.input.now) (segment.offset + segment.file_size)) same refl same
 
 -- the bytes at an address are those of their range
 record AreAt (file : ElfFile) (address count : ℕ) (range : Range) : Type 0 where
@@ -84,40 +67,39 @@ unfolding bytes_at_of
 are_at file address count range is = by_segment (segment_at_of file address count) refl is
   where
     -- the bytes at the place in the file are those of the segment; no bytes are anywhere
-    by_size : (program : ProgramHeader) (kept : List ℕ) (empty : Bool) → segment_at_of file address count ≡ Some program → IsSegmentData file (program_fields program) kept → ((program_fields program).file_size == 0) ≡ empty → take count (drop ((if empty then 0 else (program_fields program).offset) + (address - (program_fields program).virtual_addr)) file.input.now) ≡ take count (drop (address - (program_fields program).virtual_addr) kept)
-    by_size program kept true at kept_are test =
-        let start = address - (program_fields program).virtual_addr in
-        let holds = (first_segment_at file address count program at).holds in
-        let size : (program_fields program).file_size ≡ 0 = eqb-true _ _ test in
+    by_size : (segment : Segment) (kept : List ℕ) (empty : Bool) → segment_at_of file address count ≡ Some segment → segment_bytes file segment ≡ Ok kept → (segment.file_size == 0) ≡ empty → take count (drop ((if empty then 0 else segment.offset) + (address - segment.address)) file.input.now) ≡ take count (drop (address - segment.address) kept)
+    by_size segment kept true at kept_are test =
+        let start = address - segment.address in
+        let holds = (first_segment_at file address count segment at).holds in
+        let size : segment.file_size ≡ 0 = eqb-true _ _ test in
         let none : count ≡ 0 = (let begins = holds.begins in let ends = holds.ends in omega (arith, begins, ends, size)) in
         ap (λ n. take n (drop (0 + start) file.input.now)) none ∙ sym (ap (λ n. take n (drop start kept)) none)
-    by_size program kept false at kept_are test =
-        let segment = program_fields program in
-        let start = address - segment.virtual_addr in
-        let holds = (first_segment_at file address count program at).holds in
+    by_size segment kept false at kept_are test =
+        let start = address - segment.address in
+        let holds = (first_segment_at file address count segment at).holds in
         let within : start + count ≤ segment.file_size = (let begins = holds.begins in let ends = holds.ends in omega (arith, begins, ends)) in
-        sym (part_by file.input.now kept segment.offset segment.file_size start count kept_are.lies_there within)
+        sym (part_by file.input.now kept segment.offset segment.file_size start count (data_kept file segment kept kept_are) within)
 
-    by_data : (program : ProgramHeader) (found : Result (List ℕ) ElfError) → segment_at_of file address count ≡ Some program → segment_data_of file (program_fields program) ≡ found → and_so (and_then found (λ _. Ok (range_at (if (program_fields program).file_size == 0 then 0 else (program_fields program).offset) (program_fields program).file_size))) (λ part. Ok (range_at (part.offset + (address - (program_fields program).virtual_addr)) count)) ≡ Ok range → AreAt file address count range
-    by_data program (Err error) at kept_are same = absurd (cc)
-    by_data program (Ok kept) at kept_are same =
+    by_data : (segment : Segment) (found : Result (List ℕ) ElfError) → segment_at_of file address count ≡ Some segment → segment_bytes file segment ≡ found → and_so (and_then found (λ _. Ok (range_at (if segment.file_size == 0 then 0 else segment.offset) segment.file_size))) (λ part. Ok (range_at (part.offset + (address - segment.address)) count)) ≡ Ok range → AreAt file address count range
+    by_data segment (Err error) at kept_are same = absurd (cc)
+    by_data segment (Ok kept) at kept_are same =
         let input = file.input.now in
-        let start = address - (program_fields program).virtual_addr in
-        let place = (if (program_fields program).file_size == 0 then 0 else (program_fields program).offset) + start in
+        let start = address - segment.address in
+        let place = (if segment.file_size == 0 then 0 else segment.offset) + start in
         let own : range_at place count ≡ range = cc in
         let lies : LiesIn input range = subst (λ (r : Result Range Refusal). IfOk r (LiesIn input)) is (address_lies file address count) in
         let fits : place + count ≤ length input = subst (LiesIn input) (sym own) lies in
         let in_place : range_of input place count ≡ Ok (take count (drop start kept)) = in_range_of input place count fits
-        ∙ ap (λ b. Ok b) (by_size program kept ((program_fields program).file_size == 0) at (data_kept file (program_fields program) kept kept_are) refl) in record {
+        ∙ ap (λ b. Ok b) (by_size segment kept (segment.file_size == 0) at kept_are refl) in record {
           bytes = take count (drop start kept);
           at = ap (bytes_of_segment file address (take count)) at ∙ ap (λ read. and_then (as_link_error read) (λ bytes. Ok (take count (drop start bytes)))) kept_are;
           in_range = subst (λ r. range_of input r.offset r.size ≡ Ok (take count (drop start kept))) own in_place;
           long = (part_within input place count (take count (drop start kept)) in_place).1;
         }
 
-    by_segment : (found : Option ProgramHeader) → segment_at_of file address count ≡ found → range_in_segment file address count found ≡ Ok range → AreAt file address count range
+    by_segment : (found : Option Segment) → segment_at_of file address count ≡ found → range_in_segment file address count found ≡ Ok range → AreAt file address count range
     by_segment None at same = absurd (cc)
-    by_segment (Some program) at same = by_data program (segment_data_of file (program_fields program)) at refl same
+    by_segment (Some segment) at same = by_data segment (segment_bytes file segment) at refl same
 
 -- the symbol at an index of bytes that are a number of symbols
 as_whole : {T : Type 0} (value : SymbolFields → T) (order : Order) (bytes : List ℕ) (count index : ℕ) (narrow : Bool) → length bytes ≡ count * (if narrow then 16 else 24) → symbol_among value narrow order bytes index

@@ -126,13 +126,13 @@ module _ (file : ElfFile) (table : SymbolTable) (made : IsSegmentTable file (Ok 
   by_class name version true class _ is (refused error why) = absurd (cc)
   by_class name version true class _ is (searched all answer are finds) =
       let found = found_there all name version said (subst (IsSearched all name version) is finds) one in
-      by_bytes are.entries are.bytes true class are.entries_are (class_symbols _ _ file are.entries are.bytes are.bytes_are)
-      (subst (λ symbols. found_in (λ e. symbol_record (symbols.fields e)) symbols.items said.index ≡ Ok said.symbol) are.symbols_are found)
+      by_bytes are.symbols.entries are.symbols.bytes true class are.symbols.entries_are (class_symbols _ _ file are.symbols.entries are.symbols.bytes are.symbols.bytes_are)
+      (subst (λ symbols. found_in (λ e. symbol_record (symbols.fields e)) symbols.items said.index ≡ Ok said.symbol) are.symbols.symbols_are found)
   by_class name version false class _ is (refused error why) = absurd (cc)
   by_class name version false class _ is (searched all answer are finds) =
       let found = found_there all name version said (subst (IsSearched all name version) is finds) one in
-      by_bytes are.entries are.bytes false class are.entries_are (class_symbols _ _ file are.entries are.bytes are.bytes_are)
-      (subst (λ symbols. found_in (λ e. symbol_record (symbols.fields e)) symbols.items said.index ≡ Ok said.symbol) are.symbols_are found)
+      by_bytes are.symbols.entries are.symbols.bytes false class are.symbols.entries_are (class_symbols _ _ file are.symbols.entries are.symbols.bytes are.symbols.bytes_are)
+      (subst (λ symbols. found_in (λ e. symbol_record (symbols.fields e)) symbols.items said.index ≡ Ok said.symbol) are.symbols.symbols_are found)
 
 -- a name that is no text finds nothing
 pub if_text : {A : Type 0} (P : List ℕ → Result A Refusal → Type 0) (name : List ℕ) (value : A) → IfUtf8 P name (Ok value) → P name (Ok value)

@@ -9,7 +9,7 @@ use Rattle.elf_base.specs.Table.{records}
 use Rattle.elf_base.specs.Text.{text_of}
 use Rattle.elf_base.specs.declared.bytes.Order.{Order}
 use Rattle.elf_base.specs.declared.error.ElfError.{ElfError}
-use Rattle.elf_base.specs.declared.error.ElfError.TheVariants.{DataRange, NullName}
+use Rattle.elf_base.specs.declared.error.ElfError.TheVariants.{DataRange}
 use Rattle.elf_records.specs.Dynamic.{dynamic_tag, dynamic_value}
 use Rattle.elf_records.specs.declared.dynamic.Dynamic.{Dynamic}
 use Rattle.elf_records.specs.SectionNumbers.{is_sh_type}
@@ -24,7 +24,7 @@ use Rattle.xmas_elf.specs.Symbol.{dyn_entry_32, dyn_entry_32_fields, dyn_entry_6
 use Rattle.xmas_elf.specs.Types.{ElfFile, SectionHeader}
 use Rattle.elf_c.specs.Batch.{Fills, FillsBy, IsBatch}
 use Rattle.elf_c.specs.DynamicTexts.{linked_name, range_in_strings, texts_with}
-use Rattle.elf_c.specs.Records.{AllLieIn, LiesIn, found_in, is_null_type, is_relr_type, name_answer, name_range_by, range_at, section_range, taken_for, text_range}
+use Rattle.elf_c.specs.Records.{AllLieIn, LiesIn, found_in, is_relr_type, name_answer, name_range_by, range_at, section_range, taken_for, text_range}
 use Rattle.elf_c.specs.Status.{and_so}
 use Rattle.elf_c.specs.SymbolTables.{name_by, name_in, symbol_among, symbol_by}
 use Rattle.elf_c.specs.declared.names.Name.{Name}
@@ -78,10 +78,6 @@ and_then_lies : {A : Type 0} (input : List ℕ) (r : Result A ElfError) (next : 
 and_then_lies input (Ok a) next has = has a
 and_then_lies input (Err error) next has = tt
 
-unless_lies : (input : List ℕ) (refused : Bool) (error : ElfError) (r : Result Range ElfError) → IfOk r (LiesIn input) → IfOk (if refused then Err error else r) (LiesIn input)
-unless_lies input true error r has = tt
-unless_lies input false error r has = has
-
 pub answer_lies : (input : List ℕ) (r : Result Range ElfError) → IfOk r (LiesIn input) → LiesIn input (name_answer r).range
 answer_lies input (Ok range) has = has
 answer_lies input (Err error) has = let none : 0 + 0 ≤ length input = omega arith in none
@@ -111,9 +107,7 @@ in_range_of input start count fits = ap (λ (b : Bool). if b then Err DataRange 
 
 pub section_name_lies : (input : List ℕ) (names : Result Range ElfError) (section : SectionHeader) → LiesIn input (name_answer (name_range_by input names section)).range
 section_name_lies input names section = answer_lies input (name_range_by input names section)
-    (and_then_lies input (is_null_type section) (λ null. if null then Err NullName else and_then names (λ part. text_range input part (section_fields section).name))
-    (λ null. unless_lies input null NullName (and_then names (λ part. text_range input part (section_fields section).name))
-    (and_then_lies input names (λ part. text_range input part (section_fields section).name) (λ part. text_lies input part (section_fields section).name))))
+    (and_then_lies input names (λ part. text_range input part (section_fields section).name) (λ part. text_lies input part (section_fields section).name))
 
 if_ok : {T : Type 0} (b : Bool) (r : Result T Refusal) (why : Refusal) (x : T) → (if b then r else Err why) ≡ Ok x → r ≡ Ok x
 if_ok true r why x is = is

@@ -5,7 +5,8 @@ use Rattle.std.specs.Prelude.{min}
 use Rattle.std.proofs.lemmas.List.FromFn.{get_or-range_with_len, length-range_with_len}
 use Rattle.std.proofs.lemmas.Option.{slice_get-get_or, slice_get-map}
 use Rattle.elf_linking.specs.VersionTables.{DefinitionParts, NeedParts, VersionTables, definitions_in, needs_in}
-use Rattle.elf_linking.specs.Versions.{Defined, NamedParts, Needed, VersionParts}
+use Rattle.elf_linking.specs.VersionList.{Defined, NamedParts, Needed}
+use Rattle.elf_linking.specs.Versions.{VersionParts}
 use Rattle.elf_linking.specs.declared.error.LinkError.{LinkError}
 use Rattle.xmas_elf.specs.declared.ElfFile.{ElfFile}
 use Rattle.elf_c.specs.Batch.{Fills}
@@ -73,7 +74,7 @@ bearer_lies input strings number hidden None = unnamed_lies input number hidden
 bearer_lies input strings number hidden (Some (Defined d)) = defined_lies input strings number hidden d
 bearer_lies input strings number hidden (Some (Needed need)) = needed_lies input strings number hidden need
 
-version_lies : (input : List ℕ) (strings : Result Range Refusal) (item : Result (Option VersionParts) LinkError) → NamesLieIn input (version_item input strings item)
+version_lies : (input : List ℕ) (strings : Result Range Refusal) (item : Result (Option (VersionParts NamedParts)) LinkError) → NamesLieIn input (version_item input strings item)
 version_lies input strings (Ok (Some version)) = bearer_lies input strings version.number version.hidden version.named
 version_lies input strings (Ok None) = unnamed_lies input 0 false
 version_lies input strings (Err error) = unreadable_lies input error
@@ -100,5 +101,5 @@ module _ (input : List ℕ) (strings : Result Range Refusal) (first : ℕ) (old 
   pub stored_needs_lie : (items : List (Result NeedParts LinkError)) → Fills (found_in (λ one. one) (need_items input strings items)) first old answer new → IfOk answer (λ count. AllNamesLieIn input count new)
   stored_needs_lie items fills = mapped_lies input (need_item input strings) items first old answer new (need_lies input strings) fills
 
-  pub stored_versions_lie : (version_of : ℕ → Result (Option VersionParts) LinkError) (indices : List ℕ) → Fills (found_in (λ i. version_item input strings (version_of i)) indices) first old answer new → IfOk answer (λ count. AllNamesLieIn input count new)
+  pub stored_versions_lie : (version_of : ℕ → Result (Option (VersionParts NamedParts)) LinkError) (indices : List ℕ) → Fills (found_in (λ i. version_item input strings (version_of i)) indices) first old answer new → IfOk answer (λ count. AllNamesLieIn input count new)
   stored_versions_lie version_of indices fills = found_lies input (λ i. version_item input strings (version_of i)) indices first old answer new (λ i. version_lies input strings (version_of i)) fills

@@ -5,7 +5,7 @@ use Rattle.elf_base.specs.FileHeader.{file_class}
 use Rattle.elf_base.specs.declared.bytes.Order.{Order}
 use Rattle.elf_records.specs.HashNumber.{hash_number}
 use Rattle.elf_linking.specs.AnyTable.{IsGoodBy}
-use Rattle.elf_linking.specs.DynamicObject.{AreDynamicSymbols, IsObjectRefused}
+use Rattle.elf_linking.specs.DynamicObject.{AreVersionedSymbols, IsObjectRefused}
 use Rattle.elf_linking.specs.Find.{AreReadable, DynamicSymbols, FindsRight, IsFound}
 use Rattle.elf_linking.specs.Serves.{serves_others}
 use Rattle.elf_linking.specs.declared.error.LinkError.{LinkError}
@@ -64,7 +64,7 @@ pub record IsSearched {E : Type 0} (all : DynamicSymbols E) (name version : List
 -- symbols
 pub data IsSearch {E : Type 0} (class size : ℕ) (entry : Order → List ℕ → E) (fields : E → SymbolFields) (file : ElfFile) (name version : List ℕ) : Result FoundSymbol Refusal → Type 0 where
   searched : (all : DynamicSymbols E) (answer : Result FoundSymbol Refusal)
-      → AreDynamicSymbols class size entry fields file all → IsSearched all name version answer
+      → AreVersionedSymbols class size entry fields file all → IsSearched all name version answer
       → IsSearch class size entry fields file name version answer
   refused : (error : LinkError) → IsObjectRefused class size file error
       → IsSearch class size entry fields file name version (Err (Link error))

@@ -14,11 +14,12 @@ use Rattle.elf_loading.specs.Spans.{span_of}
 use Rattle.elf_loading.specs.declared.error.LoadError.{LoadError}
 use Rattle.elf_loading.specs.declared.error.LoadError.TheVariants.{ImageSize}
 use Rattle.elf_loading.specs.declared.mapping.Loader.{Loader}
+use Rattle.elf_loading.specs.declared.plan.LoadPlan.{LoadPlan}
 use Rattle.elf_loading.specs.declared.relocate.Place.{Place}
 use Rattle.elf_loading.specs.declared.words.Binding.{Binding}
 use Rattle.xmas_elf.specs.Symbol.{SymbolFields, dyn_entry_32_fields, dyn_entry_64_fields}
 use Rattle.xmas_elf.specs.Types.{DynEntry32, DynEntry64, ElfFile}
-use Rattle.elf_c.specs.LoadObjects.{AreImagesOf, AreObjectsOf, ArePlacesOf, IsFirstRefused, as_refusal, is_first_narrow}
+use Rattle.elf_c.specs.LoadObjects.{AreImagesOf, AreObjectsOf, ArePlacesOf, ArePlansOf, IsFirstRefused, IsFirstUnplanned, as_refusal, is_first_narrow}
 use Rattle.elf_c.specs.LoadPlans.{if_checked}
 use Rattle.elf_c.specs.declared.load_objects.LoadObject.{LoadObject}
 use Rattle.elf_c.specs.declared.load_objects.TheConstants.{MOST_OBJECTS}
@@ -35,49 +36,59 @@ abbrev pub planned_byte : ElfFile → ℕ → Loader → ℕ → ℕ
 planned_byte file page by i = byte_number file.input.now
     (byte_of page by (length file.input.now) ((span_of page (loads_of file)).start + i) (loads_of file))
 
--- The check of an image, with `bits` marks.
+-- The check of an image, with `bits` marks. The plans have pages of `page` bytes, and addresses up to `limit`.
 
 -- the result for files of one class
-pub data ChecksAs {E : Type 0} (r : _) (class size : ℕ) (fields : E → SymbolFields) (loads : List LoadObject) (of bits : ℕ) (result : Result (Unit {0}) Refusal) : Type 0 where
-  checked : (objects : List (DynamicObject E r)) (answer : Result (Unit {0}) LoadError) → AreObjectsOf class size loads objects
-      → IsImageCheck size fields objects of bits answer → result ≡ as_refusal answer
-      → ChecksAs r class size fields loads of bits result
+pub data ChecksAs {E : Type 0} (r : _) (class size : ℕ) (fields : E → SymbolFields) (loads : List LoadObject) (of page limit bits : ℕ) (result : Result (Unit {0}) Refusal) : Type 0 where
+  checked : (objects : List (DynamicObject E r)) (plans : List LoadPlan) (answer : Result (Unit {0}) LoadError)
+      → AreObjectsOf class size loads objects → ArePlansOf page limit objects plans
+      → IsImageCheck size fields objects plans of bits answer → result ≡ as_refusal answer
+      → ChecksAs r class size fields loads of page limit bits result
   unchecked : (error : LinkError) → IsFirstRefused {E = E} r class size loads error → result ≡ Err (Link error)
-      → ChecksAs r class size fields loads of bits result
+      → ChecksAs r class size fields loads of page limit bits result
+  unplanned : (objects : List (DynamicObject E r)) (error : LoadError) → AreObjectsOf class size loads objects
+      → IsFirstUnplanned page limit objects error → result ≡ Err (Load error)
+      → ChecksAs r class size fields loads of page limit bits result
 
 -- the result: without an object, or with more than a call takes, an error; otherwise one by the class of the first file.
 -- The first two arguments say how the record of a symbol of each class is read
-pub data Checks (narrow_record wide_record : _) (loads : List LoadObject) (of bits : ℕ) (result : Result (Unit {0}) Refusal) : Type 0 where
-  checks_none : length loads ≡ 0 → result ≡ Err (Link ObjectIndex) → Checks narrow_record wide_record loads of bits result
-  checks_many : MOST_OBJECTS < length loads → result ≡ Err (Load ImageSize) → Checks narrow_record wide_record loads of bits result
+pub data Checks (narrow_record wide_record : _) (loads : List LoadObject) (of page limit bits : ℕ) (result : Result (Unit {0}) Refusal) : Type 0 where
+  checks_none : length loads ≡ 0 → result ≡ Err (Link ObjectIndex)
+      → Checks narrow_record wide_record loads of page limit bits result
+  checks_many : MOST_OBJECTS < length loads → result ≡ Err (Load ImageSize)
+      → Checks narrow_record wide_record loads of page limit bits result
   checks_narrow : length loads ≤ MOST_OBJECTS → is_first_narrow loads ≡ true
-      → ChecksAs {E = DynEntry32} narrow_record 1 16 dyn_entry_32_fields loads of bits result
-      → Checks narrow_record wide_record loads of bits result
+      → ChecksAs {E = DynEntry32} narrow_record 1 16 dyn_entry_32_fields loads of page limit bits result
+      → Checks narrow_record wide_record loads of page limit bits result
   checks_wide : length loads ≤ MOST_OBJECTS → is_first_narrow loads ≡ false
-      → ChecksAs {E = DynEntry64} wide_record 2 24 dyn_entry_64_fields loads of bits result
-      → Checks narrow_record wide_record loads of bits result
+      → ChecksAs {E = DynEntry64} wide_record 2 24 dyn_entry_64_fields loads of page limit bits result
+      → Checks narrow_record wide_record loads of page limit bits result
 
 -- The relocation of an image.
 
 -- the result for files of one class. If it is Ok, the byte at each address that one word has is that of the word
-pub data RelocatesAs {E : Type 0} (r : _) (class size : ℕ) (fields : E → SymbolFields) (loads : List LoadObject) (of : ℕ) (when : Binding) (page : ℕ) (before after : List ℕ) (result : Result ℕ Refusal) : Type 0 where
-  relocated : (objects : Bor (List (DynamicObject E r))) (places : Bor (List Place)) (images : Bor (List (Bor (List ℕ))))
-      (answer : Result ℕ LoadError) → AreObjectsOf class size loads objects.now → ArePlacesOf loads places.now
-      → AreImagesOf loads images.now → IsRelocationIn fields objects of when page places images before after answer
-      → IfOk answer (λ count. IsByOneWordIn size fields objects of when page places images before after)
-      → result ≡ as_refusal answer → RelocatesAs r class size fields loads of when page before after result
+pub data RelocatesAs {E : Type 0} (r : _) (class size : ℕ) (fields : E → SymbolFields) (loads : List LoadObject) (of : ℕ) (when : Binding) (page limit : ℕ) (before after : List ℕ) (result : Result ℕ Refusal) : Type 0 where
+  relocated : (objects : Bor (List (DynamicObject E r))) (plans : Bor (List LoadPlan)) (places : Bor (List Place))
+      (images : Bor (List (Bor (List ℕ)))) (answer : Result ℕ LoadError) → AreObjectsOf class size loads objects.now
+      → ArePlansOf page limit objects.now plans.now → ArePlacesOf loads places.now → AreImagesOf loads images.now
+      → IsRelocationIn fields objects plans of when places images before after answer
+      → IfOk answer (λ count. IsByOneWordIn fields objects plans of when places images before after)
+      → result ≡ as_refusal answer → RelocatesAs r class size fields loads of when page limit before after result
   unrelocated : (error : LinkError) → IsFirstRefused {E = E} r class size loads error → result ≡ Err (Link error) → after ≡ before
-      → RelocatesAs r class size fields loads of when page before after result
+      → RelocatesAs r class size fields loads of when page limit before after result
+  unmapped : (objects : List (DynamicObject E r)) (error : LoadError) → AreObjectsOf class size loads objects
+      → IsFirstUnplanned page limit objects error → result ≡ Err (Load error) → after ≡ before
+      → RelocatesAs r class size fields loads of when page limit before after result
 
 -- the result: without an object, or with more than a call takes, an error; otherwise one by the class of the first file
-pub data Relocates (narrow_record wide_record : _) (loads : List LoadObject) (of : ℕ) (when : Binding) (page : ℕ) (before after : List ℕ) (result : Result ℕ Refusal) : Type 0 where
+pub data Relocates (narrow_record wide_record : _) (loads : List LoadObject) (of : ℕ) (when : Binding) (page limit : ℕ) (before after : List ℕ) (result : Result ℕ Refusal) : Type 0 where
   relocates_none : length loads ≡ 0 → result ≡ Err (Link ObjectIndex) → after ≡ before
-      → Relocates narrow_record wide_record loads of when page before after result
+      → Relocates narrow_record wide_record loads of when page limit before after result
   relocates_many : MOST_OBJECTS < length loads → result ≡ Err (Load ImageSize) → after ≡ before
-      → Relocates narrow_record wide_record loads of when page before after result
+      → Relocates narrow_record wide_record loads of when page limit before after result
   relocates_narrow : length loads ≤ MOST_OBJECTS → is_first_narrow loads ≡ true
-      → RelocatesAs {E = DynEntry32} narrow_record 1 16 dyn_entry_32_fields loads of when page before after result
-      → Relocates narrow_record wide_record loads of when page before after result
+      → RelocatesAs {E = DynEntry32} narrow_record 1 16 dyn_entry_32_fields loads of when page limit before after result
+      → Relocates narrow_record wide_record loads of when page limit before after result
   relocates_wide : length loads ≤ MOST_OBJECTS → is_first_narrow loads ≡ false
-      → RelocatesAs {E = DynEntry64} wide_record 2 24 dyn_entry_64_fields loads of when page before after result
-      → Relocates narrow_record wide_record loads of when page before after result
+      → RelocatesAs {E = DynEntry64} wide_record 2 24 dyn_entry_64_fields loads of when page limit before after result
+      → Relocates narrow_record wide_record loads of when page limit before after result

@@ -3,16 +3,20 @@ use Rattle.std.specs.Prelude.{◌≡◌, ℕ, ◌==◌, ◌<◌, Bool, false, Li
 use Rattle.std.specs.Borrow.{Bor}
 use Rattle.elf_base.specs.FileHeader.{file_class, header_of}
 use Rattle.elf_base.specs.declared.error.ElfError.{ElfError}
-use Rattle.elf_linking.specs.DynamicObject.{IsReachedObject, IsReachedRefused}
+use Rattle.elf_linking.specs.DynamicObject.{IsReachedObject, IsReachedRefused, object_file}
 use Rattle.elf_linking.specs.declared.error.LinkError.{LinkError}
 use Rattle.elf_linking.specs.declared.error.LinkError.TheVariants.{Elf}
 use Rattle.elf_linking.specs.declared.object.DynamicObject.{DynamicObject}
+use Rattle.elf_loading.specs.FileCheck.{check_file}
+use Rattle.elf_loading.specs.Plan.{IsPlanOf}
 use Rattle.elf_loading.specs.declared.error.LoadError.{LoadError}
+use Rattle.elf_loading.specs.declared.plan.LoadPlan.{LoadPlan}
 use Rattle.elf_loading.specs.declared.relocate.Place.{Place}
 use Rattle.elf_loading.specs.declared.words.Binding.{Binding}
 use Rattle.elf_loading.specs.declared.words.Binding.TheVariants.{Lazy, Now}
 use Rattle.xmas_elf.specs.Types.{Header}
 use Rattle.xmas_elf.specs.declared.ElfFile.{ElfFile}
+use Rattle.elf_c.specs.LoadPlans.{limit_of}
 use Rattle.elf_c.specs.declared.load_objects.LoadObject.{LoadObject}
 use Rattle.elf_c.specs.declared.load_objects.TheConstants.{MOST_OBJECTS}
 use Rattle.elf_c.specs.declared.status.Refusal.{Refusal}
@@ -52,25 +56,53 @@ pub record ArePadded (loads all : List LoadObject) (count : ℕ) : Type 0 where
   pub one : (index : ℕ) (load : LoadObject) → slice_get all index ≡ Some load
       → (place : ℕ) × (slice_get loads place ≡ Some load)
 
--- the objects are those of the files, in order
-pub record AreObjectsOf {E : Type 0} {r : _} (class size : ℕ) (loads : List LoadObject) (objects : List (DynamicObject E r)) : Type 0 where
-  pub same_count : length objects ≡ length loads
-  pub each : (index : ℕ) (load : LoadObject) → slice_get loads index ≡ Some load
-      → IsSomeAnd (slice_get objects index) (IsObjectOfBytes class size load.file.now)
+-- of each of the first `count` items of a list one is made, at its index of another
+abbrev pub AreFirstMade : {A B : Type 0} → (A → B → Type 0) → List A → ℕ → List B → Type 0
+AreFirstMade {A} Is from count made =
+    (index : ℕ) (item : A) → index < count → slice_get from index ≡ Some item → IsSomeAnd (slice_get made index) (Is item)
 
--- the first `count` objects are those of the files
-abbrev pub AreFirstObjects : {E : Type 0} → {r : _} → ℕ → ℕ → List LoadObject → ℕ → List (DynamicObject E r) → Type 0
-AreFirstObjects class size loads count objects = (index : ℕ) (load : LoadObject) → index < count
-    → slice_get loads index ≡ Some load → IsSomeAnd (slice_get objects index) (IsObjectOfBytes class size load.file.now)
+-- of each item of a list one is made, in order
+pub record AreMade {A B : Type 0} (Is : A → B → Type 0) (from : List A) (made : List B) : Type 0 where
+  pub same_count : length made ≡ length from
+  pub each : (index : ℕ) (item : A) → slice_get from index ≡ Some item → IsSomeAnd (slice_get made index) (Is item)
+
+-- the first item of a list of which none is made, and why
+pub record IsFirstUnmade {A B C : Type 0} (Is : A → B → Type 0) (Refuses : A → C → Type 0) (from : List A) (error : C) : Type 0 where
+  pub index : ℕ
+  pub item : A
+  pub item_is : slice_get from index ≡ Some item
+  pub made : List B
+  pub before : AreFirstMade Is from index made
+  pub why : Refuses item error
+
+-- the object is that of the file of another
+abbrev pub IsObjectOf : {E : Type 0} → {r : _} → ℕ → ℕ → LoadObject → DynamicObject E r → Type 0
+IsObjectOf class size load object = IsObjectOfBytes class size load.file.now object
+
+-- the objects are those of the files, in order
+abbrev pub AreObjectsOf : {E : Type 0} → {r : _} → ℕ → ℕ → List LoadObject → List (DynamicObject E r) → Type 0
+AreObjectsOf class size loads objects = AreMade (IsObjectOf class size) loads objects
 
 -- the first file that is none of an object of this class, and why
 pub record IsFirstRefused {E : Type 0} (r : _) (class size : ℕ) (loads : List LoadObject) (error : LinkError) : Type 0 where
-  pub index : ℕ
-  pub load : LoadObject
-  pub load_is : slice_get loads index ≡ Some load
-  pub objects : List (DynamicObject E r)
-  pub before : AreFirstObjects class size loads index objects
-  pub why : IsRefusedAsObject class size load.file.now error
+  pub first : IsFirstUnmade {B = DynamicObject E r} (IsObjectOf class size) (λ load. IsRefusedAsObject class size load.file.now)
+      loads error
+
+-- the plan is that of the file of an object, with pages of a size and addresses up to a limit
+abbrev pub IsPlanFor : {E : Type 0} → {r : _} → ℕ → ℕ → DynamicObject E r → LoadPlan → Type 0
+IsPlanFor page limit object plan = let file = object_file object in IsPlanOf file page (limit_of file limit) plan
+
+-- the plans are those of the objects, in order
+abbrev pub ArePlansOf : {E : Type 0} → {r : _} → ℕ → ℕ → List (DynamicObject E r) → List LoadPlan → Type 0
+ArePlansOf page limit objects plans = AreMade (IsPlanFor page limit) objects plans
+
+-- why the file of an object has no plan
+abbrev pub LacksPlan : {E : Type 0} → {r : _} → ℕ → ℕ → DynamicObject E r → LoadError → Type 0
+LacksPlan page limit object error = let file = object_file object in check_file file page (limit_of file limit) ≡ Err error
+
+-- the first object whose file has no plan, and why
+abbrev pub IsFirstUnplanned : {E : Type 0} → {r : _} → ℕ → ℕ → List (DynamicObject E r) → LoadError → Type 0
+IsFirstUnplanned page limit objects error = IsFirstUnmade {B = LoadPlan} (IsPlanFor page limit) (LacksPlan page limit) objects error
 
 -- where an object is loaded
 abbrev pub place_of : LoadObject → Place

@@ -14,7 +14,8 @@ use Rattle.elf_loading.specs.declared.mapping.Loader.{Loader}
 use Rattle.elf_loading.specs.declared.mapping.Loader.TheVariants.{Glibc, Kernel}
 use Rattle.elf_loading.specs.declared.mapping.Mapping.{Mapping}
 use Rattle.elf_loading.specs.declared.span.Span as loading
-use Rattle.xmas_elf.specs.Types.{ElfFile, ProgramHeader64}
+use Rattle.xmas_elf.specs.Types.{ElfFile}
+use Rattle.elf_linking.specs.declared.segments.Segment.{Segment}
 use Rattle.elf_c.specs.Records.{found_in, range_at}
 use Rattle.elf_c.specs.declared.load_plans.LoadMapping.{LoadMapping}
 use Rattle.elf_c.specs.declared.load_plans.Plan.{Plan}
@@ -45,13 +46,13 @@ span_record None = record { start = 0; end = 0 }
 span_record (Some span) = record { start = span.start; end = span.end }
 
 -- the numbers of the template of thread-local storage; 0 if there is none
-abbrev pub template_record : Option ProgramHeader64 → Template
+abbrev pub template_record : Option Segment → Template
 template_record None = record { address = 0; file_size = 0; mem_size = 0; align = 0 }
 template_record (Some tls) =
-    record { address = tls.virtual_addr; file_size = tls.file_size; mem_size = tls.mem_size; align = tls.align }
+    record { address = tls.address; file_size = tls.file_size; mem_size = tls.mem_size; align = tls.align }
 
 -- the permissions of the stack; 0 if the file says none
-abbrev pub stack_flags : Option ProgramHeader64 → ℕ
+abbrev pub stack_flags : Option Segment → ℕ
 stack_flags None = 0
 stack_flags (Some stack) = stack.flags.0
 
@@ -61,7 +62,7 @@ path_size (Ok path) = length path
 path_size (Err _) = 0
 
 -- the range of the path of the interpreter, without its zero byte; empty and at 0 if there is none
-abbrev pub path_range : List ℕ → Option ProgramHeader64 → Range
+abbrev pub path_range : List ℕ → Option Segment → Range
 path_range input None = range_at 0 0
 path_range input (Some segment) = range_at segment.offset (path_size (bytes_up_to_zero_of input segment.offset))
 
@@ -70,7 +71,7 @@ abbrev pub number_of : Bool → ℕ
 number_of is = if is then 1 else 0
 
 -- 1 if there is a segment of a kind, otherwise 0
-abbrev pub presence : Option ProgramHeader64 → ℕ
+abbrev pub presence : Option Segment → ℕ
 presence segment = number_of (is_some segment)
 
 -- the numbers of the plan of a file with this size of a page

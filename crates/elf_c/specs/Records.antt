@@ -1,18 +1,16 @@
 -- The records that the exports fill, by the values of the library (this project's own).
-use Rattle.std.specs.Prelude.{◌≡◌, ◌<◌, ◌≤◌, ℕ, ◌+◌, ◌-◌, ◌==◌, nat_lt, Bool, false, List, [], ◌∷◌, length, slice_get, Option, None, Some, Result, Ok, Err, if◌then◌else◌}
+use Rattle.std.specs.Prelude.{◌≡◌, ◌<◌, ◌≤◌, ℕ, ◌+◌, ◌-◌, ◌==◌, nat_lt, Bool, List, [], ◌∷◌, length, slice_get, Option, None, Some, Result, Ok, Err, if◌then◌else◌}
 use Rattle.std.specs.Str.{is_utf8}
 use Rattle.elf_base.specs.Message.{error_number}
 use Rattle.elf_base.specs.Refusal.{and_then, unless}
 use Rattle.elf_base.specs.Text.{text_of}
 use Rattle.elf_base.specs.declared.error.ElfError.{ElfError}
-use Rattle.elf_base.specs.declared.error.ElfError.TheVariants.{NullName, ShortSectionOffset}
+use Rattle.elf_base.specs.declared.error.ElfError.TheVariants.{ShortSectionOffset}
 use Rattle.elf_linking.specs.declared.sections.TheConstants.{SHT_RELR}
 use Rattle.elf_records.specs.ProgramNumbers.{ph_type_number}
-use Rattle.elf_records.specs.SectionNumbers.{is_sh_type}
-use Rattle.elf_records.specs.declared.sections.ShType.TheVariants.{Null}
 use Rattle.xmas_elf.specs.Checks.{section_check}
 use Rattle.xmas_elf.specs.First.{IsFirstAt, NoneBelow}
-use Rattle.xmas_elf.specs.SectionHeader.{program_count_of, section_count_of, section_fields, section_list, section_type}
+use Rattle.xmas_elf.specs.SectionHeader.{program_count_of, section_count_of, section_fields, section_list}
 use Rattle.xmas_elf.specs.NameTable.{HasName, names_section_of, section_named}
 use Rattle.xmas_elf.specs.Ranges.{range_of}
 use Rattle.xmas_elf.specs.SectionData.{section_data_of}
@@ -129,14 +127,9 @@ names_range file = and_then (names_section_of file) (λ section. unless (
     (nat_lt (length file.input.now) (section_fields section).offset, ShortSectionOffset)
     ∷ []) (range_at (section_fields section).offset (length file.input.now - (section_fields section).offset)))
 
--- whether a section is of type SHT_NULL, or that its type is unknown
-abbrev pub is_null_type : SectionHeader → Result Bool ElfError
-is_null_type section = if is_relr_type section then Ok false else and_then (section_type section) (λ kind. Ok (is_sh_type Null kind))
-
--- the range of a section's name by that of the name table, or why it has none: at the section's index there
+-- the range of a section's name by that of the name table, or why there is none: at the section's index there
 abbrev pub name_range_by : List ℕ → Result Range ElfError → SectionHeader → Result Range ElfError
-name_range_by input names section = and_then (is_null_type section) (λ null. if null then Err NullName
-    else and_then names (λ part. text_range input part (section_fields section).name))
+name_range_by input names section = and_then names (λ part. text_range input part (section_fields section).name)
 
 -- the range of a section's name by the name table of the file
 abbrev pub name_range : ElfFile → SectionHeader → Result Range ElfError

@@ -5,7 +5,8 @@ use Rattle.std.specs.List.{range_with_len}
 use Rattle.elf_linking.specs.DynamicView as view
 use Rattle.elf_linking.specs.DynamicView.{dynamic_entries_of}
 use Rattle.elf_linking.specs.VersionTables.{DefinitionParts, NeedParts, VersionTables, definitions_in, needs_in, version_tables_of}
-use Rattle.elf_linking.specs.Versions.{Defined, NamedParts, Needed, VersionParts, version_at}
+use Rattle.elf_linking.specs.VersionList.{Defined, NamedParts, Needed}
+use Rattle.elf_linking.specs.Versions.{VersionParts, named_at}
 use Rattle.elf_linking.specs.declared.error.LinkError.{LinkError}
 use Rattle.elf_records.specs.declared.dynamic.Dynamic.{Dynamic}
 use Rattle.xmas_elf.specs.declared.ElfFile.{ElfFile}
@@ -150,7 +151,7 @@ version_by input strings number hidden (Some (Defined d)) = defined_as input str
 version_by input strings number hidden (Some (Needed need)) = needed_as input strings number hidden need
 
 -- the version of a symbol, or why it can't be read
-abbrev pub version_item : List ℕ → Result Range Refusal → Result (Option VersionParts) LinkError → Version
+abbrev pub version_item : List ℕ → Result Range Refusal → Result (Option (VersionParts NamedParts)) LinkError → Version
 version_item input strings (Ok (Some version)) = version_by input strings version.number version.hidden version.named
 version_item input strings (Ok None) = unnamed 0 false
 version_item input strings (Err error) = unreadable error
@@ -158,7 +159,7 @@ version_item input strings (Err error) = unreadable error
 -- the version of the symbol at an index of the tables, whose symbols have indices below 2 to the 32
 abbrev pub symbol_version_in : ElfFile → ℕ → ℕ → Result VersionTables LinkError → Result Version Refusal
 symbol_version_in file count index (Ok tables) = if is_some tables.numbers
-    then found_in (λ i. version_item file.input.now (strings_range_of file) (version_at tables i))
+    then found_in (λ i. version_item file.input.now (strings_range_of file) (named_at tables i))
     (range_with_len 0 (min count (2 ^ 32))) index
     else Err NotFound
 symbol_version_in file count index (Err error) = Err (Link error)

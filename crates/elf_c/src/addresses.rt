@@ -15,17 +15,17 @@ use xmas_elf::ElfFile;
 
 // The range of the file bytes for `address .. address + count`.
 // For an empty segment it is the empty range at 0.
-#[tactic(auto, unfolding(xmas_elf::specs::ProgramHeader::segment_data_of, elf_linking::specs::Loaded::segment_at_of))]
+#[tactic(auto, unfolding(elf_linking::specs::Loaded::segment_at_of))]
 pub(crate) fn range_at(file: &ElfFile<'_>, address: u64, count: u64) -> Result<Range, Refusal>
     ensures { result ≡ range_at_address file.now address count }
 {
-    let Some(program) = segment_at(file, address, count) else {
+    let Some(segment) = segment_at(file, address, count) else {
         return Err(Refusal::Link(LinkError::Address));
     };
-    let size = program.raw_data(file)?.len();
-    let offset = if size == 0 { 0 } else { program.offset() };
+    let size = segment.bytes(file)?.len();
+    let offset = if size == 0 { 0 } else { segment.offset };
     Ok(Range {
-        offset: offset + (address - program.virtual_addr()),
+        offset: offset + (address - segment.address),
         size: count,
     })
 }

@@ -12,7 +12,7 @@ ghost use Rattle.elf_c.specs.declared.status.Refusal.{Refusal};
 
 use crate::file::Parsed;
 use crate::load_objects::{
-    LoadObject, MOST_OBJECTS, images_of, is_first_narrow, objects_of, places_of, when_of,
+    LoadObject, MOST_OBJECTS, images_of, is_first_narrow, objects_of, places_of, plans_of, when_of,
 };
 use crate::load_plans::{limit_of, loader_of, page_of};
 use crate::status::{Refusal, give};
@@ -79,25 +79,43 @@ pub extern "C" fn xmas_elf_load_image(
 fn check_objects<E: LinkedSymbol>(
     loads: &[LoadObject<'_>],
     of: usize,
+    page: u64,
+    limit: u64,
     marks: &mut [u8],
 ) -> Result<(), Refusal>
+    requires paged { 0 < page }
     requires some { 0 < length loads.now }
     requires fit { length loads.now ≤ MOST_OBJECTS }
-    ensures { ChecksAs {E = E} E.Record E.CLASS E.SIZE E.fields loads.now of (8 * length marks.old) result }
+    ensures { ChecksAs {E = E} E.Record E.CLASS E.SIZE E.fields loads.now of page limit
+        (8 * length marks.old) result }
 {
     let objects = match objects_of::<E>(loads) {
         Ok(objects) => objects,
         Err(error) => return Err(Refusal::Link(error)),
     };
-    match Scope::new(&objects.all[..loads.len()]).check_image(of, marks) {
+    let own = &objects.all[..loads.len()];
+    let plans = match plans_of(own, page, limit) {
+        Ok(plans) => plans,
+        Err(error) => return Err(Refusal::Load(error)),
+    };
+    let scope = Scope::new(own);
+    let planned = LoadScope::new(scope, &plans.all[..loads.len()]);
+    match planned.check_image(of, marks) {
         Ok(()) => Ok(()),
         Err(error) => Err(Refusal::Load(error)),
     }
 }
 
 // Checks that the words of an object can be written.
-fn check(loads: &[LoadObject<'_>], of: usize, marks: &mut [u8]) -> Result<(), Refusal>
-    ensures { Checks ⟦<DynEntry32 as Record>⟧ ⟦<DynEntry64 as Record>⟧ loads.now of
+fn check(
+    loads: &[LoadObject<'_>],
+    of: usize,
+    page: u64,
+    limit: u64,
+    marks: &mut [u8],
+) -> Result<(), Refusal>
+    requires { 0 < page }
+    ensures { Checks ⟦<DynEntry32 as Record>⟧ ⟦<DynEntry64 as Record>⟧ loads.now of page limit
         (8 * length marks.old) result }
 {
     if loads.is_empty() {
@@ -107,9 +125,9 @@ fn check(loads: &[LoadObject<'_>], of: usize, marks: &mut [u8]) -> Result<(), Re
         return Err(Refusal::Load(LoadError::ImageSize));
     }
     if is_first_narrow(loads) {
-        check_objects::<DynEntry32>(loads, of, marks)
+        check_objects::<DynEntry32>(loads, of, page, limit, marks)
     } else {
-        check_objects::<DynEntry64>(loads, of, marks)
+        check_objects::<DynEntry64>(loads, of, page, limit, marks)
     }
 }
 
@@ -117,18 +135,28 @@ fn check(loads: &[LoadObject<'_>], of: usize, marks: &mut [u8]) -> Result<(), Re
 /// result of `elf_loading::LoadScope::check_image` for the files of the objects. Their images and
 /// numbers are not read.
 ///
-/// `marks` has a bit for each byte of the span of the object's plan, so a byte for each eight, and one
-/// more; what it holds is overwritten.
+/// `page` and `limit` are as in `xmas_elf_load_plan`. `marks` has a bit for each byte of the span of
+/// the object's plan, so a byte for each eight, and one more; what it holds is overwritten.
 ///
 /// Errors: `ImageSize` if there are more than 64 objects; those of `DynamicObject::read_reached`, of
-/// the first file that has one; those of the check.
+/// the first file that has one; those of `xmas_elf_load_plan`, of the first file that has one; those
+/// of the check.
 #[unsafe(no_mangle)]
-pub extern "C" fn xmas_elf_check_image(objects: &[LoadObject<'_>], of: u64, marks: &mut [u8]) -> u32
+pub extern "C" fn xmas_elf_check_image(
+    objects: &[LoadObject<'_>],
+    of: u64,
+    page: u64,
+    limit: u64,
+    marks: &mut [u8],
+) -> u32
     ensures { (answer : Result (Unit {0}) Refusal)
-        × Checks ⟦<DynEntry32 as Record>⟧ ⟦<DynEntry64 as Record>⟧ objects.now of
+        × Checks ⟦<DynEntry32 as Record>⟧ ⟦<DynEntry64 as Record>⟧ objects.now of (page_of page) limit
         (8 * length marks.old) answer × GivesHere answer tt result tt }
 {
-    give(check(objects, of as usize, marks), &mut ())
+    give(
+        check(objects, of as usize, page_of(page), limit, marks),
+        &mut (),
+    )
 }
 
 // Writes the words of an object of one class to its image.
@@ -137,23 +165,30 @@ fn relocate_objects<E: LinkedSymbol>(
     of: usize,
     when: Binding,
     page: u64,
+    limit: u64,
     image: &mut [u8],
 ) -> Result<u64, Refusal>
+    requires paged { 0 < page }
     requires some { 0 < length loads.now }
     requires fit { length loads.now ≤ MOST_OBJECTS }
-    requires paged { 0 < page }
-    ensures exact { RelocatesAs {E = E} E.Record E.CLASS E.SIZE E.fields loads.now of when page image.old
-        image.new result }
+    ensures exact { RelocatesAs {E = E} E.Record E.CLASS E.SIZE E.fields loads.now of when page limit
+        image.old image.new result }
     ensures len { length image.new ≡ length image.old }
 {
     let objects = match objects_of::<E>(loads) {
         Ok(objects) => objects,
         Err(error) => return Err(Refusal::Link(error)),
     };
-    let (places, images) = (places_of(loads), images_of(loads));
     let count = loads.len();
-    let scope = Scope::new(&objects.all[..count]);
-    match scope.relocate(of, when, page, &places[..count], &images[..count], image) {
+    let own = &objects.all[..count];
+    let plans = match plans_of(own, page, limit) {
+        Ok(plans) => plans,
+        Err(error) => return Err(Refusal::Load(error)),
+    };
+    let (places, images) = (places_of(loads), images_of(loads));
+    let scope = Scope::new(own);
+    let planned = LoadScope::new(scope, &plans.all[..count]);
+    match planned.relocate(of, when, &places[..count], &images[..count], image) {
         Ok(left) => Ok(left),
         Err(error) => Err(Refusal::Load(error)),
     }
@@ -165,11 +200,12 @@ fn relocate(
     of: usize,
     when: Binding,
     page: u64,
+    limit: u64,
     image: &mut [u8],
 ) -> Result<u64, Refusal>
     requires { 0 < page }
     ensures exact { Relocates ⟦<DynEntry32 as Record>⟧ ⟦<DynEntry64 as Record>⟧ loads.now of when page
-        image.old image.new result }
+        limit image.old image.new result }
     ensures len { length image.new ≡ length image.old }
 {
     if loads.is_empty() {
@@ -179,9 +215,9 @@ fn relocate(
         return Err(Refusal::Load(LoadError::ImageSize));
     }
     if is_first_narrow(loads) {
-        relocate_objects::<DynEntry32>(loads, of, when, page, image)
+        relocate_objects::<DynEntry32>(loads, of, when, page, limit, image)
     } else {
-        relocate_objects::<DynEntry64>(loads, of, when, page, image)
+        relocate_objects::<DynEntry64>(loads, of, when, page, limit, image)
     }
 }
 
@@ -190,29 +226,32 @@ fn relocate(
 /// is set to the number of words without a number, whose bytes stay as they are: results of functions,
 /// and descriptors of thread-local storage.
 ///
-/// `image` holds the bytes that `xmas_elf_load_image` writes for pages of `page` bytes (0 means 4096),
-/// and is no part of the `image` of an object. `lazy` is 1 if jump slots get their symbols when a
-/// function is called first, and any other number if they get them now.
+/// `page` and `limit` are as in `xmas_elf_load_plan`. `image` holds the bytes that
+/// `xmas_elf_load_image` writes, and is no part of the `image` of an object. `lazy` is 1 if jump slots
+/// get their symbols when a function is called first, and any other number if they get them now.
 ///
 /// Errors: `ImageSize` if there are more than 64 objects; those of `DynamicObject::read_reached`, of
-/// the first file that has one; those of the library's call. `count` is then unchanged, and the words before the
-/// first that can't be written are written.
+/// the first file that has one; those of `xmas_elf_load_plan`, of the first file that has one; those
+/// of the library's call. `count` is then unchanged, and the words before the first that can't be
+/// written are written.
 #[unsafe(no_mangle)]
 pub extern "C" fn xmas_elf_relocate(
     objects: &[LoadObject<'_>],
     of: u64,
     lazy: u32,
     page: u64,
+    limit: u64,
     image: &mut [u8],
     count: &mut u64,
 ) -> u32
     ensures exact { (answer : Result ℕ Refusal)
         × Relocates ⟦<DynEntry32 as Record>⟧ ⟦<DynEntry64 as Record>⟧ objects.now of (when_of lazy)
-        (page_of page) image.old image.new answer × GivesHere answer count.old result count.new }
+        (page_of page) limit image.old image.new answer × GivesHere answer count.old result count.new }
     ensures len { length image.new ≡ length image.old }
 {
+    let when = when_of(lazy);
     give(
-        relocate(objects, of as usize, when_of(lazy), page_of(page), image),
+        relocate(objects, of as usize, when, page_of(page), limit, image),
         count,
     )
 }

@@ -3,13 +3,15 @@
 ghost use Rattle.std.specs.Prelude.{◌≡◌, ◌<◌, ◌≤◌, MatchResult, Some, ℕ, length, slice_get, take};
 ghost use Rattle.elf_base.specs.FileHeader.{header_of};
 ghost use Rattle.elf_c.specs.LoadObjects.{AreImagesOf, AreObjectsOf, ArePadded, ArePlacesOf};
-ghost use Rattle.elf_c.specs.LoadObjects.{IsFirstRefused, IsObjectOfBytes, IsRefusedAsObject};
+ghost use Rattle.elf_c.specs.LoadObjects.{ArePlansOf, IsFirstRefused, IsFirstUnplanned};
+ghost use Rattle.elf_c.specs.LoadObjects.{IsObjectOfBytes, IsPlanFor, IsRefusedAsObject, LacksPlan};
 ghost use Rattle.elf_c.specs.LoadObjects.{is_first_narrow, is_narrow_header, place_of, when_of};
 
+use crate::load_plans::limit_of;
 use elf_base::bytes::Record;
 use elf_linking::view::LinkedSymbol;
 use elf_linking::{DynamicObject, LinkError};
-use elf_loading::{Binding, Place};
+use elf_loading::{Binding, LoadError, LoadPlan, Place};
 use xmas_elf::ElfFile;
 
 /// The most objects that a call takes.
@@ -115,6 +117,52 @@ pub(crate) fn objects_of<'a, E: LinkedSymbol>(
         }
     }
     Ok(Objects { all: objects })
+}
+
+// The plan of the file of an object.
+fn read_plan<'a, E: LinkedSymbol>(
+    object: &DynamicObject<'a, E>,
+    page: u64,
+    limit: u64,
+) -> Result<LoadPlan<'a>, LoadError>
+    requires { 0 < page }
+    ensures { MatchResult result (IsPlanFor page limit object.now) (LacksPlan page limit object.now) }
+{
+    let file = object.file();
+    LoadPlan::check_load(&file, page, limit_of(&file, limit))
+}
+
+// A room for the most plans.
+#[derive(Drop)]
+pub(crate) struct Plans<'a> {
+    pub(crate) all: [LoadPlan<'a>; MOST_OBJECTS],
+}
+
+// The plans of the objects in their order; after them that of the first again.
+pub(crate) fn plans_of<'a, E: LinkedSymbol>(
+    objects: &[DynamicObject<'a, E>],
+    page: u64,
+    limit: u64,
+) -> Result<Plans<'a>, LoadError>
+    requires paged { 0 < page }
+    requires some { 0 < length objects.now }
+    requires fit { length objects.now ≤ MOST_OBJECTS }
+    ensures { MatchResult result
+        (λ plans. ArePlansOf page limit objects.now (take (length objects.now) plans.all))
+        (IsFirstUnplanned page limit objects.now) }
+{
+    let first = match read_plan(&objects[0], page, limit) {
+        Ok(first) => first,
+        Err(error) => return Err(error),
+    };
+    let mut plans = [first; MOST_OBJECTS];
+    for index in 1..objects.len() {
+        match read_plan(&objects[index], page, limit) {
+            Ok(plan) => plans[index] = plan,
+            Err(error) => return Err(error),
+        }
+    }
+    Ok(Plans { all: plans })
 }
 
 // The place of an object.

@@ -15,6 +15,7 @@ ghost use Rattle.elf_loading.specs.Mappings.{FollowEachOther, mappings_of};
 ghost use Rattle.elf_loading.specs.MappingsLeft.{mappings_left};
 ghost use Rattle.elf_loading.specs.Segments.{interpreter_of, loads_of, relro_of, stack_of, tls_of};
 ghost use Rattle.elf_loading.specs.Spans.{span_of};
+ghost use Rattle.elf_loading.specs.Plan.{plan_file};
 
 use crate::batch::{Sequence, fill_in_order};
 use crate::file::Parsed;
@@ -152,7 +153,7 @@ impl Template {
     // The numbers of the template of a plan.
     #[inline(always)]
     fn of(plan: &LoadPlan<'_>) -> Template
-        ensures { result ≡ template_record (tls_of plan.now.file) }
+        ensures { result ≡ template_record (tls_of (plan_file plan.now)) }
     {
         match plan.tls() {
             Some(tls) => Template {
@@ -175,8 +176,8 @@ impl Template {
 #[tactic(auto, using(crate::proofs::LoadPlans::path_is, crate::proofs::LoadPlans::path_lies))]
 fn path_range(plan: &LoadPlan<'_>) -> Range
     ensures exact { result
-        ≡ path_range plan.now.file.input.now (interpreter_of plan.now.file) }
-    ensures within { LiesIn plan.now.file.input.now result }
+        ≡ path_range (plan_file plan.now).input.now (interpreter_of (plan_file plan.now)) }
+    ensures within { LiesIn (plan_file plan.now).input.now result }
 {
     match (plan.interpreter_offset(), plan.interpreter()) {
         (Some(offset), Some(path)) => Range {
@@ -190,8 +191,8 @@ fn path_range(plan: &LoadPlan<'_>) -> Range
 // The permissions of the stack of a plan, and 1 if the file says them.
 #[inline(always)]
 fn stack_of(plan: &LoadPlan<'_>) -> (u32, u32)
-    ensures flags { result.0 ≡ stack_flags (stack_of plan.now.file) }
-    ensures presence { result.1 ≡ presence (stack_of plan.now.file) }
+    ensures flags { result.0 ≡ stack_flags (stack_of (plan_file plan.now)) }
+    ensures presence { result.1 ≡ presence (stack_of (plan_file plan.now)) }
 {
     match plan.stack() {
         Some(flags) => (flags.0, 1),
@@ -210,8 +211,8 @@ fn presence(is: bool) -> u32
 impl Plan {
     // The numbers of a plan.
     fn of(plan: &LoadPlan<'_>) -> Plan
-        ensures exact { result ≡ plan_record plan.now.file plan.now.page }
-        ensures within { LiesIn plan.now.file.input.now result.interpreter }
+        ensures exact { result ≡ plan_record (plan_file plan.now) plan.now.page }
+        ensures within { LiesIn (plan_file plan.now).input.now result.interpreter }
     {
         let relro = plan.relro();
         let (stack_flags, has_stack) = stack_of(plan);

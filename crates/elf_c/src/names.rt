@@ -4,7 +4,7 @@ ghost use Rattle.std.specs.Prelude.{◌≡◌, ◌+◌, ◌≤◌, ℕ, IfOk, Re
 ghost use Rattle.elf_base.specs.Lent.{Answers};
 ghost use Rattle.elf_c.specs.Batch.{Fills};
 ghost use Rattle.elf_c.specs.Parsed.{file_of};
-ghost use Rattle.elf_c.specs.Records.{AllLieIn, LiesIn, found_in, is_null_type, name_answer, name_range};
+ghost use Rattle.elf_c.specs.Records.{AllLieIn, LiesIn, found_in, name_answer, name_range};
 ghost use Rattle.elf_c.specs.Records.{name_range_by, names_range, text_range};
 ghost use Rattle.elf_c.specs.Status.{Gives, GivesHere};
 ghost use Rattle.elf_c.specs.declared.status.Refusal.{Refusal};
@@ -14,12 +14,11 @@ ghost use Rattle.xmas_elf.specs.SectionTable.{table_sections};
 
 use crate::batch::{Records, fill};
 use crate::file::Parsed;
-use crate::sections::is_relr;
 use crate::status::{Numbered, OK, Refusal, give};
 use elf_base::ElfError;
 use elf_base::bytes::text_at;
 use xmas_elf::ElfFile;
-use xmas_elf::sections::{SectionHeader, SectionTable, ShType};
+use xmas_elf::sections::{SectionHeader, SectionTable};
 
 /// A byte range of the input.
 #[repr(C)]
@@ -131,17 +130,6 @@ pub extern "C" fn xmas_elf_names(input: &[u8], header: &Parsed, out: &mut Range)
     give(names_in(&header.file(input)), out)
 }
 
-// Whether a section is of type SHT_NULL, or that its type is unknown.
-#[inline(always)]
-fn is_null(section: &SectionHeader) -> Result<bool, ElfError>
-    ensures { result ≡ is_null_type section.now }
-{
-    if is_relr(section) {
-        return Ok(false);
-    }
-    Ok(matches!(section.get_type()?, ShType::Null))
-}
-
 // The range of a section's name, by that of the name table.
 #[inline(always)]
 fn name_of(
@@ -151,9 +139,6 @@ fn name_of(
 ) -> Result<Range, ElfError>
     ensures { result ≡ name_range_by input.now names section.now }
 {
-    if is_null(section)? {
-        return Err(ElfError::NullName);
-    }
     text_in(input, &names?, u64::from(section.name()))
 }
 
@@ -193,9 +178,8 @@ impl Records for SectionNames<'_, '_> {
 /// fit in `out`, or all. `count` is set to their number; the rest of `out` is unchanged. The sections
 /// are those of `xmas_elf_sections`.
 ///
-/// The errors of a name are those of `SectionHeader::get_name`, but `InvalidShType` is not one for
-/// type `SHT_RELR`. Error of the call: `NoRecord` if there is no section at `first`; `out` and
-/// `count` are then unchanged.
+/// A section of any type has a name, whose errors are those of `ElfFile::get_shstr`. Error of the
+/// call: `NoRecord` if there is no section at `first`; `out` and `count` are then unchanged.
 #[unsafe(no_mangle)]
 pub extern "C" fn xmas_elf_section_names(
     input: &[u8],

@@ -95,7 +95,7 @@ pub extern "C" fn xmas_elf_section(
 
 // Whether a section is of type SHT_RELR.
 #[inline(always)]
-pub(crate) fn is_relr(section: &SectionHeader) -> bool
+fn is_relr(section: &SectionHeader) -> bool
     ensures { result ≡ is_relr_type section.now }
 {
     section.type_().raw() == SHT_RELR

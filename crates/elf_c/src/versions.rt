@@ -14,9 +14,9 @@ ghost use Rattle.elf_c.specs.Versions.{version_item, version_name};
 ghost use Rattle.elf_c.specs.declared.status.Refusal.{Refusal};
 ghost use Rattle.elf_c.specs.declared.status.Refusal.TheVariants.{Link};
 ghost use Rattle.elf_linking.specs.VersionTables.{definition_parts, definitions_left, need_parts};
-ghost use Rattle.elf_linking.specs.VersionTables.{needs_left, version_tables};
+ghost use Rattle.elf_linking.specs.VersionTables.{needs_left};
 ghost use Rattle.elf_linking.specs.Versions as linked;
-ghost use Rattle.elf_linking.specs.Versions.{version_at};
+ghost use Rattle.elf_linking.specs.Versions.{named_at, version_tables};
 
 use crate::batch::{Records, Sequence, fill, fill_in_order};
 use crate::dynamic_symbols::symbol_count;
@@ -344,7 +344,7 @@ impl Records for SymbolVersions<'_> {
     ghost items = { λ it. range_with_len 0 (min it.count (2 ^ 32)) };
 
     ghost record_of = { λ it index. version_item it.input.now it.tables.strings
-        (version_at (version_tables it.tables.versions) index) };
+        (named_at (version_tables it.tables.versions) index) };
 
     #[tactic(auto, using(crate::proofs::VersionRecords::index_count))]
     fn count(&self) -> usize {

@@ -1,11 +1,8 @@
 -- What one call of `next` of an iterator over headers gives: the header at its index, which is below the count.
 use Rattle.std.proofs.Common.{◌≡◌, ℕ, zero, suc, ◌+◌, ◌-◌, ◌<◌, List, ◌∷◌, Option, None, Some, Result, Ok, IfSome, arith}
-use Rattle.xmas_elf.specs.SectionHeader.{SectionStep, program_count_of, section_count_of, section_of}
+use Rattle.xmas_elf.specs.SectionHeader.{SectionStep, section_count_of, section_of}
 use Rattle.xmas_elf.specs.ElfError.{ElfError}
 use Rattle.xmas_elf.specs.HeaderTable.{header_rest, headers_from}
-use Rattle.xmas_elf.specs.ProgramHeader.{ProgramStep, program_of}
-use Rattle.xmas_elf.specs.declared.program.ProgramIter.{ProgramIter}
-use Rattle.xmas_elf.specs.declared.program.program_header.ProgramHeader.{ProgramHeader}
 use Rattle.xmas_elf.specs.declared.sections.SectionIter.{SectionIter}
 use Rattle.xmas_elf.specs.declared.sections.section_header.SectionHeader.{SectionHeader}
 
@@ -26,12 +23,3 @@ pub section_given : (old new : SectionIter) (found : Option SectionHeader) → S
 section_given old new None step = tt
 section_given old new (Some h) step =
     (is_below (section_of old.file.now) (section_count_of old.file.now) old.next_index h _ step.1.0, step.1.1.1, step.1.1.0)
-
-abbrev pub SegmentGiven : ProgramIter → ProgramIter → Option ProgramHeader → Type 0
-SegmentGiven old new found = IfSome found (λ program. (old.next_index < program_count_of old.file.now)
-    × (program_of old.file.now old.next_index ≡ Ok program) × (new.next_index ≡ old.next_index + 1))
-
-pub segment_given : (old new : ProgramIter) (found : Option ProgramHeader) → ProgramStep old found new → SegmentGiven old new found
-segment_given old new None step = tt
-segment_given old new (Some h) step =
-    (is_below (program_of old.file.now) (program_count_of old.file.now) old.next_index h _ step.1.0, step.1.1.1, step.1.1.0)

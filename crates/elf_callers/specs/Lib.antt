@@ -1,13 +1,8 @@
 pub mod Executable
 pub mod Kinds
 pub mod Linked
-pub mod Loaded
 pub mod LoadedAt
 pub mod Names
 pub mod Numbered
-pub mod Parts
-pub mod Reported
-pub mod Sizes
-pub mod Sound
 pub mod StringBytes
 pub mod Totals

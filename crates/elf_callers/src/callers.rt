@@ -3,50 +3,39 @@
 
 ghost use Rattle.std.specs.Prelude.{◌≡◌, ◌≢◌, ◌+◌, ◌↔◌, ◌≤◌, ◌<◌, ◌==◌};
 ghost use Rattle.std.specs.Prelude.{Err, IfErr, IfOk, IsOk, IsOkAnd, IsTrue, List, MatchOption};
-ghost use Rattle.std.specs.Prelude.{MatchResult, Ok, count_by, length, ℕ};
+ghost use Rattle.std.specs.Prelude.{MatchResult, Ok, length, ℕ};
 ghost use Rattle.std.specs.List.{AllWithin, HoldsAt};
 ghost use Rattle.std.specs.Borrow.{Bor};
 ghost use Rattle.std.specs.Result.{result_ok};
 ghost use Rattle.elf_callers.specs.Names.{name_in_bytes, text_length};
 ghost use Rattle.elf_callers.specs.StringBytes.{IsStringRefused, IsStringTotal};
 ghost use Rattle.elf_callers.specs.StringBytes.{LiesThere, string_size};
-ghost use Rattle.xmas_elf.specs.Checks.{header_check};
 ghost use Rattle.xmas_elf.specs.SectionHeader.{HasSectionHeader, section_by_u16, section_count_of};
-ghost use Rattle.xmas_elf.specs.SectionHeader.{section_fields, section_header_size, section_list};
+ghost use Rattle.xmas_elf.specs.SectionHeader.{section_fields, section_list};
 ghost use Rattle.xmas_elf.specs.SectionHeader.{section_of, section_place, section_type};
-ghost use Rattle.xmas_elf.specs.FileHeader.{IsAccepted, file_class, file_order, header_fields};
+ghost use Rattle.xmas_elf.specs.FileHeader.{IsAccepted, file_class, file_order};
 ghost use Rattle.xmas_elf.specs.FileHeader.{header_of};
 ghost use Rattle.xmas_elf.specs.HeaderTable.{IsLongest};
-ghost use Rattle.xmas_elf.specs.Lent.{Answers};
-ghost use Rattle.xmas_elf.specs.NameTable.{HasName, IsFirstNamed, IsNameTable};
-ghost use Rattle.xmas_elf.specs.NameTable.{name_of as section_name_of, shstr_of};
+ghost use Rattle.xmas_elf.specs.NameTable.{shstr_of};
 ghost use Rattle.xmas_elf.specs.Number.{byte_at, number};
-ghost use Rattle.xmas_elf.specs.ProgramHeader.{HasSegmentData, program_by_u16, program_fields};
-ghost use Rattle.xmas_elf.specs.ProgramHeader.{program_list, segment_data_of};
-ghost use Rattle.xmas_elf.specs.SectionData.{HasSectionData, section_data_of};
-ghost use Rattle.xmas_elf.specs.Text.{IsText};
-ghost use Rattle.xmas_elf.specs.Types.{ElfFile, SectionHeader};
+ghost use Rattle.xmas_elf.specs.SectionData.{section_data_of};
+ghost use Rattle.xmas_elf.specs.Types.{ElfFile};
 
-pub mod accepted;
 pub mod data;
 pub mod first;
 pub mod hash;
-pub mod header_tables;
 pub mod indices;
 pub mod lent;
-pub mod loader;
 pub mod lookups;
 pub mod names;
 pub mod notes;
 pub mod opened;
-pub mod size_report;
 pub mod steps;
 pub mod symbols;
 
 use std::alloc::{AllocError, Global};
-use xmas_elf::program::{ProgramHeader, ProgramHeader64};
 use xmas_elf::sections::{SectionHeader, ShType};
-use xmas_elf::{ElfError, ElfFile, header};
+use xmas_elf::{ElfError, ElfFile};
 
 /// The class of a file, which is its byte 4, or why it has none.
 pub fn class_byte(input: &[u8]) -> Result<u8, ElfError>
@@ -82,23 +71,6 @@ pub fn readable_sections(file: &ElfFile<'_>) -> usize
     file.section_iter().count()
 }
 
-/// How many segments of a file can be read, by its iterator.
-pub fn readable_segments(file: &ElfFile<'_>) -> usize
-    ensures { result ≡ length (program_list file.now) }
-{
-    file.program_iter().count()
-}
-
-/// How many sections are empty, by a chain.
-pub fn empty_sections(file: &ElfFile<'_>) -> usize
-    ensures { result
-        ≡ count_by (λ section. (section_fields section).size == 0) (section_list file.now) }
-{
-    file.section_iter()
-        .filter(|section| section.size() == 0)
-        .count()
-}
-
 /// The position in the list of the first section at this offset.
 pub fn section_at(file: &ElfFile<'_>, offset: u64) -> Option<usize>
     ensures { let sections = section_list file.now in MatchOption result
@@ -123,29 +95,6 @@ pub fn counted_sections(file: &ElfFile<'_>) -> u64
     count
 }
 
-/// The first section at this address, by `find`.
-pub fn section_with_address(file: &ElfFile<'_>, address: u64) -> Option<SectionHeader>
-    ensures { let sections = section_list file.now in MatchOption result
-        (AllWithin
-        (λ section. (section_fields section).address ≢ address) sections 0 (length sections))
-        (λ section. (section_fields section).address ≡ address
-        × ((i : ℕ) × (i < length sections) × HoldsAt (λ item. item ≡ section) sections i
-        × AllWithin (λ before. (section_fields before).address ≢ address) sections 0 i)) }
-{
-    file.section_iter()
-        .find(|section| section.address() == address)
-}
-
-/// How many bytes the data of a section has: as many as its header says; or why it has none.
-pub fn data_len(file: &ElfFile<'_>, section: SectionHeader) -> Result<usize, ElfError>
-    ensures readable { IsOk result ↔ HasSectionData file.now section }
-    ensures value { IfOk result (λ len. len ≡ (section_fields section).size) }
-    ensures refused { IfErr result (λ error. section_data_of file.now section ≡ Err error) }
-{
-    let range = section.raw_data(file)?;
-    Ok(range.len())
-}
-
 /// Whether the bytes of a section that the program defines are all there.
 pub fn is_whole(file: &ElfFile<'_>, section: SectionHeader) -> bool
     requires { section_type section ≡ Ok ShType.ProgBits }
@@ -154,57 +103,6 @@ pub fn is_whole(file: &ElfFile<'_>, section: SectionHeader) -> bool
         ≤ length file.now.input.now) }
 {
     section.raw_data(file).is_ok()
-}
-
-/// How many bytes the data of a segment has: as many as its header says; or why its header can't be
-/// read, or it has no data.
-pub fn segment_data_len(file: &ElfFile<'_>, index: u16) -> Result<usize, ElfError>
-    ensures value { IfOk result (λ len.
-        IsOkAnd (program_by_u16 file.now.input.now file.now.header index)
-        (λ program. HasSegmentData file.now (program_fields program)
-        × (len ≡ (program_fields program).file_size))) }
-    ensures refused { IfErr result (λ error.
-        MatchResult (program_by_u16 file.now.input.now file.now.header index)
-        (λ program. segment_data_of file.now (program_fields program) ≡ Err error)
-        (λ why. why ≡ error)) }
-{
-    let range = file.program_header(index)?.raw_data(file)?;
-    Ok(range.len())
-}
-
-/// How many sections a file has, where its header makes sense and its entries are at least as large
-/// as the record: their count. Returns an error as the check does.
-pub fn checked_section_count(file: &ElfFile<'_>) -> Result<usize, ElfError>
-    ensures readable { IfOk result (λ count. count ≡ length (section_list file.now)) }
-    ensures checked { MatchResult result (λ _. IsOk (header_check file.now))
-        (λ error. header_check file.now ≡ Err error) }
-    ensures count { IfOk result (λ count.
-        section_header_size (file_class file.now.header)
-        ≤ (header_fields file.now.header.pt2).sh_entry_size
-        → count ≡ section_count_of file.now) }
-{
-    header::sanity_check(file)?;
-    Ok(readable_sections(file))
-}
-
-/// The first section with this name: some section header below the count,
-/// before which none has it.
-pub fn named_section(file: &ElfFile<'_>, name: &str) -> Option<SectionHeader>
-    ensures { MatchOption result
-        ((i : ℕ) (section : SectionHeader) → i < length (section_list file.now)
-        → section_of file.now i ≡ Ok section → ¬ HasName file.now section name.now)
-        (λ section. (i : ℕ) × IsFirstNamed file.now name.now i section) }
-{
-    file.find_section_by_name(name)
-}
-
-/// The name of a section, which is at its index in the name table, or the same error.
-pub fn name_of<'a>(file: &ElfFile<'a>, section: SectionHeader) -> Result<&'a str, ElfError>
-    ensures name { IfOk result (λ name. (table : List ℕ)
-        × IsNameTable file.now table × IsText table (section_fields section).name name.now) }
-    ensures exact { Answers (section_name_of file.now section) result }
-{
-    section.get_name(file)
 }
 
 /// A name, which outlives the `ElfFile` that it was read by; or the same error,

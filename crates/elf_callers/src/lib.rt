@@ -1,8 +1,6 @@
-//! Callers of `xmas_elf` through its public surface alone: proved ones and recipes to be copied, and
-//! evidence of what the contracts say.
+//! Callers of `xmas_elf` through its public surface alone: proved ones and recipes to be copied.
 #![tactic(auto)]
 
 pub mod callers;
-pub mod evidence;
 pub mod own;
 pub mod recipes;

@@ -1,6 +1,5 @@
 //! A symbol of one's own, to which what `xmas_elf` says of every `Entry` applies.
 
-ghost use Rattle.std.specs.Prelude.{◌≡◌};
 ghost use Rattle.std.proofs.Common.{lit<};
 ghost use Rattle.elf_callers.specs.Numbered.{numbered_fields, numbered_name};
 ghost use Rattle.xmas_elf.specs.Number.{number};

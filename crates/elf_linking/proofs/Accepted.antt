@@ -1,5 +1,5 @@
 -- What a reference accepts, in words.
-use Rattle.std.proofs.Common.{◌≡◌, ◌≢◌, ◌⊎◌, inl, inr, ℕ, Bool, true, false, List, Option, Some, None, Result, Ok, Err, IfOk, IsTrue, ◌↔◌, refl, sym, ap, subst, ◌∙◌, if◌then◌else◌}
+use Rattle.std.proofs.Common.{◌≡◌, ◌≢◌, ◌⊎◌, inl, inr, ℕ, Bool, true, false, List, Option, Some, None, Result, Ok, Err, IfOk, IsOkAnd, IsTrue, ◌↔◌, refl, sym, ap, subst, ◌∙◌, if◌then◌else◌}
 use Rattle.std.proofs.lemmas.Bool.Decides.{eqb_tells}
 use Rattle.std.proofs.lemmas.Slice.Eq.{bytes_eq-Decides}
 use Rattle.std.proofs.Math.Dec.{eqb}
@@ -7,41 +7,42 @@ use Rattle.std.specs.Prelude.{not, ◌&&◌, ◌||◌}
 use Rattle.std.specs.Str.{bytes_eq}
 use Rattle.elf_base.specs.Refusal.{and_then}
 use Rattle.elf_linking.specs.Find.{IsAccepted, IsAcceptedBy, accepted, accepts_version, has_no_hash, is_below, is_open, is_version, nameless, same, unnumbered}
-use Rattle.elf_linking.specs.VersionTables.{VersionTables, result_map}
-use Rattle.elf_linking.specs.Versions.{NamedParts, VersionParts, named_hash, named_name, number_of, version_at}
+use Rattle.elf_linking.specs.VersionTables.{result_map}
+use Rattle.elf_linking.specs.Versions.{VersionParts, number_of, version_at}
+use Rattle.elf_linking.specs.VersionList.{VersionEntry, VersionList}
 use Rattle.elf_linking.specs.declared.error.LinkError.{LinkError}
 use Rattle.elf_linking.specs.declared.find.Wanted.{Wanted}
 use Rattle.elf_linking.specs.declared.find.Wanted.TheVariants.{Newest, Unversioned, Version}
 
 -- a number is that of a result, if there is no error
-below : (least : ℕ) (number : Result (Option ℕ) LinkError) → IfOk (result_map (is_below least) number) (λ held. IsTrue held ↔ ((n : Option ℕ) × (number ≡ Ok n) × (is_below least n ≡ true)))
-below least (Ok n) = (λ held. (n, refl, held), λ (m, is, held). let one : n ≡ m = cc in subst (λ k. is_below least k ≡ true) (sym one) held)
+below : (least : ℕ) (number : Result (Option ℕ) LinkError) → IfOk (result_map (is_below least) number) (λ held. IsTrue held ↔ IsOkAnd number (λ n. is_below least n ≡ true))
+below least (Ok n) = (λ held. held, λ held. held)
 below least (Err error) = tt
 
 module _ (name : List ℕ) (hash : ℕ) (hidden : Bool) where
   -- the version has the hash number and the name
-  abbrev Bears : Option NamedParts → Type 0
-  Bears named = (n : NamedParts) × (named ≡ Some n) × (named_hash n ≡ hash) × (named_name n ≡ Ok name)
+  abbrev Bears : Option VersionEntry → Type 0
+  Bears named = (n : VersionEntry) × (named ≡ Some n) × (n.hash ≡ hash) × (n.name ≡ Ok name)
 
-  by_name : (n : NamedParts) (read : Result (List ℕ) LinkError) → named_name n ≡ read → named_hash n ≡ hash → IfOk (result_map (λ other. bytes_eq other name) read) (λ held. IsTrue held ↔ Bears (Some n))
+  by_name : (n : VersionEntry) (read : Result (List ℕ) LinkError) → n.name ≡ read → n.hash ≡ hash → IfOk (result_map (λ other. bytes_eq other name) read) (λ held. IsTrue held ↔ Bears (Some n))
   by_name n (Ok other) is agrees = (
     λ held. (n, refl, agrees, is ∙ ap (λ t. Ok t) ((bytes_eq-Decides other name).0 held)),
     λ (m, one, hashed, named). let same_part : n ≡ m = cc in
-        let found : named_name n ≡ Ok name = subst (λ p. named_name p ≡ Ok name) (sym same_part) named in
+        let found : n.name ≡ Ok name = subst (λ p. p.name ≡ Ok name) (sym same_part) named in
         let text : other ≡ name = cc in
         (bytes_eq-Decides other name).1 text,
   )
   by_name n (Err error) is agrees = tt
 
-  bears : (named : Option NamedParts) → IfOk (is_version name hash named) (λ held. IsTrue held ↔ Bears named)
+  bears : (named : Option VersionEntry) → IfOk (is_version name hash named) (λ held. IsTrue held ↔ Bears named)
   bears None = (λ no. absurd (cc), λ (m, one, hashed, read). absurd (cc))
-  bears (Some n) = go (eqb (named_hash n) hash) refl (eqb_tells (named_hash n) hash)
+  bears (Some n) = go (eqb n.hash hash) refl (eqb_tells n.hash hash)
     where
-      go : (agrees : Bool) → eqb (named_hash n) hash ≡ agrees → ((eqb (named_hash n) hash ≡ true) × (named_hash n ≡ hash)) ⊎ ((eqb (named_hash n) hash ≡ false) × (named_hash n ≢ hash)) → IfOk (if agrees then result_map (λ other. bytes_eq other name) (named_name n) else Ok false) (λ held. IsTrue held ↔ Bears (Some n))
-      go true is (inl (_, agrees)) = by_name n (named_name n) refl agrees
+      go : (agrees : Bool) → eqb n.hash hash ≡ agrees → ((eqb n.hash hash ≡ true) × (n.hash ≡ hash)) ⊎ ((eqb n.hash hash ≡ false) × (n.hash ≢ hash)) → IfOk (if agrees then result_map (λ other. bytes_eq other name) n.name else Ok false) (λ held. IsTrue held ↔ Bears (Some n))
+      go true is (inl (_, agrees)) = by_name n n.name refl agrees
       go true is (inr (other, _)) = absurd (cc)
       go false is (inl (other, _)) = absurd (cc)
-      go false is (inr (_, differs)) = (λ no. absurd (cc), λ (m, one, hashed, read). (let same_part : n ≡ m = cc in absurd (differs (subst (λ p. named_hash p ≡ hash) (sym same_part) hashed))))
+      go false is (inr (_, differs)) = (λ no. absurd (cc), λ (m, one, hashed, read). (let same_part : n ≡ m = cc in absurd (differs (subst (λ p. p.hash ≡ hash) (sym same_part) hashed))))
 
   both : (a b c : Bool) → (a && (not b && not c)) ≡ true → (a ≡ true) × (b ≡ false) × (c ≡ false)
   both true false false is = (refl, refl, refl)
@@ -67,7 +68,7 @@ module _ (name : List ℕ) (hash : ℕ) (hidden : Bool) where
   or_right true b is = refl
   or_right false b is = is
 
-  version_law : (version : VersionParts) (answer : Result Bool LinkError) → IfOk answer (λ held. IsTrue held ↔ Bears version.named) → IfOk (result_map (λ held. held || is_open hidden version) answer) (λ held. IsTrue held ↔ IsAcceptedBy name hash hidden (Some version))
+  version_law : (version : VersionParts VersionEntry) (answer : Result Bool LinkError) → IfOk answer (λ held. IsTrue held ↔ Bears version.named) → IfOk (result_map (λ held. held || is_open hidden version) answer) (λ held. IsTrue held ↔ IsAcceptedBy name hash hidden (Some version))
   version_law version (Ok held) law = (to, back)
     where
       to : (held || is_open hidden version) ≡ true → IsAcceptedBy name hash hidden (Some version)
@@ -82,23 +83,16 @@ module _ (name : List ℕ) (hash : ℕ) (hidden : Bool) where
       back (nameless _ no_hash shown visible) = or_right held (is_open hidden version) (both_back (has_no_hash version.named) hidden version.hidden no_hash shown visible)
   version_law version (Err error) law = tt
 
-  accepts_law : (version : Option VersionParts) → IfOk (accepts_version name hash hidden version) (λ held. IsTrue held ↔ IsAcceptedBy name hash hidden version)
+  accepts_law : (version : Option (VersionParts VersionEntry)) → IfOk (accepts_version name hash hidden version) (λ held. IsTrue held ↔ IsAcceptedBy name hash hidden version)
   accepts_law None = (λ held. unnumbered, λ has. refl)
   accepts_law (Some version) = version_law version (is_version name hash version.named) (bears version.named)
 
-  read_law : (version : Option VersionParts) (read : Result (Option VersionParts) LinkError) → read ≡ Ok version → (answer : Result Bool LinkError) → IfOk answer (λ held. IsTrue held ↔ IsAcceptedBy name hash hidden version) → IfOk answer (λ held. IsTrue held ↔ ((v : Option VersionParts) × (read ≡ Ok v) × IsAcceptedBy name hash hidden v))
-  read_law version read is (Ok held) law = (
-    λ accepts. (version, is, law.0 accepts),
-    λ (v, one, has). (let same_one : version ≡ v = cc in law.1 (subst (λ x. IsAcceptedBy name hash hidden x) (sym same_one) has)),
-  )
-  read_law version read is (Err error) law = tt
-
-  at_law : (read : Result (Option VersionParts) LinkError) → IfOk (and_then read (accepts_version name hash hidden)) (λ held. IsTrue held ↔ ((version : Option VersionParts) × (read ≡ Ok version) × IsAcceptedBy name hash hidden version))
-  at_law (Ok version) = read_law version (Ok version) refl (accepts_version name hash hidden version) (accepts_law version)
+  at_law : (read : Result (Option (VersionParts VersionEntry)) LinkError) → IfOk (and_then read (accepts_version name hash hidden)) (λ held. IsTrue held ↔ IsOkAnd read (λ version. IsAcceptedBy name hash hidden version))
+  at_law (Ok version) = accepts_law version
   at_law (Err error) = tt
 
 -- whether a reference accepts a symbol at once
-pub accepted_law : (tables : VersionTables) (wanted : Wanted) (index : ℕ) → IfOk (accepted tables wanted index) (λ held. IsTrue held ↔ IsAccepted tables wanted index)
-accepted_law tables (Version name hash hidden) index = at_law name.now hash hidden (version_at tables index)
-accepted_law tables Unversioned index = below 3 (number_of tables index)
-accepted_law tables Newest index = below 2 (number_of tables index)
+pub accepted_law : (list : VersionList) (wanted : Wanted) (index : ℕ) → IfOk (accepted list wanted index) (λ held. IsTrue held ↔ IsAccepted list wanted index)
+accepted_law list (Version name hash hidden) index = at_law name.now hash hidden (version_at list index)
+accepted_law list Unversioned index = below 3 (number_of list.numbers index)
+accepted_law list Newest index = below 2 (number_of list.numbers index)

@@ -11,8 +11,9 @@ use Rattle.elf_records.specs.Dynamic.{dynamic_32, dynamic_64}
 use Rattle.elf_linking.specs.declared.error.LinkError.{LinkError}
 use Rattle.elf_linking.specs.declared.error.LinkError.TheVariants.{NoDynamic}
 use Rattle.elf_records.specs.declared.dynamic.Dynamic.{Dynamic}
-use Rattle.xmas_elf.specs.ProgramHeader.{program_fields, segment_data_of}
-use Rattle.xmas_elf.specs.Types.{ElfFile, ProgramHeader}
+use Rattle.elf_linking.specs.Segments.{segment_bytes}
+use Rattle.elf_linking.specs.declared.segments.Segment.{Segment}
+use Rattle.xmas_elf.specs.Types.{ElfFile}
 
 narrow_pick : (a b c : Bool) (n : ℕ) → (if a then class.None else (if b then class.ThirtyTwo else (if c then class.SixtyFour else class.Other n))) ≡ class.ThirtyTwo → b ≡ true
 narrow_pick true b c n e = absurd (cc)
@@ -42,11 +43,11 @@ pick true class one two entries error is other found = eqb-true class 2 is
 pick false class one two entries error is other found =
     let none : and_then (if class == 1 then one else (if class == 2 then two else Err error)) (λ found. Ok (until_null found)) ≡ Err error = rw other (rw is refl) in absurd (cc)
 
-wide_in : (file : ElfFile) (entries : List (Dynamic ℕ)) (segment : Option ProgramHeader)
-    → and_then (ok_or segment NoDynamic) (λ program. and_then (as_link_error (segment_data_of file (program_fields program))) (λ bytes.
+wide_in : (file : ElfFile) (entries : List (Dynamic ℕ)) (segment : Option Segment)
+    → and_then (ok_or segment NoDynamic) (λ program. and_then (as_link_error (segment_bytes file program)) (λ bytes.
     and_then (all_entries (file_class file.header) (file_order file.header) bytes) (λ all. Ok (until_null all)))) ≡ Ok entries → file_class file.header ≢ 1 → file_class file.header ≡ 2
 wide_in file entries None found other = absurd (cc)
-wide_in file entries (Some program) found other = by_data (segment_data_of file (program_fields program)) found
+wide_in file entries (Some program) found other = by_data (segment_bytes file program) found
   where
     by_data : (read : Result (List ℕ) ElfError)
         → and_then (as_link_error read) (λ bytes. and_then (all_entries (file_class file.header) (file_order file.header) bytes) (λ all. Ok (until_null all))) ≡ Ok entries → file_class file.header ≡ 2

@@ -115,14 +115,14 @@ module _ {E : Type 0} (file : DynamicSymbols E) (name : List ℕ) (wanted : Want
   candidate i e must = (named_for file.table file.symbols i e name must.0, must.1)
 
   default_right : (found : Option (ℕ × E)) → is_by_version wanted ≡ false → IsDefault file name wanted purpose found → IsRightDefault file name purpose found
-  default_right _ other (none_shown none) = all_hidden (λ i e must. hidden i e must (cases_Bool (is_default (number_of file.versions i))))
+  default_right _ other (none_shown none) = all_hidden (λ i e must. hidden i e must (cases_Bool (is_default (number_of file.versions.numbers i))))
     where
-      hidden : (i : ℕ) (e : E) → MustServe file name purpose i e → (is_default (number_of file.versions i) ≡ true) ⊎ (is_default (number_of file.versions i) ≡ false) → is_default (number_of file.versions i) ≡ false
+      hidden : (i : ℕ) (e : E) → MustServe file name purpose i e → (is_default (number_of file.versions.numbers i) ≡ true) ⊎ (is_default (number_of file.versions.numbers i) ≡ false) → is_default (number_of file.versions.numbers i) ≡ false
       hidden i e must (inr is) = is
       hidden i e must (inl shown) = absurd (finds (Shown None) (Ok None) none i e must.0 (candidate i e must, (other, (shown, λ same. cc))))
   default_right _ other (one_shown at some none) = alone at (stands_shown None at (finds (Shown None) (Ok (Some at)) some)) (λ i e must shown. same i e must shown (cases_eq i at.0))
     where
-      same : (i : ℕ) (e : E) → MustServe file name purpose i e → is_default (number_of file.versions i) ≡ true → (i ≡ at.0) ⊎ (i ≡ at.0 → ⊥) → i ≡ at.0
+      same : (i : ℕ) (e : E) → MustServe file name purpose i e → is_default (number_of file.versions.numbers i) ≡ true → (i ≡ at.0) ⊎ (i ≡ at.0 → ⊥) → i ≡ at.0
       same i e must shown (inl is) = is
       same i e must shown (inr differs) = absurd (finds (Shown (Some at.0)) (Ok None) none i e must.0 (candidate i e must, (other, (shown, λ is. differs (cc)))))
   default_right _ other (two_shown at second some more) =

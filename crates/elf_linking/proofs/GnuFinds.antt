@@ -4,7 +4,7 @@ use Rattle.elf_linking.specs.Find.{DynamicSymbols, IsAsked, IsFound, Seeks, aske
 use Rattle.elf_linking.specs.GnuHash.{EndsRun, IsThere, Lacks, NoHit, Run, Stops, chain_word, ended, first_symbol_of, found, goes, refused, start_of}
 use Rattle.elf_linking.specs.Layouts.{gnu_hash_number}
 use Rattle.elf_linking.specs.Kept.{EndsAt, GoesOn, kept_alone}
-use Rattle.elf_linking.specs.VersionTables.{VersionTables}
+use Rattle.elf_linking.specs.VersionList.{VersionList}
 use Rattle.elf_linking.specs.declared.any_table.AnyTable.TheVariants.{Gnu}
 use Rattle.elf_linking.specs.declared.error.LinkError.{LinkError}
 use Rattle.elf_linking.specs.declared.find.Use as uses
@@ -15,7 +15,7 @@ use Rattle.elf_linking.proofs.Kept.{Comes, comes_next, comes_over, found_end}
 use Rattle.elf_linking.proofs.Runs.{missed_next}
 use Rattle.xmas_elf.specs.Symbol.{Symbols}
 
-module _ {E : Type 0} (table : GnuHashTable) (symbols : Symbols E) (versions : VersionTables) (name : List ℕ) (from : ℕ) where
+module _ {E : Type 0} (table : GnuHashTable) (symbols : Symbols E) (versions : VersionList) (name : List ℕ) (from : ℕ) where
   abbrev file : DynamicSymbols E
   file = dynamic_symbols (Gnu table) symbols versions
 

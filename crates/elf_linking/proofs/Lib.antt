@@ -8,6 +8,8 @@ pub mod GnuChecks
 pub mod GnuCounts
 pub mod RelrItems
 pub mod NoteItems
+pub mod SegmentRecords
+pub mod PortSegments
 pub mod Firsts
 pub mod LoadedBytes
 pub mod EntryItems
@@ -39,3 +41,9 @@ mod Bindings
 pub mod DynamicObjects
 pub mod ObjectRefusals
 pub mod VersionChecks
+pub mod ExportSearch
+pub mod ExportChains
+mod ExportFinds
+mod ExportLists
+mod ExportAsks
+mod CheckedScopes

@@ -7,10 +7,10 @@ use Rattle.elf_base.specs.Number.{number}
 use Rattle.elf_base.specs.declared.bytes.Order.{Order}
 use Rattle.elf_linking.specs.MarkedVersions.{AreMarks, bears_at, first_place, marked_at}
 use Rattle.elf_linking.specs.VersionTables.{DefinitionParts, VersionRecords, definition_at, result_map, places_of, version_number}
-use Rattle.elf_linking.specs.Versions.{BearsDefined, bears_defined, first_item}
+use Rattle.elf_linking.specs.Versions.{bears_defined, first_item}
 use Rattle.elf_linking.specs.declared.error.LinkError.{LinkError}
 use Rattle.elf_linking.proofs.VersionPlaces.{more_suc, place_first}
-use Rattle.elf_linking.proofs.VersionSearch.{bears_hits}
+use Rattle.elf_linking.proofs.VersionSearch.{BearsDefined, bears_hits}
 use Rattle.elf_linking.proofs.lemmas.FirstItems.{search_found, search_other}
 
 not_of : (a : Bool) → not a ≡ true → a ≡ false

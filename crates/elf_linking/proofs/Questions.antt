@@ -6,10 +6,11 @@ use Rattle.elf_base.specs.Refusal.{and_then}
 use Rattle.elf_base.specs.Table.{table_items}
 use Rattle.elf_linking.specs.DynamicObject.{object_dynamic_symbols, object_machine, object_name, object_records, object_versions}
 use Rattle.elf_linking.specs.Find.{AreReadable, DynamicSymbols, IsDefault, IsFound, asked_first, faulty, none_shown, one_shown, otherwise, two_shown}
-use Rattle.elf_linking.specs.References.{use_of}
-use Rattle.elf_linking.specs.Scope.{asked_of, asked_with, binds_to_itself, if_protected, is_hidden_need, text_alone, wanted_by, wanted_of, wanted_parts}
-use Rattle.elf_linking.specs.VersionTables.{result_map, version_tables}
-use Rattle.elf_linking.specs.Versions.{NamedParts, VersionParts, named_hash, named_name, number_of, version_at}
+use Rattle.elf_linking.specs.RelocationTypes.{row_of}
+use Rattle.elf_linking.specs.Scope.{asked_of, asked_with, binds_to_itself, if_protected, text_alone, wanted_by, wanted_of, wanted_parts}
+use Rattle.elf_linking.specs.VersionTables.{result_map}
+use Rattle.elf_linking.specs.Versions.{VersionParts, number_of, version_at, version_list}
+use Rattle.elf_linking.specs.VersionList.{VersionEntry}
 use Rattle.elf_linking.specs.declared.error.LinkError.{LinkError}
 use Rattle.elf_linking.specs.declared.find.Use as uses
 use Rattle.elf_linking.specs.declared.find.Wanted.{Wanted}
@@ -27,18 +28,18 @@ HasNameFor fields asking reference =
     IsSomeAnd (slice_get (table_items (object_records asking)) reference.symbol) (λ symbol.
     binds_to_itself (fields symbol) ≡ false → IsOk (object_name fields asking reference.symbol))
 
--- the version that is wanted can be read, if the name of what bears it can
-wanted_read : (version : Option VersionParts) → IfSome version (λ v. HasName v.named) → IsOk (wanted_of version)
+-- the version that is wanted can be read, if the name of its entry can
+wanted_read : (version : Option (VersionParts VersionEntry)) → IfSome version (λ v. HasName v.named) → IsOk (wanted_of version)
 wanted_read None read = refl
 wanted_read (Some version) read = by_named version.named read
   where
-    by_hash : (named : NamedParts) (none : Bool) → IsOk (named_name named) → IsOk (if none then Ok Unversioned else result_map (λ name. Version (text_alone name) (named_hash named) (is_hidden_need named)) (named_name named))
-    by_hash named true has = refl
-    by_hash named false has = item_ok (λ name. Version (text_alone name) (named_hash named) (is_hidden_need named)) (named_name named) has
+    by_hash : (entry : VersionEntry) (none : Bool) → IsOk entry.name → IsOk (if none then Ok Unversioned else result_map (λ name. Version (text_alone name) entry.hash entry.hidden) entry.name)
+    by_hash entry true has = refl
+    by_hash entry false has = item_ok (λ name. Version (text_alone name) entry.hash entry.hidden) entry.name has
 
-    by_named : (named : Option NamedParts) → HasName named → IsOk (wanted_by named)
+    by_named : (named : Option VersionEntry) → HasName named → IsOk (wanted_by named)
     by_named None has = refl
-    by_named (Some named) has = by_hash named (named_hash named == 0) has
+    by_named (Some entry) has = by_hash entry (entry.hash == 0) has
 
 module _ {E : Type 0} (purpose : uses.Use) (own : Option E) where
   abbrev look : List ℕ → Wanted → Result (Asked E) LinkError
@@ -48,19 +49,19 @@ module _ {E : Type 0} (purpose : uses.Use) (own : Option E) where
   with_wanted name (Ok wanted) ok = refl
   with_wanted name (Err error) ok = absurd (cc)
 
-  looked_read : (name : Result (List ℕ) LinkError) (version : Result (Option VersionParts) LinkError) → IsOk name → IsOkAnd version (λ v. IfSome v (λ v. HasName v.named)) → IsOk (and_then name (λ name. and_then version (λ version. and_then (wanted_of version) (look name))))
+  looked_read : (name : Result (List ℕ) LinkError) (version : Result (Option (VersionParts VersionEntry)) LinkError) → IsOk name → IsOkAnd version (λ v. IfSome v (λ v. HasName v.named)) → IsOk (and_then name (λ name. and_then version (λ version. and_then (wanted_of version) (look name))))
   looked_read (Err error) version named read = absurd (cc)
   looked_read (Ok name) (Err error) named read = absurd read
   looked_read (Ok name) (Ok version) named read = with_wanted name (wanted_of version) (wanted_read version read)
 
 -- what a reference asks for is no error
 module _ {E : Type 0} {r : _} (fields : E → SymbolFields) (object : DynamicObject E r) (reference : Reference) (readable : AreReadable (object_dynamic_symbols fields object)) where
-  by_binding : (own : Bool) (symbol : E) → reference.symbol < length (table_items (object_records object)) → (own ≡ false → IsOk (object_name fields object reference.symbol)) → IsOk (if own then Ok (Own symbol) else and_then (object_name fields object reference.symbol) (λ name. and_then (version_at (version_tables (object_versions object)) reference.symbol) (λ version. and_then (wanted_of version) (λ wanted. Ok (Look (text_alone name) wanted (use_of (object_machine object) reference.kind) (if_protected fields symbol))))))
+  by_binding : (own : Bool) (symbol : E) → reference.symbol < length (table_items (object_records object)) → (own ≡ false → IsOk (object_name fields object reference.symbol)) → IsOk (if own then Ok (Own symbol) else and_then (object_name fields object reference.symbol) (λ name. and_then (version_at (version_list (object_versions object)) reference.symbol) (λ version. and_then (wanted_of version) (λ wanted. Ok (Look (text_alone name) wanted (row_of (object_machine object) reference.kind).use_ (if_protected fields symbol))))))
   by_binding true symbol below named = refl
   by_binding false symbol below named =
-      let tables = version_tables (object_versions object) in
-      looked_read (use_of (object_machine object) reference.kind) (if_protected fields symbol) (object_name fields object reference.symbol) (version_at tables reference.symbol) (named refl)
-      (version_read tables readable.definitions readable.needs (number_of tables reference.symbol) (readable.numbers reference.symbol below))
+      let list = version_list (object_versions object) in
+      looked_read (row_of (object_machine object) reference.kind).use_ (if_protected fields symbol) (object_name fields object reference.symbol) (version_at list reference.symbol) (named refl)
+      (version_read list.entries readable.entries (number_of list.numbers reference.symbol) (readable.numbers reference.symbol below))
 
   by_symbol : (symbol : Option E) → slice_get (table_items (object_records object)) reference.symbol ≡ symbol → IsSomeAnd symbol (λ symbol. binds_to_itself (fields symbol) ≡ false → IsOk (object_name fields object reference.symbol)) → IsOk (asked_with fields object reference symbol)
   by_symbol None none named = absurd named

@@ -1,7 +1,11 @@
 -- The remaining references of an iterator, relocation by relocation.
-use Rattle.std.proofs.Common.{◌≡◌, ℕ, ◌<◌, ◌≤◌, ◌*◌, ◌^◌, suc, length, arith, Bool, true, false, if◌then◌else◌, List, [], ◌∷◌, ◌++◌, length-append, filter, map, mul-le-mul_left, sym, ap, ◌∙◌}
-use Rattle.std.proofs.lemmas.List.{length-map}
+use Rattle.std.proofs.Common.{◌≡◌, ℕ, ◌<◌, ◌≤◌, ◌*◌, ◌/◌, ◌^◌, zero, suc, length, arith, Bool, true, false, if◌then◌else◌, List, [], ◌∷◌, ◌++◌, length-append, drop, filter, map, take, mul-le-mul_left, refl, sym, ap, ◌∙◌}
+use Rattle.std.proofs.Math.Nat.{div-mul-le_self}
+use Rattle.elf_base.specs.Table.{first_records, records}
+use Rattle.elf_base.specs.declared.bytes.Order.{Order}
+use Rattle.elf_base.proofs.lemmas.RecordLemmas.{length-records}
 use Rattle.elf_linking.specs.References.{names_symbol}
+use Rattle.elf_linking.specs.RelocationRecords.{references_by}
 use Rattle.elf_linking.specs.declared.references.Reference.{Reference}
 
 -- the first of the relocations, which names a symbol or doesn't
@@ -29,13 +33,35 @@ begins table others later relocation is = ap (λ list. list ++ later) is
 pub goes_on : (table later : List Reference) → table ≡ [] → table ++ later ≡ later
 goes_on table later is = ap (λ list. list ++ later) is
 
--- the relocations of a table whose records have 8 bytes or more
-pub records_few : {R : Type 0} (reference : R → Reference) (items : List R) (size room : ℕ) → length items * size ≡ room → room < 2 ^ 64 → 8 ≤ size
-    → length (map reference items) < 2 ^ 61
-records_few reference items size room is below above =
-    let same = length-map items reference in
-    let least : length items * 8 ≤ length items * size = mul-le-mul_left (length items) above in
-    rw same (omega (arith, least, is, below))
+-- The relocations of a table, record by record.
+module _ {R : Type 0} (size : ℕ) (value : Order → List ℕ → R) (reference : R → Reference) where
+  first_mapped : (order : Order) (count : ℕ) (bytes : List ℕ)
+      → first_records size (λ one. reference (value order one)) count bytes ≡ map reference (first_records size (value order) count bytes)
+  unfolding first_records
+  first_mapped order zero bytes = refl
+  first_mapped order (suc count) bytes = ap (λ others. reference (value order (take size bytes)) ∷ others) (first_mapped order count (drop size bytes))
+
+  mapped : (order : Order) (bytes : List ℕ) → references_by size value reference order bytes ≡ map reference (records size (value order) bytes)
+  unfolding references_by records
+  mapped order bytes = first_mapped order (length bytes / size) bytes
+
+  pub none_decoded : (order : Order) (bytes : List ℕ) → records size (value order) bytes ≡ [] → references_by size value reference order bytes ≡ []
+  none_decoded order bytes is = mapped order bytes ∙ ap (map reference) is
+
+  pub first_decoded : (order after : Order) (bytes others : List ℕ) (one : R) (found : Reference) → records size (value order) bytes ≡ one ∷ records size (value after) others
+      → found ≡ reference one → references_by size value reference order bytes ≡ found ∷ references_by size value reference after others
+  first_decoded order after bytes others one found is same =
+      mapped order bytes ∙ ap (map reference) is ∙ ap (λ x. x ∷ map reference (records size (value after) others)) (sym same)
+      ∙ ap (λ list. found ∷ list) (sym (mapped after others))
+
+-- the records of 8 bytes or more in bytes
+pub records_few : {R : Type 0} (size : ℕ) (value : List ℕ → R) (bytes : List ℕ) (room : ℕ) → length bytes ≡ room → room < 2 ^ 64 → 8 ≤ size
+    → length (records size value bytes) < 2 ^ 61
+records_few size value bytes room is below above =
+    let count = length-records size value bytes in
+    let least : length bytes / size * 8 ≤ length bytes / size * size = mul-le-mul_left (length bytes / size) above in
+    let most = div-mul-le_self (length bytes) size in
+    rw count (omega (arith, least, most, is, below))
 
 -- the references are no more than the relocations
 few_by : (b : Bool) (x : Reference) (kept : List Reference) (count : ℕ) → length kept ≤ count → length (if b then x ∷ kept else kept) ≤ suc count

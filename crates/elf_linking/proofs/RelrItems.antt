@@ -14,7 +14,7 @@ use Rattle.elf_base.specs.declared.header.numbers.Class.{Class}
 use Rattle.elf_base.specs.declared.header.numbers.Class.TheVariants.{ThirtyTwo, SixtyFour}
 use Rattle.elf_base.proofs.lemmas.RecordLemmas.{length-records}
 use Rattle.elf_linking.specs.declared.error.LinkError.TheVariants.{NotMultiple}
-use Rattle.elf_linking.specs.Relr.{addresses, addresses_in, addresses_of, marked, marks, place_after, address_after, relr_of}
+use Rattle.elf_linking.specs.Relr.{addresses, addresses_of, marked, marks, place_after, address_after, relr_of}
 
 -- a sublist is no longer than its list
 by_test : (passes : Bool) (x : ℕ) (one other : List ℕ) → length one ≤ length other → length (if passes then x ∷ one else one) ≤ suc (length other)
@@ -95,8 +95,8 @@ taken_up size size' place place' behind word left words others whole before bare
     taken_up_by size' place' behind word (marks size' - 0) left words others whole here bare begins odd is all
 
 -- the remaining addresses at the start
-pub starts : (size looked_at : ℕ) (words : List ℕ) (answer : Result (ℕ × List ℕ) LinkError) → answer ≡ Ok (size, words) → looked_at ≡ marks size
-    → addresses_in answer ≡ Ok (marked size 0 0 looked_at (marks size - looked_at) ++ addresses size 0 words)
+pub starts : (size looked_at : ℕ) (words : List ℕ) (answer : Result (List ℕ) LinkError) → answer ≡ Ok (addresses size 0 words) → looked_at ≡ marks size
+    → answer ≡ Ok (marked size 0 0 looked_at (marks size - looked_at) ++ addresses size 0 words)
 starts size looked_at words answer is all =
     let none : marks size - looked_at ≡ 0 = omega (arith, all) in
     rw (is, none, marked_none size 0 0 looked_at) refl
@@ -137,7 +137,7 @@ words_fit size place order bytes above =
     omega (arith, few, same, fits)
 
 in_bytes : (size : ℕ) (order : Order) (bytes items : List ℕ) (whole : Bool) → 0 < size
-    → addresses_in (if whole then Ok (size, records size (λ word. number order size 0 word) bytes) else Err NotMultiple) ≡ Ok items → length items ≤ 8 * length bytes
+    → (if whole then Ok (addresses size 0 (records size (λ word. number order size 0 word) bytes)) else Err NotMultiple) ≡ Ok items → length items ≤ 8 * length bytes
 in_bytes size order bytes items true above is =
     let same : addresses size 0 (records size (λ word. number order size 0 word) bytes) ≡ items = cc in
     subst (λ list. length list ≤ 8 * length bytes) same (words_fit size 0 order bytes above)

@@ -4,7 +4,7 @@ use Rattle.elf_base.specs.declared.error.ElfError.{ElfError}
 use Rattle.elf_linking.specs.DynamicView.{as_link_error}
 use Rattle.elf_linking.specs.Find.{DynamicSymbols, IsAsked, IsFound, Seeks, asked_first, dynamic_symbols, faulty}
 use Rattle.elf_linking.specs.Kept.{EndsAt, GoesOn, kept_alone}
-use Rattle.elf_linking.specs.VersionTables.{VersionTables}
+use Rattle.elf_linking.specs.VersionList.{VersionList}
 use Rattle.elf_linking.specs.declared.any_table.AnyTable.TheVariants.{Sysv}
 use Rattle.elf_linking.specs.declared.error.LinkError.{LinkError}
 use Rattle.elf_linking.specs.declared.error.LinkError.TheVariants.{Elf}
@@ -17,7 +17,7 @@ use Rattle.xmas_elf.specs.Symbol.{Symbols}
 use Rattle.xmas_elf.specs.Types.{HashTable}
 use Rattle.xmas_elf.proofs.ChainPaths.{by_order, comes_same, looks, looks_halted}
 
-module _ {E : Type 0} (table : HashTable) (symbols : Symbols E) (versions : VersionTables) (name : List ℕ) where
+module _ {E : Type 0} (table : HashTable) (symbols : Symbols E) (versions : VersionList) (name : List ℕ) where
   abbrev file : DynamicSymbols E
   file = dynamic_symbols (Sysv table) symbols versions
 

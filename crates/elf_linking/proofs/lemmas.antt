@@ -1,3 +1,4 @@
+pub mod RelocationTypes
 pub mod GnuTables
 pub mod Looking
 pub mod FirstItems
@@ -6,3 +7,5 @@ pub mod Bound
 pub mod Newest
 pub mod Once
 pub mod Readable
+pub mod SegmentsLeft
+pub mod CheckedBound

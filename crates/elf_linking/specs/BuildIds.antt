@@ -8,12 +8,11 @@ use Rattle.elf_linking.specs.Notes.{NoteParts, notes_of}
 use Rattle.elf_linking.specs.declared.error.LinkError.{LinkError}
 use Rattle.elf_linking.specs.declared.error.LinkError.TheVariants.{Elf}
 use Rattle.xmas_elf.specs.NameTable.{section_named}
-use Rattle.xmas_elf.specs.ProgramHeader.{program_fields, program_list, segment_data_of, segment_type}
-use Rattle.xmas_elf.specs.ProgramNumbers.{has_ph_type}
 use Rattle.xmas_elf.specs.SectionData.{section_data_of}
 use Rattle.xmas_elf.specs.SectionHeader.{section_fields}
-use Rattle.xmas_elf.specs.SegmentType.TheVariants.{Note}
-use Rattle.xmas_elf.specs.Types.{ElfError, ElfFile, Order, ProgramHeader, SectionHeader}
+use Rattle.xmas_elf.specs.Types.{ElfError, ElfFile, Order, SectionHeader}
+use Rattle.elf_linking.specs.Segments.{segment_bytes, segments_of}
+use Rattle.elf_linking.specs.declared.segments.Segment.{Segment}
 
 -- the name of GNU's notes, with its zero byte
 abbrev pub gnu : List ℕ
@@ -46,9 +45,9 @@ id_of_section file section = let fields = section_fields section in
     id_in fields.align (file_order file.header) file.input fields.offset (section_data_of file section)
 
 -- the build id in a segment of any type
-unfoldable pub id_of_segment : ElfFile → ProgramHeader → Result (Option (Bor (List ℕ))) LinkError
-id_of_segment file program = let segment = program_fields program in
-    id_in segment.align (file_order file.header) file.input segment.offset (segment_data_of file segment)
+unfoldable pub id_of_segment : ElfFile → Segment → Result (Option (Bor (List ℕ))) LinkError
+id_of_segment file segment =
+    id_in segment.align (file_order file.header) file.input segment.offset (segment_bytes file segment)
 
 -- the build id in the section that was found by its name; nothing if there is no such section
 abbrev pub id_of_named : ElfFile → Option SectionHeader → Result (Option (Bor (List ℕ))) LinkError
@@ -59,9 +58,9 @@ id_of_named file (Some section) = id_of_section file section
 abbrev pub id_by_sections : ElfFile → Result (Option (Bor (List ℕ))) LinkError
 id_by_sections file = id_of_named file (section_named file (codes ".note.gnu.build-id"))
 
--- a segment has type Note
-abbrev pub is_notes : ProgramHeader → Bool
-is_notes program = has_ph_type Note (segment_type (program_fields program))
+-- a segment has type Note (PT_NOTE)
+abbrev pub is_notes : Segment → Bool
+is_notes segment = segment.kind == 4
 
 -- a result, or the next one if it is nothing
 abbrev pub or_next : Result (Option (Bor (List ℕ))) LinkError → Result (Option (Bor (List ℕ))) LinkError → Result (Option (Bor (List ℕ))) LinkError
@@ -70,11 +69,11 @@ or_next (Ok (Some id)) next = Ok (Some id)
 or_next (Err error) next = Err error
 
 -- the build id in the first segment of type Note that has one, or the error before it
-abbrev pub id_in_segments : ElfFile → List ProgramHeader → Result (Option (Bor (List ℕ))) LinkError
+abbrev pub id_in_segments : ElfFile → List Segment → Result (Option (Bor (List ℕ))) LinkError
 id_in_segments file [] = Ok None
-id_in_segments file (program ∷ programs) = let rest = id_in_segments file programs in
-    if is_notes program then or_next (id_of_segment file program) rest else rest
+id_in_segments file (segment ∷ segments) = let rest = id_in_segments file segments in
+    if is_notes segment then or_next (id_of_segment file segment) rest else rest
 
 -- the build id of a file by its program headers
 abbrev pub id_by_segments : ElfFile → Result (Option (Bor (List ℕ))) LinkError
-id_by_segments file = id_in_segments file (program_list file)
+id_by_segments file = id_in_segments file (segments_of file)

@@ -1,18 +1,21 @@
 -- One value with the dynamic symbols of a file: the entries of its dynamic segment, its hash table, its
 -- symbols, the string table of their names, and its version tables.
-use Rattle.std.specs.Prelude.{◌≡◌, ◌≢◌, ◌/◌, ℕ, List, Option, Some, None, Result, Ok, Err, IfOk, MatchOption, MatchResult, length, slice_get}
+use Rattle.std.specs.Prelude.{◌≡◌, ◌≢◌, ◌/◌, ℕ, List, Option, Some, None, Result, Ok, Err, IfOk, MatchOption, MatchResult, length, ok_or, slice_get}
 use Rattle.std.specs.Borrow.{Bor}
 use Rattle.std.specs.Result.{result_ok}
-use Rattle.elf_base.specs.FileHeader.{file_class, file_order}
+use Rattle.elf_base.specs.FileHeader.{file_class, file_order, header_fields, machine_number}
+use Rattle.elf_base.specs.Refusal.{and_then}
 use Rattle.elf_base.specs.Table.{records, table_bytes, table_data, table_items, table_order}
 use Rattle.elf_base.specs.Text.{text_of}
 use Rattle.elf_base.specs.declared.bytes.Order.{Order}
 use Rattle.elf_base.specs.declared.bytes.table.Table.{Table}
 use Rattle.elf_linking.specs.AnyTable.{IsLinkedTable}
 use Rattle.elf_linking.specs.DynamicView.{AreSymbols, LieAsSymbols, LiesAsFileStrings, LiesAsStrings, bytes_in_strings, counted_symbols_of, dynamic_entries_of, strings_by, dynamic_strings_of, text_in_strings, view_entries, view_strings, view_table}
-use Rattle.elf_linking.specs.Find.{DynamicSymbols, dynamic_symbols}
-use Rattle.elf_linking.specs.References.{IsReachedCount, file_machine}
-use Rattle.elf_linking.specs.VersionTables.{version_tables, version_tables_of}
+use Rattle.elf_linking.specs.Find.{DynamicSymbols}
+use Rattle.elf_linking.specs.References.{IsReachedCount}
+use Rattle.elf_linking.specs.VersionList.{entries_in, numbers_in}
+use Rattle.elf_linking.specs.VersionTables.{VersionTables, version_tables_of}
+use Rattle.elf_linking.specs.Versions.{version_list, version_tables}
 use Rattle.elf_linking.specs.declared.any_table.AnyTable.{AnyTable}
 use Rattle.elf_linking.specs.declared.error.LinkError.{LinkError}
 use Rattle.elf_linking.specs.declared.error.LinkError.TheVariants.{SymbolIndex, UnknownClass}
@@ -54,8 +57,11 @@ object_symbols fields object = named_symbols fields (object_strings object).now 
 
 -- what a search for the symbol that a reference gets reads of it
 abbrev pub object_dynamic_symbols : {E : Type 0} → {r : _} → (E → SymbolFields) → DynamicObject E r → DynamicSymbols E
-object_dynamic_symbols fields object =
-    dynamic_symbols (object_table object) (object_symbols fields object) (version_tables (object_versions object))
+object_dynamic_symbols fields object = record {
+  table = object.table;
+  symbols = named_symbols fields object.strings.now object.symbols;
+  versions = version_list object.versions;
+}
 
 -- the bytes of the symbols of a file of this class, which have this size each, or why there are none; they are as
 -- many as are given, otherwise as many as the hash table counts
@@ -71,7 +77,7 @@ AreOfClass = AreOfClassFor None
 
 -- the machine of the file (e_machine)
 abbrev pub object_machine : {E : Type 0} → {r : _} → DynamicObject E r → ℕ
-object_machine object = file_machine (object_file object)
+object_machine object = machine_number (header_fields object.header.pt2).machine
 
 -- the object is that of a file of this class, with symbols of this size: each part is what the calls of the
 -- dynamic segment return. The symbols are as many as are given, otherwise as many as the hash table counts
@@ -102,7 +108,7 @@ symbols_with size entry fields strings bytes = record {
 }
 
 -- the dynamic symbols of a file of this class, with symbols of this size: by the entries of its dynamic segment its
--- hash table, its symbols with their names in its string table, and its version tables
+-- hash table, its symbols with their names in its string table, and the numbers of their versions by its version tables
 pub record AreDynamicSymbols {E : Type 0} (class size : ℕ) (entry : Order → List ℕ → E) (fields : E → SymbolFields) (file : ElfFile) (all : DynamicSymbols E) : Type 0 where
   pub entries : List (Dynamic ℕ)
   pub bytes : List ℕ
@@ -112,7 +118,14 @@ pub record AreDynamicSymbols {E : Type 0} (class size : ℕ) (entry : Order → 
   pub bytes_are : AreOfClassFor None class size file entries (Ok bytes)
   pub strings_are : strings_by file entries ≡ Ok strings
   pub symbols_are : all.symbols ≡ symbols_with size (entry (file_order file.header)) fields strings bytes
-  pub versions_are : version_tables_of file entries (Ok strings) (length all.symbols.items) ≡ Ok all.versions
+  pub tables : VersionTables
+  pub tables_are : version_tables_of file entries (Ok strings) (length all.symbols.items) ≡ Ok tables
+  pub numbers_are : all.versions.numbers ≡ numbers_in tables
+
+-- the same with the versions that the tables define and need
+pub record AreVersionedSymbols {E : Type 0} (class size : ℕ) (entry : Order → List ℕ → E) (fields : E → SymbolFields) (file : ElfFile) (all : DynamicSymbols E) : Type 0 where
+  pub symbols : AreDynamicSymbols class size entry fields file all
+  pub entries_are : all.versions.entries ≡ entries_in symbols.tables
 
 -- why there is no such object: the first error, of the entries, of the hash table, of the symbols, of the
 -- string table, or of the version tables
@@ -154,29 +167,18 @@ pub data IsReachedRefused (class size : ℕ) (file : ElfFile) : LinkError → Ty
       → IsReachedCount file entries (Ok count) → IsObjectRefusedFor (Some count) class size file error
       → IsReachedRefused class size file error
 
--- the text in a string table at the name of the symbol at an index, or why there is none
-abbrev pub name_of_symbol : {E : Type 0} → (E → SymbolFields) → List ℕ → Option E → Result (List ℕ) LinkError
-name_of_symbol fields strings None = Err SymbolIndex
-name_of_symbol fields strings (Some symbol) = text_in_strings (Ok strings) (fields symbol).name
-
--- the name of the symbol at an index of an object
+-- the name of the symbol at an index of an object, or why there is none
 abbrev pub object_name : {E : Type 0} → {r : _} → (E → SymbolFields) → DynamicObject E r → ℕ → Result (List ℕ) LinkError
-object_name fields object index =
-    name_of_symbol fields (object_strings object).now (slice_get (table_items (object_records object)) index)
+object_name fields object index = and_then (ok_or (slice_get (table_items object.symbols) index) SymbolIndex)
+    (λ symbol. text_in_strings (Ok object.strings.now) (fields symbol).name)
 
 -- the bytes of the name, or why there are none
-abbrev pub bytes_of_symbol : {E : Type 0} → (E → SymbolFields) → List ℕ → Option E → Result (List ℕ) LinkError
-bytes_of_symbol fields strings None = Err SymbolIndex
-bytes_of_symbol fields strings (Some symbol) = bytes_in_strings (Ok strings) (fields symbol).name
-
--- the bytes of the name of the symbol at an index of an object
 abbrev pub object_name_bytes : {E : Type 0} → {r : _} → (E → SymbolFields) → DynamicObject E r → ℕ → Result (List ℕ) LinkError
-object_name_bytes fields object index =
-    bytes_of_symbol fields (object_strings object).now (slice_get (table_items (object_records object)) index)
+object_name_bytes fields object index = and_then (ok_or (slice_get (table_items object.symbols) index) SymbolIndex)
+    (λ symbol. bytes_in_strings (Ok object.strings.now) (fields symbol).name)
 
 -- the result of a call is the name of the symbol, if it has one, or an error that is `SymbolIndex` if there is
 -- no symbol
 abbrev pub IsNameAt : {E : Type 0} → (E → Option (List ℕ)) → Option E → Result (Bor (List ℕ)) LinkError → Type 0
-IsNameAt text None answer = answer ≡ Err SymbolIndex
-IsNameAt text (Some symbol) answer =
-    MatchResult answer (λ name. text symbol ≡ Some name.now) (λ error. text symbol ≡ None)
+IsNameAt text found answer = MatchOption found (answer ≡ Err SymbolIndex) (λ symbol.
+    MatchResult answer (λ name. text symbol ≡ Some name.now) (λ error. text symbol ≡ None))

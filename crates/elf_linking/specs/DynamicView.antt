@@ -7,12 +7,10 @@ use Rattle.elf_base.specs.Refusal.{and_then, unless}
 use Rattle.elf_base.specs.FileHeader.{class_of, file_class, file_order}
 use Rattle.elf_base.specs.Lent.{LiesAt}
 use Rattle.elf_base.specs.Text.{as_text, bytes_up_to_zero_of, text_of}
-use Rattle.elf_records.specs.ProgramNumbers.{has_ph_type}
-use Rattle.elf_records.specs.declared.program.Type.TheVariants as segment_type_variants
-use Rattle.xmas_elf.specs.ProgramHeader.{program_fields, segment_type, program_list, segment_data_of}
+use Rattle.elf_linking.specs.Segments.{segment_bytes, segments_of}
+use Rattle.elf_linking.specs.declared.segments.Segment.{Segment}
 use Rattle.xmas_elf.specs.declared.ElfFile.{ElfFile}
-use Rattle.xmas_elf.specs.declared.program.program_header.ProgramHeader.{ProgramHeader}
-pub use Rattle.elf_linking.specs.Entries.{all_entries, entries_left, has_symbolic_flag, has_tag, is_symbolic, number_with, pairs_left, pairs_of, until_null, whole_entries}
+pub use Rattle.elf_linking.specs.Entries.{all_entries, entries_left, flag_in, has_tag, is_symbolic, number_with, pairs_left, pairs_of, until_null, whole_entries}
 use Rattle.elf_linking.specs.Layouts.{gnu_table_of}
 use Rattle.elf_linking.specs.declared.error.LinkError.{LinkError}
 use Rattle.elf_linking.specs.declared.error.LinkError.TheVariants.{Elf, NoDynamic, NoEntry, SymbolIndex}
@@ -27,24 +25,23 @@ use Rattle.elf_linking.specs.declared.view.needed_bytes.NeededBytes.{NeededBytes
 use Rattle.elf_base.specs.declared.error.ElfError.TheVariants.{ShortData}
 use Rattle.elf_base.specs.Number.{number}
 use Rattle.elf_linking.specs.GnuCount.{IsGnuCount}
-use Rattle.elf_linking.specs.GnuHash.{gnu_class, gnu_data, gnu_order}
 use Rattle.elf_linking.specs.declared.gnu_hash.GnuHashTable.{GnuHashTable}
 
 -- The dynamic segment of a file and its string table (DT_NEEDED, DT_STRTAB, DT_STRSZ and others; that the
 -- first segment and the first entry of a kind are the ones read is this project's own).
 
--- whether a segment has type Dynamic
-abbrev pub is_dynamic : ProgramHeader → Bool
-is_dynamic program = has_ph_type segment_type_variants.Dynamic (segment_type (program_fields program))
+-- whether a segment has type Dynamic (PT_DYNAMIC)
+abbrev pub is_dynamic : Segment → Bool
+is_dynamic segment = segment.kind == 2
 
 -- the first segment of type Dynamic
-unfoldable pub dynamic_segment_of : ElfFile → Option ProgramHeader
-dynamic_segment_of file = find is_dynamic (program_list file)
+unfoldable pub dynamic_segment_of : ElfFile → Option Segment
+dynamic_segment_of file = find is_dynamic (segments_of file)
 
 -- the entries of a file before the first with tag Null, or why there are none
 unfoldable pub dynamic_entries_of : ElfFile → Result (List (Dynamic ℕ)) LinkError
-dynamic_entries_of file = and_then (ok_or (dynamic_segment_of file) NoDynamic) (λ program.
-    and_then (as_link_error (segment_data_of file (program_fields program))) (λ bytes.
+dynamic_entries_of file = and_then (ok_or (dynamic_segment_of file) NoDynamic) (λ segment.
+    and_then (as_link_error (segment_bytes file segment)) (λ bytes.
     and_then (all_entries (file_class file.header) (file_order file.header) bytes) (λ entries. Ok (until_null entries))))
 
 -- the string table of the entries, by its address and its size (DT_STRTAB and DT_STRSZ)
@@ -173,9 +170,9 @@ gnu_hash_table_of file entries =
 
 -- the table is GNU's hash table of the entries
 pub record IsGnuTableBy (file : ElfFile) (entries : List (Dynamic ℕ)) (table : GnuHashTable) : Type 0 where
-  pub bytes_are : gnu_hash_table_of file entries ≡ Ok (gnu_data table)
-  pub class_is : gnu_class table ≡ class_of (file_class file.header)
-  pub order_is : gnu_order table ≡ file_order file.header
+  pub bytes_are : gnu_hash_table_of file entries ≡ Ok table.bytes.now
+  pub class_is : table.class ≡ class_of (file_class file.header)
+  pub order_is : table.order ≡ file_order file.header
 
 -- the number of symbols: the chain count of the standard's hash table if there is an entry for it, otherwise by GNU's
 pub data IsSymbolCount (file : ElfFile) (entries : List (Dynamic ℕ)) : Result ℕ LinkError → Type 0 where

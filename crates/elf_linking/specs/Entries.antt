@@ -40,15 +40,15 @@ has_tag tag entry = dynamic_tag entry == tag
 abbrev pub number_with : ℕ → List (Dynamic ℕ) → Option ℕ
 number_with tag entries = option_map (λ entry. dynamic_value entry) (find (has_tag tag) entries)
 
--- a number of flags has the flag 2 (DF_SYMBOLIC)
-abbrev pub has_symbolic_flag : Option ℕ → Bool
-has_symbolic_flag None = false
-has_symbolic_flag (Some flags) = flags / 2 % 2 == 1
+-- a number of flags, if there is one, has a flag
+abbrev pub flag_in : Option ℕ → ℕ → Bool
+flag_in None flag = false
+flag_in (Some flags) flag = flags / flag % 2 == 1
 
 -- references of the file are bound within it first: there is an entry DT_SYMBOLIC, or the entry DT_FLAGS has the
--- flag DF_SYMBOLIC
+-- flag DF_SYMBOLIC (2)
 abbrev pub is_symbolic : List (Dynamic ℕ) → Bool
-is_symbolic entries = is_some (number_with DT_SYMBOLIC entries) || has_symbolic_flag (number_with DT_FLAGS entries)
+is_symbolic entries = is_some (number_with DT_SYMBOLIC entries) || flag_in (number_with DT_FLAGS entries) 2
 
 -- the entries of a table
 abbrev pub pairs_of : Pairs → List (Dynamic ℕ)

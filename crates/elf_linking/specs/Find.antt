@@ -1,13 +1,14 @@
 -- The symbol of a file that a reference by a name and a version gets (LSB, "Symbol Versioning"; which symbols
 -- serve a use, and that a hidden version is no default, as glibc's linker has it).
-use Rattle.std.specs.Prelude.{◌≡◌, ◌≢◌, ℕ, ◌%◌, ◌==◌, ◌&&◌, ◌||◌, nat_lt, not, Bool, true, false, List, length, slice_get, Option, Some, None, Result, Ok, Err, IsOkAnd, if◌then◌else◌}
+use Rattle.std.specs.Prelude.{◌≡◌, ◌≢◌, ℕ, ◌%◌, ◌==◌, ◌&&◌, ◌||◌, nat_lt, not, Bool, true, false, List, length, slice_get, Option, Some, None, Result, Ok, Err, IsOkAnd, option_map, unwrap_or, if◌then◌else◌}
 use Rattle.std.specs.Borrow.{Bor}
 use Rattle.std.specs.Str.{bytes_eq}
 use Rattle.elf_base.specs.Refusal.{and_then}
 use Rattle.elf_records.specs.HashNumber.{hash_number}
 use Rattle.elf_linking.specs.AnyTable.{IsFor, IsIndexBy, LooksWhereBy}
-use Rattle.elf_linking.specs.VersionTables.{VersionTables, is_hidden, result_map, version_number}
-use Rattle.elf_linking.specs.Versions.{CanBeRead, NamedParts, VersionParts, named_hash, named_name, number_of, version_at}
+use Rattle.elf_linking.specs.VersionList.{VersionEntry, VersionList}
+use Rattle.elf_linking.specs.VersionTables.{is_hidden, result_map, version_number}
+use Rattle.elf_linking.specs.Versions.{CanBeRead, VersionParts, number_of, version_at}
 use Rattle.elf_linking.specs.declared.any_table.AnyTable.{AnyTable}
 use Rattle.elf_linking.specs.declared.error.LinkError.{LinkError}
 use Rattle.elf_linking.specs.declared.find.Use as uses
@@ -16,11 +17,11 @@ use Rattle.elf_linking.specs.declared.find.Wanted.{Wanted}
 use Rattle.elf_linking.specs.declared.find.Wanted.TheVariants.{Newest, Unversioned, Version}
 use Rattle.xmas_elf.specs.Symbol.{SymbolFields, Symbols}
 
--- the dynamic symbols of a file: their hash table, the symbols, and the version tables
+-- the dynamic symbols of a file: their hash table, the symbols, and the versions
 pub record DynamicSymbols (E : Type 0) : Type 0 where
   pub table : AnyTable
   pub symbols : Symbols E
-  pub versions : VersionTables
+  pub versions : VersionList
 
 -- Which symbols serve a use.
 
@@ -50,23 +51,21 @@ IsCandidate file name purpose e = (file.symbols.text e ≡ Some name) × (serves
 
 -- Which versions a reference accepts.
 
--- the definition or need of a version has the hash number and the name; the name is read only if it has the hash number
-abbrev pub is_version : List ℕ → ℕ → Option NamedParts → Result Bool LinkError
+-- the entry of a version has the hash number and the name; the name is read only if it has the hash number
+abbrev pub is_version : List ℕ → ℕ → Option VersionEntry → Result Bool LinkError
 is_version name hash None = Ok false
-is_version name hash (Some named) = if named_hash named == hash
-    then result_map (λ other. bytes_eq other name) (named_name named) else Ok false
+is_version name hash (Some entry) = if entry.hash == hash then result_map (λ other. bytes_eq other name) entry.name else Ok false
 
--- a version by no hash number: it has no definition or need, or one with hash number 0
-abbrev pub has_no_hash : Option NamedParts → Bool
-has_no_hash None = true
-has_no_hash (Some named) = named_hash named == 0
+-- a version by no hash number: it has no entry, or one with hash number 0
+abbrev pub has_no_hash : Option VersionEntry → Bool
+has_no_hash named = unwrap_or (option_map (λ entry. entry.hash == 0) named) true
 
 -- such a version is accepted too, unless it is hidden or the reference wants a hidden one
-abbrev pub is_open : Bool → VersionParts → Bool
+abbrev pub is_open : Bool → VersionParts VersionEntry → Bool
 is_open hidden version = has_no_hash version.named && (not hidden && not version.hidden)
 
 -- a reference by a version accepts that of a symbol; in a file without numbers of symbols any
-abbrev pub accepts_version : List ℕ → ℕ → Bool → Option VersionParts → Result Bool LinkError
+abbrev pub accepts_version : List ℕ → ℕ → Bool → Option (VersionParts VersionEntry) → Result Bool LinkError
 accepts_version name hash hidden None = Ok true
 accepts_version name hash hidden (Some version) =
     result_map (λ same. same || is_open hidden version) (is_version name hash version.named)
@@ -82,33 +81,31 @@ exact_version name = Version name (hash_number name.now) true
 -- the number of a version is below the least one that needs a name; in a file without numbers of symbols that
 -- of each symbol is
 abbrev pub is_below : ℕ → Option ℕ → Bool
-is_below least None = true
-is_below least (Some raw) = nat_lt (version_number raw) least
+is_below least number = unwrap_or (option_map (λ raw. nat_lt (version_number raw) least) number) true
 
 -- whether a reference accepts the symbol at an index at once, or why the symbol's version can't be read
-abbrev pub accepted : VersionTables → Wanted → ℕ → Result Bool LinkError
-accepted tables (Version name hash hidden) index =
-    and_then (version_at tables index) (accepts_version name.now hash hidden)
-accepted tables Unversioned index = result_map (is_below 3) (number_of tables index)
-accepted tables Newest index = result_map (is_below 2) (number_of tables index)
+abbrev pub accepted : VersionList → Wanted → ℕ → Result Bool LinkError
+accepted list (Version name hash hidden) index = and_then (version_at list index) (accepts_version name.now hash hidden)
+accepted list Unversioned index = result_map (is_below 3) (number_of list.numbers index)
+accepted list Newest index = result_map (is_below 2) (number_of list.numbers index)
 
 -- a reference by a version accepts that of a symbol (the rule of glibc's linker): the file has no numbers of
 -- symbols; or the version has the hash number and the name; or it has no hash number, and neither it nor the
 -- reference is hidden
-pub data IsAcceptedBy (name : List ℕ) (hash : ℕ) (hidden : Bool) : Option VersionParts → Type 0 where
+pub data IsAcceptedBy (name : List ℕ) (hash : ℕ) (hidden : Bool) : Option (VersionParts VersionEntry) → Type 0 where
   unnumbered : IsAcceptedBy name hash hidden None
-  same : (version : VersionParts) (named : NamedParts) → version.named ≡ Some named → named_hash named ≡ hash
-      → named_name named ≡ Ok name → IsAcceptedBy name hash hidden (Some version)
-  nameless : (version : VersionParts) → has_no_hash version.named ≡ true → hidden ≡ false → version.hidden ≡ false
+  same : (version : VersionParts VersionEntry) (entry : VersionEntry) → version.named ≡ Some entry → entry.hash ≡ hash
+      → entry.name ≡ Ok name → IsAcceptedBy name hash hidden (Some version)
+  nameless : (version : VersionParts VersionEntry) → has_no_hash version.named ≡ true → hidden ≡ false → version.hidden ≡ false
       → IsAcceptedBy name hash hidden (Some version)
 
 -- a reference accepts the symbol at an index at once: by a version, as above; otherwise the number of the version
 -- is below the least that needs a name, or the file has no numbers of symbols
-abbrev pub IsAccepted : VersionTables → Wanted → ℕ → Type 0
-IsAccepted tables (Version name hash hidden) index = (version : Option VersionParts)
-    × (version_at tables index ≡ Ok version) × IsAcceptedBy name.now hash hidden version
-IsAccepted tables Unversioned index = (number : Option ℕ) × (number_of tables index ≡ Ok number) × (is_below 3 number ≡ true)
-IsAccepted tables Newest index = (number : Option ℕ) × (number_of tables index ≡ Ok number) × (is_below 2 number ≡ true)
+abbrev pub IsAccepted : VersionList → Wanted → ℕ → Type 0
+IsAccepted list (Version name hash hidden) index =
+    IsOkAnd (version_at list index) (λ version. IsAcceptedBy name.now hash hidden version)
+IsAccepted list Unversioned index = IsOkAnd (number_of list.numbers index) (λ number. is_below 3 number ≡ true)
+IsAccepted list Newest index = IsOkAnd (number_of list.numbers index) (λ number. is_below 2 number ≡ true)
 
 -- the symbol at an index has a version that isn't hidden
 abbrev pub is_default : Result (Option ℕ) LinkError → Bool
@@ -134,7 +131,7 @@ IsAsked file name wanted purpose at = IsCandidate file name purpose at.1 × (acc
 -- than one, if there is one
 abbrev pub IsShown : {E : Type 0} → DynamicSymbols E → List ℕ → Wanted → uses.Use → Option ℕ → ℕ × E → Type 0
 IsShown file name wanted purpose but at = IsCandidate file name purpose at.1 × ((is_by_version wanted ≡ false)
-    × ((is_default (number_of file.versions at.0) ≡ true) × (but ≢ Some at.0)))
+    × ((is_default (number_of file.versions.numbers at.0) ≡ true) × (but ≢ Some at.0)))
 
 -- the default: the one such candidate, if there is exactly one
 pub data IsDefault {E : Type 0} (file : DynamicSymbols E) (name : List ℕ) (wanted : Wanted) (purpose : uses.Use) : Option (ℕ × E) → Type 0 where
@@ -184,15 +181,15 @@ pub record Stands {E : Type 0} (file : DynamicSymbols E) (name : List ℕ) (purp
 -- such a candidate whose version isn't hidden
 abbrev pub StandsShown : {E : Type 0} → DynamicSymbols E → List ℕ → uses.Use → ℕ × E → Type 0
 StandsShown file name purpose at =
-    Stands file name purpose at × (is_default (number_of file.versions at.0) ≡ true)
+    Stands file name purpose at × (is_default (number_of file.versions.numbers at.0) ≡ true)
 
 -- the default in the list of symbols: the one candidate that isn't hidden; nothing if there is none among those
 -- that look-ups must find, or if there are two
 pub data IsRightDefault {E : Type 0} (file : DynamicSymbols E) (name : List ℕ) (purpose : uses.Use) : Option (ℕ × E) → Type 0 where
   alone : (at : ℕ × E) → StandsShown file name purpose at
-      → ((i : ℕ) (e : E) → MustServe file name purpose i e → is_default (number_of file.versions i) ≡ true → i ≡ at.0)
+      → ((i : ℕ) (e : E) → MustServe file name purpose i e → is_default (number_of file.versions.numbers i) ≡ true → i ≡ at.0)
       → IsRightDefault file name purpose (Some at)
-  all_hidden : ((i : ℕ) (e : E) → MustServe file name purpose i e → is_default (number_of file.versions i) ≡ false)
+  all_hidden : ((i : ℕ) (e : E) → MustServe file name purpose i e → is_default (number_of file.versions.numbers i) ≡ false)
       → IsRightDefault file name purpose None
   several : (one other : ℕ × E) → StandsShown file name purpose one → StandsShown file name purpose other
       → other.0 ≢ one.0 → IsRightDefault file name purpose None
@@ -212,5 +209,5 @@ abbrev pub FindsRight : {E : Type 0} → DynamicSymbols E → List ℕ → Wante
 FindsRight file name wanted purpose answer = IsOkAnd answer (IsRight file name wanted purpose)
 
 -- the parts of such a search
-abbrev pub dynamic_symbols : {E : Type 0} → AnyTable → Symbols E → VersionTables → DynamicSymbols E
+abbrev pub dynamic_symbols : {E : Type 0} → AnyTable → Symbols E → VersionList → DynamicSymbols E
 dynamic_symbols table symbols versions = record { table = table; symbols = symbols; versions = versions }

@@ -29,43 +29,43 @@ gnu_order table = table.order
 
 -- the number of buckets
 abbrev pub bucket_count_of : GnuHashTable → ℕ
-bucket_count_of table = bucket_count_in (gnu_order table) (gnu_data table)
+bucket_count_of table = bucket_count_in table.order table.bytes.now
 
 -- the index of the first symbol: the second of the four words
 abbrev pub first_symbol_of : GnuHashTable → ℕ
-first_symbol_of table = number (gnu_order table) 4 4 (gnu_data table)
+first_symbol_of table = number table.order 4 4 table.bytes.now
 
 -- the number of Bloom words
 abbrev pub bloom_count_of : GnuHashTable → ℕ
-bloom_count_of table = bloom_count_in (gnu_order table) (gnu_data table)
+bloom_count_of table = bloom_count_in table.order table.bytes.now
 
 -- the shift of the hash number for the second bit: the fourth word
 abbrev pub bloom_shift_of : GnuHashTable → ℕ
-bloom_shift_of table = number (gnu_order table) 4 12 (gnu_data table)
+bloom_shift_of table = number table.order 4 12 table.bytes.now
 
 -- Bloom word k, as a number
 unfoldable pub bloom_word : GnuHashTable → ℕ → ℕ
-bloom_word table k = let size = bloom_size (gnu_class table) in
-    number (gnu_order table) size (16 + size * k) (gnu_data table)
+bloom_word table k = let size = bloom_size table.class in
+    number table.order size (16 + size * k) table.bytes.now
 
 -- the word of bucket k: the index of the first symbol of its run, or 0 if it has none
 unfoldable pub bucket_word : GnuHashTable → ℕ → ℕ
-bucket_word table k = let start = buckets_in (gnu_class table) (gnu_order table) (gnu_data table) in
-    number (gnu_order table) 4 (start + 4 * k) (gnu_data table)
+bucket_word table k = let start = buckets_in table.class table.order table.bytes.now in
+    number table.order 4 (start + 4 * k) table.bytes.now
 
 -- the offset of the chain word of symbol i
 unfoldable pub chain_place : GnuHashTable → ℕ → ℕ
-chain_place table i = chains_in (gnu_class table) (gnu_order table) (gnu_data table)
+chain_place table i = chains_in table.class table.order table.bytes.now
     + 4 * (i - first_symbol_of table)
 
 -- the chain word of symbol i: the hash number of its name, except for the lowest bit, which ends a run
 unfoldable pub chain_word : GnuHashTable → ℕ → ℕ
-chain_word table i = number (gnu_order table) 4 (chain_place table i) (gnu_data table)
+chain_word table i = number table.order 4 (chain_place table i) table.bytes.now
 
 -- symbol i has a chain word: it is not before the first symbol, and the word is within the data
 abbrev pub HasChain : GnuHashTable → ℕ → Type 0
 HasChain table i =
-    (first_symbol_of table ≤ i) × (chain_place table i + 4 ≤ length (gnu_data table))
+    (first_symbol_of table ≤ i) × (chain_place table i + 4 ≤ length table.bytes.now)
 
 -- Bloom word k, or why there is none
 unfoldable pub bloom_of : GnuHashTable → ℕ → Result ℕ LinkError
@@ -81,13 +81,13 @@ bucket_of table k =
 unfoldable pub chain_of : GnuHashTable → ℕ → Result ℕ LinkError
 chain_of table i = unless (
     (nat_lt i (first_symbol_of table), ChainIndex)
-    ∷ (nat_lt (length (gnu_data table)) (chain_place table i + 4), ChainData)
+    ∷ (nat_lt (length table.bytes.now) (chain_place table i + 4), ChainData)
     ∷ []) (chain_word table i)
 
 -- a name with this hash number may be in the table: two bits are set in the Bloom word that the number
 -- selects, that of the number and that of the shifted number
 unfoldable pub may_hold : GnuHashTable → ℕ → Bool
-may_hold table h = let width = 8 * bloom_size (gnu_class table) in
+may_hold table h = let width = 8 * bloom_size table.class in
     let word = bloom_word table (h / width % bloom_count_of table) in
     bit_at word (h % width) == 1 && bit_at word (h / 2 ^ bloom_shift_of table % width) == 1
 
@@ -120,7 +120,7 @@ pub record IsThere {E : Type 0} (table : GnuHashTable) (symbols : List E) (i : �
 -- index i has no symbol, or it has no chain word
 pub data Lacks {E : Type 0} (table : GnuHashTable) (symbols : List E) (i : ℕ) : LinkError → Type 0 where
   no_symbol : symbol_end symbols ≤ i → Lacks table symbols i SymbolIndex
-  no_word : i < symbol_end symbols → length (gnu_data table) < chain_place table i + 4
+  no_word : i < symbol_end symbols → length table.bytes.now < chain_place table i + 4
       → Lacks table symbols i ChainData
 
 -- there are symbols and chain words from index `from` up to `last`, which is excluded, and none of the words

@@ -7,6 +7,8 @@ use Rattle.elf_linking.specs.declared.find.Use as uses
 use Rattle.elf_linking.specs.declared.find.Wanted.{Wanted}
 use Rattle.elf_linking.specs.declared.find.kept.Kept.{Kept}
 use Rattle.elf_linking.specs.declared.find.kept.Kept.TheVariants.{Nothing, One, Several}
+use Rattle.elf_linking.specs.declared.find.kept.Step.{Step}
+use Rattle.elf_linking.specs.declared.find.kept.Step.TheVariants.{End, On}
 
 -- what is kept with one more candidate that the reference may fall back on
 abbrev pub kept_with : {E : Type 0} → ℕ → E → Kept E → Kept E
@@ -34,3 +36,8 @@ pub record EndsAt {E : Type 0} (file : DynamicSymbols E) (name : List ℕ) (want
   pub symbol : slice_get file.symbols.items i ≡ Some entry
   pub asked : IsAsked file name wanted purpose (i, entry)
   pub is_answer : answer ≡ result_map (λ _. Some (i, entry)) (accepted file.versions wanted i)
+
+-- one of these two, after index i
+abbrev pub IsStep : {E : Type 0} → DynamicSymbols E → List ℕ → Wanted → uses.Use → Kept E → ℕ → Step E → Type 0
+IsStep file name wanted purpose kept i (On next) = GoesOn file name wanted purpose kept i next
+IsStep file name wanted purpose kept i (End answer) = EndsAt file name wanted purpose i answer

@@ -4,6 +4,9 @@ pub mod GnuHash
 pub mod GnuCount
 pub mod Relr
 pub mod Notes
+pub mod Segments
+pub mod SegmentsLeft
+pub mod PortSegments
 pub mod Loaded
 pub mod Entries
 pub mod FirstNumbers
@@ -11,6 +14,7 @@ pub mod DynamicView
 pub mod AnyTable
 pub mod BuildIds
 pub mod LinkedSections
+pub mod VersionList
 pub mod VersionTables
 pub mod MarkedVersions
 pub mod Versions
@@ -18,9 +22,15 @@ pub mod Serves
 pub mod Find
 pub mod Kept
 pub mod DynamicObject
+pub mod RelocationTypes
+pub mod TableLocations
+pub mod RelocationRecords
 pub mod References
 pub mod RelocationNames
 pub mod FileSymbols
 pub mod Values
 pub mod Scope
 pub mod Bindings
+pub mod Exports
+pub mod Checked
+pub mod CheckedScope

@@ -2,7 +2,7 @@
 -- p_filesz; that the first segment with all of the bytes is the one read is this project's own).
 use Rattle.std.specs.Prelude.{◌≡◌, ◌≢◌, ℕ, ◌+◌, ◌-◌, ◌<◌, ◌≤◌, ◌&&◌, ◌==◌, if◌then◌else◌, nat_le, Bool, List, Option, Result, Ok, Err, ok_or, drop, take, length}
 use Rattle.std.specs.Borrow.{Bor}
-use Rattle.std.specs.List.{find}
+use Rattle.std.specs.List.{AllWithin, HoldsAt, find}
 use Rattle.elf_base.specs.FileHeader.{file_class, file_order}
 use Rattle.elf_base.specs.Lent.{LiesAt}
 use Rattle.elf_base.specs.Number.{number}
@@ -10,11 +10,9 @@ use Rattle.elf_base.specs.Refusal.{and_then}
 use Rattle.elf_base.specs.declared.error.ElfError.{ElfError}
 use Rattle.elf_linking.specs.declared.error.LinkError.{LinkError}
 use Rattle.elf_linking.specs.declared.error.LinkError.TheVariants.{Address, Elf, UnknownClass}
-use Rattle.elf_records.specs.ProgramNumbers.{has_ph_type}
-use Rattle.elf_records.specs.declared.program.Type.TheVariants.{Load}
-use Rattle.xmas_elf.specs.HeaderTable.{EachBelow}
-use Rattle.xmas_elf.specs.ProgramHeader.{program_fields, program_list, program_of, segment_data_of, segment_type}
-use Rattle.xmas_elf.specs.Types.{ElfFile, ProgramHeader, ProgramHeader64}
+use Rattle.elf_linking.specs.Segments.{segment_bytes, segments_of}
+use Rattle.elf_linking.specs.declared.segments.Segment.{Segment}
+use Rattle.xmas_elf.specs.Types.{ElfFile}
 
 -- a result of the port, with its error in `Elf`
 abbrev pub as_link_error : {A : Type 0} → Result A ElfError → Result A LinkError
@@ -27,56 +25,53 @@ lent (Ok part) = Ok part.now
 lent (Err error) = Err error
 
 -- the segment is loaded, and the file contains its bytes at `address .. address + count`
-pub record HasFileBytes (address count : ℕ) (segment : ProgramHeader64) : Type 0 where
-  pub loaded : segment_type segment ≡ Ok Load
-  pub begins : segment.virtual_addr ≤ address
-  pub ends : address + count ≤ segment.virtual_addr + segment.file_size
+pub record HasFileBytes (address count : ℕ) (segment : Segment) : Type 0 where
+  pub loaded : segment.kind ≡ 1
+  pub begins : segment.address ≤ address
+  pub ends : address + count ≤ segment.address + segment.file_size
 
 -- whether a segment is loaded and the file contains its bytes at `address .. address + count`
-abbrev pub has_file_bytes : ℕ → ℕ → ProgramHeader → Bool
-has_file_bytes address count program = let segment = program_fields program in
-    has_ph_type Load (segment_type segment) && nat_le segment.virtual_addr address
-    && nat_le (address + count) (segment.virtual_addr + segment.file_size)
-
--- no program header below an index is of a loaded segment with these bytes
-abbrev pub NoneHasFileBytes : ElfFile → ℕ → ℕ → ℕ → Type 0
-NoneHasFileBytes file address count high =
-    EachBelow (program_of file) (λ program. ¬ HasFileBytes address count (program_fields program)) high
-
--- the program header is the first of a loaded segment with these bytes
-pub record IsFirstWithBytes (file : ElfFile) (address count : ℕ) (program : ProgramHeader) : Type 0 where
-  pub index : ℕ
-  pub below : index < length (program_list file)
-  pub is_header : program_of file index ≡ Ok program
-  pub holds : HasFileBytes address count (program_fields program)
-  pub first : NoneHasFileBytes file address count index
+abbrev pub has_file_bytes : ℕ → ℕ → Segment → Bool
+has_file_bytes address count segment = segment.kind == 1 && nat_le segment.address address
+    && nat_le (address + count) (segment.address + segment.file_size)
 
 -- the first loaded segment with these bytes, as a function
-unfoldable pub segment_at_of : ElfFile → ℕ → ℕ → Option ProgramHeader
-segment_at_of file address count = find (has_file_bytes address count) (program_list file)
+unfoldable pub segment_at_of : ElfFile → ℕ → ℕ → Option Segment
+segment_at_of file address count = find (has_file_bytes address count) (segments_of file)
+
+-- no segment below an index is loaded and has these bytes
+abbrev pub NoneHasFileBytes : ElfFile → ℕ → ℕ → ℕ → Type 0
+NoneHasFileBytes file address count high = AllWithin (λ segment. ¬ HasFileBytes address count segment) (segments_of file) 0 high
+
+-- the segment is the first that is loaded and has these bytes
+pub record IsFirstWithBytes (file : ElfFile) (address count : ℕ) (segment : Segment) : Type 0 where
+  pub index : ℕ
+  pub below : index < length (segments_of file)
+  pub stands : HoldsAt (λ item. item ≡ segment) (segments_of file) index
+  pub holds : HasFileBytes address count segment
+  pub first : NoneHasFileBytes file address count index
 
 -- the file offset of the byte at an address in this segment
-abbrev pub place_of : ProgramHeader64 → ℕ → ℕ
-place_of segment address = segment.offset + (address - segment.virtual_addr)
+abbrev pub place_of : Segment → ℕ → ℕ
+place_of segment address = segment.offset + (address - segment.address)
 
 -- `part` are the file bytes for `address .. address + count`
 pub record IsAt (file : ElfFile) (address count : ℕ) (part : List ℕ) : Type 0 where
-  pub program : ProgramHeader
-  pub holder : IsFirstWithBytes file address count program
+  pub segment : Segment
+  pub holder : IsFirstWithBytes file address count segment
   pub count_is : length part ≡ count
-  pub bytes_are : part ≡ take count (drop (place_of (program_fields program) address) file.input.now)
+  pub bytes_are : part ≡ take count (drop (place_of segment address) file.input.now)
 
 -- the place of `part` in the memory of the file; no bytes may be anywhere
 pub record LiesAsLoaded (file : ElfFile) (address count : ℕ) (part : Bor (List ℕ)) : Type 0 where
-  pub program : ProgramHeader
-  pub holder : IsFirstWithBytes file address count program
-  pub lies : count ≢ 0 → LiesAt file.input (place_of (program_fields program) address) part
+  pub segment : Segment
+  pub holder : IsFirstWithBytes file address count segment
+  pub lies : count ≢ 0 → LiesAt file.input (place_of segment address) part
 
 -- what `keep` leaves of the bytes from an address on in a segment, if there is one
-abbrev pub bytes_of_segment : ElfFile → ℕ → (List ℕ → List ℕ) → Option ProgramHeader → Result (List ℕ) LinkError
-bytes_of_segment file address keep found = and_then (ok_or found Address) (λ program.
-    let segment = program_fields program in and_then (as_link_error (segment_data_of file segment))
-    (λ bytes. Ok (keep (drop (address - segment.virtual_addr) bytes))))
+abbrev pub bytes_of_segment : ElfFile → ℕ → (List ℕ → List ℕ) → Option Segment → Result (List ℕ) LinkError
+bytes_of_segment file address keep found = and_then (ok_or found Address) (λ segment.
+    and_then (as_link_error (segment_bytes file segment)) (λ bytes. Ok (keep (drop (address - segment.address) bytes))))
 
 -- the bytes at addresses, or why there are none, as a function
 unfoldable pub bytes_at_of : ElfFile → ℕ → ℕ → Result (List ℕ) LinkError

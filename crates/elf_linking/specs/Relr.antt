@@ -44,26 +44,16 @@ addresses size place [] = []
 addresses size place (word ∷ words) =
     addresses_of size place word ++ addresses size (place_after size place word) words
 
--- the words in bytes that are a whole number of words, with the size of one
-abbrev pub words_in : ℕ → Order → List ℕ → Result (ℕ × List ℕ) LinkError
-words_in size order bytes = if length bytes % size == 0
-    then Ok (size, records size (λ word. number order size 0 word) bytes)
-    else Err NotMultiple
-
--- the words in the bytes of a file of a class
-abbrev pub words_of : Class → Order → List ℕ → Result (ℕ × List ℕ) LinkError
-words_of ThirtyTwo order bytes = words_in 4 order bytes
-words_of SixtyFour order bytes = words_in 8 order bytes
-words_of _ order bytes = Err UnknownClass
-
--- the addresses in all words; the first place is 0
-abbrev pub addresses_in : Result (ℕ × List ℕ) LinkError → Result (List ℕ) LinkError
-addresses_in (Ok words) = Ok (addresses words.0 0 words.1)
-addresses_in (Err error) = Err error
+-- the addresses in bytes that are a whole number of words of a size; the first place is 0
+abbrev pub addresses_in : ℕ → Order → List ℕ → Result (List ℕ) LinkError
+addresses_in size order bytes = if length bytes % size == 0
+    then Ok (addresses size 0 (records size (λ word. number order size 0 word) bytes)) else Err NotMultiple
 
 -- the addresses in the bytes of a file of a class, or why there are none
 abbrev pub relr_of : Class → Order → List ℕ → Result (List ℕ) LinkError
-relr_of class order bytes = addresses_in (words_of class order bytes)
+relr_of ThirtyTwo order bytes = addresses_in 4 order bytes
+relr_of SixtyFour order bytes = addresses_in 8 order bytes
+relr_of _ order bytes = Err UnknownClass
 
 -- the size of a word in bytes
 abbrev pub word_size : Words → ℕ

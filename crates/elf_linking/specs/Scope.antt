@@ -1,18 +1,18 @@
 -- Which symbol of which file a reference gets (gABI, "Dynamic Section", DT_SYMBOLIC, and "Symbol Table"; LSB,
 -- "Symbol Versioning"; the order of files, and which symbols of them serve, as glibc's linker has it).
-use Rattle.std.specs.Prelude.{◌≡◌, ◌≢◌, ℕ, ◌/◌, ◌%◌, ◌<◌, ◌==◌, ◌||◌, Bool, true, false, List, length, slice_get, Option, Some, None, option_map, Result, Ok, Err, MatchOption, MatchResult, IfSome, IsOk, IsOkAnd, IsSomeAnd, if◌then◌else◌}
+use Rattle.std.specs.Prelude.{◌≡◌, ◌≢◌, ℕ, ◌/◌, ◌%◌, ◌<◌, ◌==◌, ◌||◌, Bool, true, false, List, length, slice_get, Option, Some, None, option_and_then, option_map, Result, Ok, Err, MatchOption, MatchResult, IfSome, IsOk, IsOkAnd, IsSomeAnd, if◌then◌else◌}
 use Rattle.std.specs.Borrow.{Bor}
 use Rattle.elf_base.specs.Refusal.{and_then}
 use Rattle.elf_base.specs.Table.{table_items}
 use Rattle.elf_linking.specs.AnyTable.{IsGoodBy}
-use Rattle.elf_linking.specs.DynamicObject.{object_dynamic_symbols, object_machine, object_name, object_records, object_versions, object_view}
+use Rattle.elf_linking.specs.DynamicObject.{object_dynamic_symbols, object_machine, object_name}
 use Rattle.elf_linking.specs.DynamicView.{is_symbolic, view_entries}
 use Rattle.elf_linking.specs.Find.{AreReadable, DynamicSymbols, FindsRight, IsFound}
-use Rattle.elf_linking.specs.References.{use_of}
+use Rattle.elf_linking.specs.RelocationTypes.{row_of}
 use Rattle.elf_linking.specs.Serves.{serves_others}
-use Rattle.elf_linking.specs.VersionTables.{result_map, version_tables}
-use Rattle.elf_linking.specs.Versions as versions
-use Rattle.elf_linking.specs.Versions.{NamedParts, VersionParts, named_hash, named_name, version_at}
+use Rattle.elf_linking.specs.VersionList.{VersionEntry}
+use Rattle.elf_linking.specs.VersionTables.{result_map}
+use Rattle.elf_linking.specs.Versions.{VersionParts, version_at, version_list}
 use Rattle.elf_linking.specs.declared.error.LinkError.{LinkError}
 use Rattle.elf_linking.specs.declared.error.LinkError.TheVariants.{ObjectIndex, SymbolIndex}
 use Rattle.elf_linking.specs.declared.find.Use as uses
@@ -53,22 +53,15 @@ abbrev pub asked_parts : {E : Type 0} → Asked E → Asked E
 asked_parts (Own symbol) = Own symbol
 asked_parts (Look name wanted purpose own) = Look (text_alone name.now) (wanted_parts wanted) purpose own
 
--- a need can be hidden (bit 15 of its number)
-abbrev pub is_hidden_need : NamedParts → Bool
-is_hidden_need (versions.Defined d) = false
-is_hidden_need (versions.Needed need) = need.hidden
-
--- the version that is wanted, by the definition or need of the symbol's version: that version, if it has a hash
--- number other than 0
-abbrev pub wanted_by : Option NamedParts → Result Wanted LinkError
+-- the version that is wanted, by the entry of the symbol's version: that version, if it has a hash number other than 0
+abbrev pub wanted_by : Option VersionEntry → Result Wanted LinkError
 wanted_by None = Ok Unversioned
-wanted_by (Some named) = if named_hash named == 0 then Ok Unversioned
-    else result_map (λ name. Version (text_alone name) (named_hash named) (is_hidden_need named)) (named_name named)
+wanted_by (Some entry) = if entry.hash == 0 then Ok Unversioned
+    else result_map (λ name. Version (text_alone name) entry.hash entry.hidden) entry.name
 
 -- the version that is wanted, by the version of the symbol, if it has one
-abbrev pub wanted_of : Option VersionParts → Result Wanted LinkError
-wanted_of None = Ok Unversioned
-wanted_of (Some version) = wanted_by version.named
+abbrev pub wanted_of : Option (VersionParts VersionEntry) → Result Wanted LinkError
+wanted_of version = wanted_by (option_and_then (λ v. v.named) version)
 
 -- what a reference to a symbol asks for: the symbol itself, or its name and its version for a use, with the symbol
 -- if it is protected; or why these can't be read
@@ -76,14 +69,14 @@ abbrev pub asked_with : {E : Type 0} → {r : _} → (E → SymbolFields) → Dy
 asked_with fields object reference None = Err SymbolIndex
 asked_with fields object reference (Some symbol) = if binds_to_itself (fields symbol) then Ok (Own symbol)
     else and_then (object_name fields object reference.symbol) (λ name.
-    and_then (version_at (version_tables (object_versions object)) reference.symbol) (λ version.
+    and_then (version_at (version_list object.versions) reference.symbol) (λ version.
     and_then (wanted_of version) (λ wanted.
-    Ok (Look (text_alone name) wanted (use_of (object_machine object) reference.kind) (if_protected fields symbol)))))
+    Ok (Look (text_alone name) wanted (row_of (object_machine object) reference.kind).use_ (if_protected fields symbol)))))
 
 -- what a reference asks for
 abbrev pub asked_of : {E : Type 0} → {r : _} → (E → SymbolFields) → DynamicObject E r → Reference → Result (Asked E) LinkError
 asked_of fields object reference =
-    asked_with fields object reference (slice_get (table_items (object_records object)) reference.symbol)
+    asked_with fields object reference (slice_get (table_items object.symbols) reference.symbol)
 
 -- The order in which objects are asked, and what each gives.
 
@@ -150,7 +143,7 @@ HasAt fields objects name wanted purpose =
 -- what the first object gives, for the one at index `from`, if there is such an object
 abbrev pub IsFirstFor : {E : Type 0} → {r : _} → (ℕ → Result (Option (ℕ × E)) LinkError → Type 0) → List (DynamicObject E r) → ℕ → Result (Option (Bound E)) LinkError → Type 0
 IsFirstFor AtIndex objects from answer = MatchOption (slice_get objects from) (answer ≡ Err ObjectIndex)
-    (λ asking. IsFirstGiven AtIndex (length objects) (is_symbolic (view_entries (object_view asking))) from answer)
+    (λ asking. IsFirstGiven AtIndex (length objects) (is_symbolic (view_entries asking.view)) from answer)
 
 -- the symbol that the objects give for a name, a version and a use
 abbrev pub IsBound : {E : Type 0} → {r : _} → (E → SymbolFields) → List (DynamicObject E r) → ℕ → List ℕ → Wanted → uses.Use → Result (Option (Bound E)) LinkError → Type 0
@@ -201,7 +194,7 @@ IsReferenceBound fields objects from reference answer = MatchOption (slice_get o
 abbrev pub HasNamedSymbol : {E : Type 0} → {r : _} → (E → SymbolFields) → List (DynamicObject E r) → ℕ → Reference → Type 0
 HasNamedSymbol fields objects from reference =
     IsSomeAnd (slice_get objects from) (λ asking.
-    IsSomeAnd (slice_get (table_items (object_records asking)) reference.symbol) (λ symbol.
+    IsSomeAnd (slice_get (table_items asking.symbols) reference.symbol) (λ symbol.
     binds_to_itself (fields symbol) ≡ false → IsOk (object_name fields asking reference.symbol)))
 
 -- the result of what a reference asks for is no error, and is right by the lists of symbols

@@ -20,17 +20,17 @@ IsNamed file name e = (file.symbols.text e ≡ Some name)
 
 -- such a symbol whose version has a number below 2, which needs no name, or a number that can't be read
 abbrev pub IsUnversioned : {E : Type 0} → DynamicSymbols E → List ℕ → ℕ × E → Type 0
-IsUnversioned file name at = IsNamed file name at.1 × (result_map (is_below 2) (number_of file.versions at.0) ≢ Ok false)
+IsUnversioned file name at = IsNamed file name at.1 × (result_map (is_below 2) (number_of file.versions.numbers at.0) ≢ Ok false)
 
 -- such a symbol whose version isn't hidden, at another index than one, if there is one
 abbrev pub IsVisible : {E : Type 0} → DynamicSymbols E → List ℕ → Option ℕ → ℕ × E → Type 0
-IsVisible file name but at = IsNamed file name at.1 × ((is_default (number_of file.versions at.0) ≡ true) × (but ≢ Some at.0))
+IsVisible file name but at = IsNamed file name at.1 × ((is_default (number_of file.versions.numbers at.0) ≡ true) × (but ≢ Some at.0))
 
 -- the symbol that a reference without a version gets: the first without a version, or why its number can't be read;
 -- the fault that a look-up for it comes to; otherwise the one whose version isn't hidden, if there is exactly one
 pub data IsNewest {E : Type 0} (file : DynamicSymbols E) (name : List ℕ) : Result (Option (ℕ × E)) LinkError → Type 0 where
   unversioned : (at : ℕ × E) (answer : Result (Option (ℕ × E)) LinkError) → Seeks (IsUnversioned file name) file name (Ok (Some at))
-      → answer ≡ result_map (λ _. Some at) (number_of file.versions at.0) → IsNewest file name answer
+      → answer ≡ result_map (λ _. Some at) (number_of file.versions.numbers at.0) → IsNewest file name answer
   faulty : (error : LinkError) → Seeks (IsUnversioned file name) file name (Err error) → IsNewest file name (Err error)
   none_visible : Seeks (IsUnversioned file name) file name (Ok None)
       → Seeks (IsVisible file name None) file name (Ok None) → IsNewest file name (Ok None)

@@ -1,6 +1,7 @@
 -- The version tables of a file: the numbers of its symbols, its definitions and its needs (LSB, "Symbol
 -- Versioning"; that a table extends up to the end of its segment, and where a list of records ends, is this
 -- project's own).
+use Rattle.std.specs.Borrow.{Bor}
 use Rattle.std.specs.Prelude.{◌≡◌, ◌≢◌, ℕ, zero, suc, ◌+◌, ◌-◌, ◌*◌, ◌/◌, ◌%◌, ◌^◌, ◌<◌, ◌≤◌, ◌==◌, ◌&&◌, nat_le, nat_lt, not, Bool, true, false, List, [], ◌∷◌, ◌++◌, length, map, Option, Some, None, option_map, Result, Ok, Err, if◌then◌else◌}
 use Rattle.elf_base.specs.FileHeader.{file_order}
 use Rattle.elf_base.specs.Number.{number}
@@ -10,7 +11,6 @@ use Rattle.elf_linking.specs.DynamicView.{number_with, text_in_strings}
 use Rattle.elf_linking.specs.Loaded.{bytes_at_of, bytes_from_of, lent}
 use Rattle.elf_linking.specs.declared.error.LinkError.{LinkError}
 use Rattle.elf_linking.specs.declared.error.LinkError.TheVariants.{Address, NoEntry, ShortVersion, VersionCount}
-use Rattle.elf_linking.specs.declared.versions.Versions.{Versions}
 use Rattle.elf_linking.specs.declared.versions.definitions.Definition.{Definition}
 use Rattle.elf_linking.specs.declared.versions.definitions.Definitions.{Definitions}
 use Rattle.elf_linking.specs.declared.versions.needs.Need.{Need}
@@ -107,11 +107,6 @@ abbrev pub name_offset : VersionRecords → ℕ → Result ℕ LinkError
 name_offset records place =
     if nat_lt (length records.bytes) (place + 8) then Err ShortVersion else Ok (field records 4 place 0)
 
--- the text at an offset in the string table, or the error
-abbrev pub text_at_offset : Result (List ℕ) LinkError → Result ℕ LinkError → Result (List ℕ) LinkError
-text_at_offset strings (Ok offset) = text_in_strings strings offset
-text_at_offset strings (Err error) = Err error
-
 -- the definition at a place; its name is in its first record of names, `aux` bytes after it
 abbrev pub definition_at : VersionRecords → ℕ → DefinitionParts
 definition_at records place = record {
@@ -119,30 +114,18 @@ definition_at records place = record {
   number = field records 2 place 4;
   hash = field records 4 place 8;
   name_offset = name_offset records (place + field records 4 place 12);
-  name = text_at_offset records.strings (name_offset records (place + field records 4 place 12));
+  name = and_then (name_offset records (place + field records 4 place 12)) (text_in_strings records.strings);
 }
 
--- the offset of `next` in a definition (vd_next)
-abbrev pub definition_next : ℕ
-definition_next = 16
-
--- the offset of `next` in a need (vn_next)
-abbrev pub need_next : ℕ
-need_next = 12
-
--- the offset of `next` in a part of a need (vna_next)
-abbrev pub part_next : ℕ
-part_next = 12
-
--- the definitions in records: those at the places of the longest list
+-- the definitions in records: those at the places of the longest list, by vd_next at 16
 pub record AreDefinitions (records : VersionRecords) (items : List (Result DefinitionParts LinkError)) : Type 0 where
   pub places : List (Result ℕ LinkError)
-  pub are_places : ArePlaces records definition_next 0 records.count places
+  pub are_places : ArePlaces records 16 0 records.count places
   pub items_are : items ≡ map (result_map (definition_at records)) places
 
 -- the same as a function
 abbrev pub definitions_in : VersionRecords → List (Result DefinitionParts LinkError)
-definitions_in records = map (result_map (definition_at records)) (places_of records definition_next 0 records.count)
+definitions_in records = map (result_map (definition_at records)) (places_of records 16 0 records.count)
 
 -- a part of a need (Vernaux): hash of 4 bytes, flags and other of 2, name and next of 4; the file is that of
 -- its need. The names of both begin at offsets in the string table.
@@ -196,7 +179,7 @@ joined (Ok item ∷ items) rest = Ok item ∷ joined items rest
 joined (Err error ∷ items) rest = Err error ∷ []
 
 -- the items are the parts of the needs at some places, in order, up to the first error: that of a need or a
--- part that is cut off, or, where the needs so far have more parts than `room`, `VersionCount`
+-- part (whose vna_next is at 12) that is cut off, or, where the needs so far have more parts than `room`, `VersionCount`
 pub data AreParts (records : VersionRecords) : ℕ → List (Result ℕ LinkError) → List (Result NeedParts LinkError) → Type 0 where
   ended : (room : ℕ) → AreParts records room [] []
   cut_off : (room : ℕ) (error : LinkError) (needs : List (Result ℕ LinkError))
@@ -205,7 +188,7 @@ pub data AreParts (records : VersionRecords) : ℕ → List (Result ℕ LinkErro
       → AreParts records room (Ok place ∷ needs) (Err VersionCount ∷ [])
   enough : (room place : ℕ) (needs parts : List (Result ℕ LinkError)) (rest : List (Result NeedParts LinkError))
       → part_count records place ≤ room
-      → ArePlaces records part_next (first_part records place) (part_count records place) parts
+      → ArePlaces records 12 (first_part records place) (part_count records place) parts
       → AreParts records (room - part_count records place) needs rest
       → AreParts records room (Ok place ∷ needs)
       (joined (map (result_map (need_at records (file_offset records place))) parts) rest)
@@ -214,20 +197,16 @@ pub data AreParts (records : VersionRecords) : ℕ → List (Result ℕ LinkErro
 abbrev pub room_of : VersionRecords → ℕ
 room_of records = length records.bytes / 16
 
--- the needs in records: the parts of those at the places of the longest list, in order
+-- the needs in records: the parts of those at the places of the longest list, by vn_next at 12, in order
 pub record AreNeeds (records : VersionRecords) (items : List (Result NeedParts LinkError)) : Type 0 where
   pub places : List (Result ℕ LinkError)
-  pub are_places : ArePlaces records need_next 0 records.count places
+  pub are_places : ArePlaces records 12 0 records.count places
   pub are_parts : AreParts records (room_of records) places items
 
--- the parts from a place on, as a function
-abbrev pub parts_from : VersionRecords → ℕ → ℕ → ℕ → List (Result NeedParts LinkError)
-parts_from records file start count = map (result_map (need_at records file)) (places_of records part_next start count)
-
--- the parts of the need at a place
+-- the parts of the need at a place, by vna_next at 12, as a function
 abbrev pub parts_at : VersionRecords → ℕ → List (Result NeedParts LinkError)
-parts_at records place =
-    parts_from records (file_offset records place) (first_part records place) (part_count records place)
+parts_at records place = map (result_map (need_at records (file_offset records place)))
+    (places_of records 12 (first_part records place) (part_count records place))
 
 -- the parts of needs, as long as there is room for them
 unfoldable pub parts_within : VersionRecords → ℕ → List (Result ℕ LinkError) → List (Result NeedParts LinkError)
@@ -239,7 +218,7 @@ parts_within records room (Ok place ∷ needs) = let count = part_count records 
 
 -- the needs in records, as a function
 abbrev pub needs_in : VersionRecords → List (Result NeedParts LinkError)
-needs_in records = parts_within records (room_of records) (places_of records need_next 0 records.count)
+needs_in records = parts_within records (room_of records) (places_of records 12 0 records.count)
 
 -- the numbers of symbols at the address in the entry VerSym (DT_VERSYM), of two bytes each, if there is one
 abbrev pub numbers_at : ElfFile → Option ℕ → ℕ → Result (Option (List ℕ)) LinkError
@@ -273,12 +252,12 @@ records_data records = record {
   strings = lent records.strings;
 }
 
--- the tables of a value
-abbrev pub version_tables : Versions → VersionTables
-version_tables versions = record {
-  numbers = option_map (λ numbers. numbers.now) versions.numbers;
-  definitions = records_data versions.definitions.records;
-  needs = records_data versions.needs;
+-- the tables of the parts of a value
+abbrev pub tables_with : Option (Bor (List ℕ)) → Records → Records → VersionTables
+tables_with numbers definitions needs = record {
+  numbers = option_map (λ numbers. numbers.now) numbers;
+  definitions = records_data definitions;
+  needs = records_data needs;
 }
 
 -- the fields of a definition
@@ -288,7 +267,7 @@ definition_parts d = record {
   number = d.number;
   hash = d.hash;
   name_offset = d.name;
-  name = text_at_offset (lent d.strings) d.name;
+  name = and_then d.name (text_in_strings (lent d.strings));
 }
 
 -- the fields of a definition, if it is one
@@ -319,10 +298,10 @@ places_left records offset chain = places_of records offset chain.place chain.le
 -- the definitions that an iterator has not yet returned
 abbrev pub definitions_left : Definitions → List (Result DefinitionParts LinkError)
 definitions_left iter = let records = records_data iter.records in
-    map (result_map (definition_at records)) (places_left records definition_next iter.chain)
+    map (result_map (definition_at records)) (places_left records 16 iter.chain)
 
 -- the needs that an iterator has not yet returned
 abbrev pub needs_left : Needs → List (Result NeedParts LinkError)
 needs_left iter = let records = records_data iter.records in
-    joined (map (result_map (need_at records iter.file)) (places_left records part_next iter.parts))
-    (parts_within records iter.room (places_left records need_next iter.needs))
+    joined (map (result_map (need_at records iter.file)) (places_left records 12 iter.parts))
+    (parts_within records iter.room (places_left records 12 iter.needs))

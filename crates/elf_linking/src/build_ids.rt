@@ -4,12 +4,11 @@ ghost use Rattle.std.specs.Prelude.{◌≡◌, ◌↔◌, IsTrue};
 ghost use Rattle.elf_linking.specs.Notes.{note_parts, notes_left};
 ghost use Rattle.elf_linking.specs.BuildIds.{IsBuildId, id_among};
 ghost use Rattle.elf_linking.specs.BuildIds.{id_by_sections, id_by_segments};
-ghost use Rattle.elf_linking.specs.BuildIds.{id_of_section, id_of_segment, is_build_id};
+ghost use Rattle.elf_linking.specs.BuildIds.{id_of_section, id_of_segment, is_build_id, is_notes};
 
-use crate::LinkError;
-use crate::notes::{NT_GNU_BUILD_ID, Note, Notes, section_notes, segment_notes};
+use crate::notes::{NT_GNU_BUILD_ID, Note, Notes, section_notes};
+use crate::{LinkError, Segment, Segments};
 use xmas_elf::ElfFile;
-use xmas_elf::program::{ProgramHeader, Type};
 use xmas_elf::sections::SectionHeader;
 
 /// Whether a note is a build id.
@@ -45,17 +44,23 @@ fn id_of_section<'a>(
     build_id_among(section_notes(file, section)?)
 }
 
+const PT_NOTE: u32 = 4;
+
+// Whether a segment has type Note.
+fn is_notes(segment: &Segment) -> bool
+    ensures { result ≡ is_notes segment.now }
+{
+    segment.kind == PT_NOTE
+}
+
 // The build id in a segment of any type.
 #[tactic(auto, unfolding(crate::specs::BuildIds::id_of_segment))]
-fn id_of_segment<'a>(
-    file: &ElfFile<'a>,
-    program: &ProgramHeader,
-) -> Result<Option<&'a [u8]>, LinkError>
-    ensures { result ≡ id_of_segment file.now program.now }
+fn id_of_segment<'a>(file: &ElfFile<'a>, segment: &Segment) -> Result<Option<&'a [u8]>, LinkError>
+    ensures { result ≡ id_of_segment file.now segment.now }
 {
-    match segment_notes(file, program) {
-        Ok(notes) => build_id_among(notes),
-        Err(error) => Err(error),
+    match segment.bytes(file) {
+        Ok(bytes) => build_id_among(Notes::new(bytes, file.byte_order(), segment.align)),
+        Err(error) => Err(LinkError::Elf(error)),
     }
 }
 
@@ -74,14 +79,14 @@ pub fn build_id_of_section<'a>(file: &ElfFile<'a>) -> Result<Option<&'a [u8]>, L
 /// The build id of a file of either class, by its program headers: that of the first segment of
 /// type Note that has one. Section headers are not needed.
 ///
-/// Errors: those of `segment_notes`, and `ShortNote` if the notes are cut off before it.
+/// Errors: those of `Segment::bytes`, and `ShortNote` if the notes are cut off before it.
 #[tactic(auto, using(crate::proofs::BuildIdSearch::segments_end, crate::proofs::BuildIdSearch::segments_fault, crate::proofs::BuildIdSearch::segments_found, crate::proofs::BuildIdSearch::segments_none, crate::proofs::BuildIdSearch::segments_other))]
 pub fn build_id_of_segments<'a>(file: &ElfFile<'a>) -> Result<Option<&'a [u8]>, LinkError>
     ensures { result ≡ id_by_segments file.now }
 {
-    for program in file.program_iter() {
-        if matches!(program.get_type(), Ok(Type::Note)) {
-            let id = id_of_segment(file, &program)?;
+    for segment in Segments::of(file) {
+        if is_notes(&segment) {
+            let id = id_of_segment(file, &segment)?;
             if id.is_some() {
                 return Ok(id);
             }

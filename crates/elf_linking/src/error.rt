@@ -26,13 +26,13 @@ pub enum LinkError {
     /// `GnuHashTable::get_bucket` and `get_bloom`.
     BucketIndex,
     /// The index of a symbol is before the first of a GNU hash table. Returned by
-    /// `GnuHashTable::get_chain`, `lookup`, `lookup_counted`, `check` and `symbol_count`.
+    /// `GnuHashTable::get_chain`, `lookup`, `lookup_counted_in`, `check` and `symbol_count`.
     ChainIndex,
     /// The chain word of a symbol extends past the end of the data. Returned by
-    /// `GnuHashTable::get_chain`, `lookup`, `lookup_counted`, `check` and `symbol_count`.
+    /// `GnuHashTable::get_chain`, `lookup`, `lookup_counted_in`, `check` and `symbol_count`.
     ChainData,
     /// The index of a symbol is not below the number of symbols, or does not fit in 32 bits.
-    /// Returned by `GnuHashTable::lookup`, `lookup_counted`, `check` and `symbol_count`, by
+    /// Returned by `GnuHashTable::lookup`, `lookup_counted_in`, `check` and `symbol_count`, by
     /// `Versions::number`, `version_of` and `check`, and by `DynamicObject::name`, `name_bytes`,
     /// `version`, `find` and `asked`.
     SymbolIndex,

@@ -4,8 +4,8 @@
 ghost use Rattle.std.specs.Prelude.{◌≡◌, ◌↔◌, IfOk, IsTrue, option_map};
 ghost use Rattle.elf_linking.specs.Find.{IsAccepted, accepted, accepts_version, is_below, is_default};
 ghost use Rattle.elf_linking.specs.Find.{is_open, is_version, serves};
-ghost use Rattle.elf_linking.specs.VersionTables.{result_map, version_tables};
-ghost use Rattle.elf_linking.specs.Versions.{named_parts, number_of, version_parts};
+ghost use Rattle.elf_linking.specs.VersionTables.{result_map};
+ghost use Rattle.elf_linking.specs.Versions.{named_entry, number_of, version_entry, version_list};
 
 pub(crate) mod kept;
 mod search;
@@ -84,8 +84,8 @@ impl<'v> Wanted<'v> {
     /// `NamedVersion::name`; for `Unversioned` and `Newest` those of `Versions::number`.
     pub fn accepts(&self, versions: &Versions<'_>, index: u32) -> Result<bool, LinkError>
         ensures law { IfOk result (λ accepts.
-            IsTrue accepts ↔ IsAccepted (version_tables versions.now) self.now index) }
-        ensures exact { result ≡ accepted (version_tables versions.now) self.now index }
+            IsTrue accepts ↔ IsAccepted (version_list versions.now) self.now index) }
+        ensures exact { result ≡ accepted (version_list versions.now) self.now index }
     {
         is_accepted(self, versions, index)
     }
@@ -93,7 +93,7 @@ impl<'v> Wanted<'v> {
 
 // Whether a reference accepts the symbol at an index at once.
 fn is_accepted(wanted: &Wanted<'_>, versions: &Versions<'_>, index: u32) -> Result<bool, LinkError>
-    ensures { result ≡ accepted (version_tables versions.now) wanted.now index }
+    ensures { result ≡ accepted (version_list versions.now) wanted.now index }
 {
     match wanted {
         Wanted::Version { name, hash, hidden } => {
@@ -126,7 +126,7 @@ fn accepts_version(
     hidden: bool,
     version: Option<SymbolVersion<'_>>,
 ) -> Result<bool, LinkError>
-    ensures { result ≡ accepts_version name.now hash hidden (option_map version_parts version.entry) }
+    ensures { result ≡ accepts_version name.now hash hidden (option_map version_entry version.entry) }
 {
     let Some(version) = version else {
         return Ok(true);
@@ -136,7 +136,7 @@ fn accepts_version(
 
 // Whether the definition or need of a version has the hash number and the name.
 fn is_version(name: &str, hash: u32, named: Option<NamedVersion<'_>>) -> Result<bool, LinkError>
-    ensures { result ≡ is_version name.now hash (option_map named_parts named.entry) }
+    ensures { result ≡ is_version name.now hash (option_map named_entry named.entry) }
 {
     let Some(named) = named else {
         return Ok(false);
@@ -149,7 +149,7 @@ fn is_version(name: &str, hash: u32, named: Option<NamedVersion<'_>>) -> Result<
 
 // Whether a version without a hash number is accepted in place of another.
 fn is_open(hidden: bool, version: &SymbolVersion<'_>) -> bool
-    ensures { result ≡ is_open hidden (version_parts version.now) }
+    ensures { result ≡ is_open hidden (version_entry version.now) }
 {
     let no_hash = match version.named {
         Some(named) => named.hash() == 0,
@@ -161,7 +161,7 @@ fn is_open(hidden: bool, version: &SymbolVersion<'_>) -> bool
 // Whether the number of a symbol's version is below the least that needs a name.
 #[inline(always)]
 fn number_below(versions: &Versions<'_>, index: u32, least: u16) -> Result<bool, LinkError>
-    ensures { result ≡ result_map (is_below least) (number_of (version_tables versions.now) index) }
+    ensures { result ≡ result_map (is_below least) (number_of (version_list versions.now).numbers index) }
 {
     match versions.number(index) {
         Ok(Some(raw)) => Ok(raw % 0x8000 < least),
@@ -172,7 +172,7 @@ fn number_below(versions: &Versions<'_>, index: u32, least: u16) -> Result<bool,
 
 // Whether the symbol at an index has a version that isn't hidden.
 pub(crate) fn is_default(versions: &Versions<'_>, index: u32) -> bool
-    ensures { result ≡ is_default (number_of (version_tables versions.now) index) }
+    ensures { result ≡ is_default (number_of (version_list versions.now).numbers index) }
 {
     matches!(versions.number(index), Ok(Some(raw)) if raw < 0x8000)
 }

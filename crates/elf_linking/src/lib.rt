@@ -3,6 +3,7 @@
 
 mod any_table;
 pub mod build_ids;
+pub mod checked;
 mod error;
 pub mod find;
 pub mod gnu_hash;
@@ -12,6 +13,7 @@ pub mod references;
 pub mod relr;
 pub mod scope;
 pub mod sections;
+mod segments;
 mod serving;
 pub mod symbols;
 pub mod values;
@@ -19,7 +21,9 @@ pub mod versions;
 pub mod view;
 
 pub use crate::any_table::AnyTable;
+pub use crate::checked::{CheckedObject, CheckedScope};
 pub use crate::error::LinkError;
 pub use crate::object::DynamicObject;
+pub use crate::segments::{Segment, Segments};
 pub use crate::serving::serves_others;
 pub use crate::symbols::FileSymbols;

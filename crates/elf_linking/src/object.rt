@@ -69,10 +69,9 @@ impl<'a, E: LinkedSymbol> DynamicObject<'a, E> {
     ghost use Rattle.elf_linking.specs.Find.{AreReadable, FindsRight, IsFound};
     ghost use Rattle.elf_linking.specs.Layouts.{gnu_hash_number};
     ghost use Rattle.elf_linking.specs.References.{references_left, references_of};
-    ghost use Rattle.elf_linking.specs.VersionTables.{version_tables};
-    ghost use Rattle.elf_linking.specs.Versions.{HasReadableName, IsVersion, version_at};
-    ghost use Rattle.elf_linking.specs.Versions.{version_item};
-    ghost use Rattle.elf_linking.specs.Versions.{versions_error};
+    ghost use Rattle.elf_linking.specs.Versions.{HasReadableName, IsVersion, entry_item};
+    ghost use Rattle.elf_linking.specs.Versions.{named_at, version_at, version_item, version_list};
+    ghost use Rattle.elf_linking.specs.Versions.{version_tables, versions_error};
     ghost use Rattle.xmas_elf.specs.SymbolTable.{carried_strings, carried_table, table_symbols};
     ghost use Rattle.xmas_elf.specs.Symbols.{Decides, IsMatch};
 
@@ -250,12 +249,14 @@ impl<'a, E: LinkedSymbol> DynamicObject<'a, E> {
     /// `check_versions` is Ok and there is such a symbol, there is no error, and the name of the
     /// version can be read.
     pub fn version(&self, index: u32) -> Result<Option<SymbolVersion<'a>>, LinkError>
-        ensures answer { IsVersion (version_tables (object_versions self.now)) index
-            (version_item result) }
-        ensures exact { version_item result
-            ≡ version_at (version_tables (object_versions self.now)) index }
+        ensures answer { IsVersion (version_list (object_versions self.now)) index
+            (entry_item result) }
+        ensures exact { entry_item result
+            ≡ version_at (version_list (object_versions self.now)) index }
+        ensures named { version_item result
+            ≡ named_at (version_tables (object_versions self.now)) index }
         ensures readable { let file = object_dynamic_symbols E.fields self.now in AreReadable file
-            → index < length file.symbols.items → IsOkAnd (version_item result) HasReadableName }
+            → index < length file.symbols.items → IsOkAnd (entry_item result) HasReadableName }
     {
         self.versions.version_of(index)
     }
@@ -288,7 +289,7 @@ impl<'a, E: LinkedSymbol> DynamicObject<'a, E> {
     pub fn check_versions(&self) -> Result<(), LinkError>
         ensures accepts { IsOk result
             ↔ AreReadable (object_dynamic_symbols E.fields self.now) }
-        ensures exact { result ≡ versions_error (version_tables (object_versions self.now))
+        ensures exact { result ≡ versions_error (version_list (object_versions self.now))
             (length (object_symbols E.fields self.now).items) }
     {
         self.versions.check(self.symbols.len())

@@ -8,26 +8,18 @@ ghost use Rattle.elf_linking.specs.Relr.{relr_rest};
 ghost use Rattle.elf_linking.specs.References.{all_left, each_left, names_symbol, references_left};
 ghost use Rattle.elf_linking.specs.References.{references_of, relocation_tables, relocations_left};
 ghost use Rattle.elf_linking.specs.References.{relocations_of, table_left, tables_left};
-ghost use Rattle.elf_linking.specs.References.{takes_no_symbol};
-ghost use Rattle.elf_linking.specs.References.{use_of, use_of_386, use_of_aarch64, use_of_x86_64};
 
 mod names;
+mod rows;
 mod tables;
 pub mod types;
 
 use crate::LinkError;
-use crate::find::Use;
 pub use crate::references::names::relocation_name;
+pub use crate::references::rows::{formula_of, relative_of, row_of, use_of, width_of};
 pub use crate::references::tables::Relocates;
 use crate::references::tables::Relocations;
-use crate::references::types::{
-    EM_386, EM_AARCH64, EM_X86_64, R_386_COPY, R_386_JMP_SLOT, R_386_NONE, R_386_RELATIVE,
-    R_386_TLS_DESC, R_386_TLS_DTPMOD32, R_386_TLS_DTPOFF32, R_386_TLS_TPOFF, R_386_TLS_TPOFF32,
-    R_AARCH64_COPY, R_AARCH64_JUMP_SLOT, R_AARCH64_NONE, R_AARCH64_RELATIVE, R_AARCH64_TLS_DTPMOD,
-    R_AARCH64_TLS_DTPREL, R_AARCH64_TLS_TPREL, R_AARCH64_TLSDESC, R_AARCH64_WITHDRAWN,
-    R_X86_64_COPY, R_X86_64_DTPMOD64, R_X86_64_DTPOFF64, R_X86_64_JUMP_SLOT, R_X86_64_NONE,
-    R_X86_64_RELATIVE, R_X86_64_RELATIVE64, R_X86_64_TLSDESC, R_X86_64_TPOFF64,
-};
+pub use crate::references::types::Formula;
 use crate::relr::Relr;
 use crate::view::{
     DT_JMPREL, DT_PLTREL, DT_PLTRELSZ, DT_REL, DT_RELA, DT_RELASZ, DT_RELR, DT_RELRSZ, DT_RELSZ,
@@ -134,12 +126,12 @@ impl<'a> DynamicView<'a> {
         ensures rel { IfOk result (λ all. length (relocations_left all.rel) < 2 ^ 61) }
         ensures plt { IfOk result (λ all. length (relocations_left all.plt) < 2 ^ 61) }
     {
-        let rela = self.entry(DT_RELA);
-        let rela = Relocations::read(file, rela, self.entry(DT_RELASZ), Some(DT_RELA))?;
-        let rel = self.entry(DT_REL);
-        let rel = Relocations::read(file, rel, self.entry(DT_RELSZ), Some(DT_REL))?;
-        let (size, kind) = (self.entry(DT_PLTRELSZ), self.entry(DT_PLTREL));
-        let plt = Relocations::read(file, self.entry(DT_JMPREL), size, kind)?;
+        let rela = self.table_by(DT_RELA, DT_RELASZ);
+        let rela = Relocations::read(file, &rela, Some(DT_RELA))?;
+        let rel = self.table_by(DT_REL, DT_RELSZ);
+        let rel = Relocations::read(file, &rel, Some(DT_REL))?;
+        let plt = self.table_by(DT_JMPREL, DT_PLTRELSZ);
+        let plt = Relocations::read(file, &plt, self.entry(DT_PLTREL))?;
         Ok(AllRelocations { rela, rel, plt })
     }
 
@@ -238,71 +230,5 @@ impl Iterator for References<'_> {
 fn names_symbol(machine: u16, relocation: &Reference) -> bool
     ensures { result ≡ names_symbol machine relocation.now }
 {
-    relocation.symbol != 0 && !takes_no_symbol(machine, relocation.kind)
-}
-
-// Whether a relocation of this type takes no symbol. One of the type IRELATIVE takes the symbol at
-// its index, as glibc's linker has it: it is looked up, and what is found isn't used.
-fn takes_no_symbol(machine: u16, kind: u32) -> bool
-    ensures { result ≡ takes_no_symbol machine kind }
-{
-    match machine {
-        EM_X86_64 => matches!(
-            kind,
-            R_X86_64_NONE | R_X86_64_RELATIVE | R_X86_64_RELATIVE64
-        ),
-        EM_386 => matches!(kind, R_386_NONE | R_386_RELATIVE),
-        EM_AARCH64 => matches!(
-            kind,
-            R_AARCH64_NONE | R_AARCH64_WITHDRAWN | R_AARCH64_RELATIVE
-        ),
-        _ => false,
-    }
-}
-
-/// What a relocation of this type wants of its symbol, in a file for this machine (`e_machine`):
-/// `Copy` for a copy relocation; `Defined` for a jump slot and for thread-local storage; otherwise
-/// `Any`. The machines are x86-64, 386 and AArch64; for others it is always `Any`.
-pub fn use_of(machine: u16, kind: u32) -> Use
-    ensures { result ≡ use_of machine kind }
-{
-    match machine {
-        EM_X86_64 => use_of_x86_64(kind),
-        EM_386 => use_of_386(kind),
-        EM_AARCH64 => use_of_aarch64(kind),
-        _ => Use::Any,
-    }
-}
-
-fn use_of_x86_64(kind: u32) -> Use
-    ensures { result ≡ use_of_x86_64 kind }
-{
-    match kind {
-        R_X86_64_COPY => Use::Copy,
-        R_X86_64_JUMP_SLOT | R_X86_64_DTPMOD64 | R_X86_64_DTPOFF64 => Use::Defined,
-        R_X86_64_TPOFF64 | R_X86_64_TLSDESC => Use::Defined,
-        _ => Use::Any,
-    }
-}
-
-fn use_of_386(kind: u32) -> Use
-    ensures { result ≡ use_of_386 kind }
-{
-    match kind {
-        R_386_COPY => Use::Copy,
-        R_386_JMP_SLOT | R_386_TLS_TPOFF | R_386_TLS_DTPMOD32 => Use::Defined,
-        R_386_TLS_DTPOFF32 | R_386_TLS_TPOFF32 | R_386_TLS_DESC => Use::Defined,
-        _ => Use::Any,
-    }
-}
-
-fn use_of_aarch64(kind: u32) -> Use
-    ensures { result ≡ use_of_aarch64 kind }
-{
-    match kind {
-        R_AARCH64_COPY => Use::Copy,
-        R_AARCH64_JUMP_SLOT | R_AARCH64_TLS_DTPMOD | R_AARCH64_TLS_DTPREL => Use::Defined,
-        R_AARCH64_TLS_TPREL | R_AARCH64_TLSDESC => Use::Defined,
-        _ => Use::Any,
-    }
+    relocation.symbol != 0 && row_of(machine, relocation.kind).names
 }

@@ -2,8 +2,8 @@
 
 ghost use Rattle.std.specs.Prelude.{◌≡◌, ◌<◌, ◌≤◌, ◌*◌, Ok, Err, IfOk, MatchResult, length};
 ghost use Rattle.std.specs.Iterator.{YieldsFirst, item_count};
-ghost use Rattle.elf_linking.specs.Relr.{MarkStep, marks, address_after, relr_of, relr_rest};
-ghost use Rattle.elf_linking.specs.Relr.{word_size, words_left, words_of};
+ghost use Rattle.elf_linking.specs.Relr.{MarkStep, addresses, marks, address_after, relr_of};
+ghost use Rattle.elf_linking.specs.Relr.{relr_rest, word_size, words_left};
 
 use crate::LinkError;
 use elf_base::bytes::{Order, Table, TableIter};
@@ -37,8 +37,9 @@ impl<'a> Words<'a> {
     // The words in `bytes`; the errors are those of `Relr::new`.
     fn new(bytes: &'a [u8], class: Class, order: Order) -> Result<Words<'a>, LinkError>
         ensures { MatchResult result
-            (λ words. words_of class order bytes.now ≡ Ok (word_size words, words_left words))
-            (λ error. words_of class order bytes.now ≡ Err error) }
+            (λ words. relr_of class order bytes.now
+            ≡ Ok (addresses (word_size words) 0 (words_left words)))
+            (λ error. relr_of class order bytes.now ≡ Err error) }
     {
         match class {
             Class::ThirtyTwo => match Table::new(bytes, order) {

@@ -300,7 +300,7 @@ impl<'s, 'a, E: LinkedSymbol> Scope<'s, 'a, E> {
 }
 
 // Whether the object at an index is not asked for a use.
-fn is_passed_over(use_: Use, place: usize) -> bool
+pub(crate) fn is_passed_over(use_: Use, place: usize) -> bool
     ensures { result ≡ is_passed_over use_ place }
 {
     use_ == Use::Copy && place == 0

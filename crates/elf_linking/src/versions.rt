@@ -4,7 +4,9 @@
 
 ghost use Rattle.std.specs.Prelude.{◌≡◌, ◌<◌, ◌^◌, Ok, Err, MatchResult, Option, length, option_map};
 ghost use Rattle.elf_linking.specs.DynamicView.{number_with, view_entries, view_strings};
+ghost use Rattle.elf_linking.specs.VersionList.{VersionList, is_one_list, versions_in};
 ghost use Rattle.elf_linking.specs.VersionTables.{result_map, numbers_at, records_by, records_data};
+ghost use Rattle.elf_linking.specs.VersionTables.{tables_with};
 ghost use Rattle.elf_linking.specs.declared.view.tags.TheConstants.{DT_VERSYM};
 
 mod check;
@@ -32,12 +34,16 @@ pub struct Versions<'a> {
     numbers: Option<&'a [u8]>,
     definitions: Marked<'a>,
     needs: Records<'a>,
+    // The versions in these tables as one list.
+    ghost list: { (list : VersionList)
+        × (list ≡ versions_in (tables_with numbers definitions.records needs)) } by { is_one_list },
 }
 
 impl<'a> Versions<'a> {
     ghost use Rattle.elf_linking.specs.VersionTables.{AreDefinitions, AreNeeds, definitions_in};
     ghost use Rattle.elf_linking.specs.VersionTables.{definitions_left, needs_in, needs_left};
-    ghost use Rattle.elf_linking.specs.VersionTables.{version_tables, version_tables_of};
+    ghost use Rattle.elf_linking.specs.VersionTables.{version_tables_of};
+    ghost use Rattle.elf_linking.specs.Versions.{version_tables};
 
     /// Reads the tables at the addresses in the entries VerSym, VerDef and VerNeed of the dynamic
     /// segment, with the numbers of records in VerDefNum and VerNeedNum. A file can lack each

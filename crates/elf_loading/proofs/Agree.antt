@@ -2,7 +2,7 @@
 use Rattle.std.proofs.Common.{◌≡◌, ℕ, ◌-◌, ◌<◌, ◌≤◌, ◌&&◌, ◌⊎◌, inl, inr, nat_lt, nat_le, Bool, true, false, List, [], ◌∷◌, Option, Some, None, unwrap_or, option_map, if◌then◌else◌, refl, sym, ap, ◌∙◌, subst, arith}
 use Rattle.std.proofs.lemmas.Bool.{and_left, and_parts, le-ltb, lt-leb}
 use Rattle.std.specs.List.{AllByRecursion, cons_option, find, list_all}
-use Rattle.xmas_elf.specs.Types.{ProgramHeader64}
+use Rattle.elf_linking.specs.declared.segments.Segment.{Segment}
 use Rattle.elf_loading.specs.Bytes.{IsByteOf, byte_by, byte_of, is_of_file, load_byte, offset_at}
 use Rattle.elf_loading.specs.LoadCheck.{fits_below, holds_address, load_end, load_start}
 use Rattle.elf_loading.specs.Mappings.{IsMapped, file_mapping, gap_mapping, mapped_end, mappings_of, zero_mapping}
@@ -31,7 +31,7 @@ file_or_zero false offset = inr refl
 
 module _ (page limit len : ℕ) (by : Loader) (address : ℕ) (h : 0 < page) where
   -- an address before loads that are apart is in none
-  pub none_below : (before : ℕ) (loads : List ProgramHeader64) → AreApart page before loads → address < before → find (holds_address page address) loads ≡ None
+  pub none_below : (before : ℕ) (loads : List Segment) → AreApart page before loads → address < before → find (holds_address page address) loads ≡ None
   none_below before [] apart less = refl
   none_below before (load ∷ loads) (after, apart) less =
       let order : load_start page load ≤ load_end page load = start_le_end page load h in
@@ -39,13 +39,13 @@ module _ (page limit len : ℕ) (by : Loader) (address : ℕ) (h : 0 < page) whe
       rw miss (none_below (load_end page load) loads apart (omega arith))
 
   -- the byte of a mapping, which begins after the loads before
-  abbrev Agrees : ℕ → List ProgramHeader64 → Mapping → Type 0
+  abbrev Agrees : ℕ → List Segment → Mapping → Type 0
   Agrees before loads x = IsMapped address x → (before ≤ address) × (IsByteOf x address (byte_of page by len address loads))
 
-  found_first : (load : ProgramHeader64) (loads : List ProgramHeader64) → load_start page load ≤ address → address < load_end page load → byte_of page by len address (load ∷ loads) ≡ Some (load_byte page by len address load)
+  found_first : (load : Segment) (loads : List Segment) → load_start page load ≤ address → address < load_end page load → byte_of page by len address (load ∷ loads) ≡ Some (load_byte page by len address load)
   found_first load loads from to = rw (holds_between page address load from to) refl
 
-  gap_agrees : (before : ℕ) (load : ProgramHeader64) (loads : List ProgramHeader64) (mappings : List Mapping) (place : Option ℕ) → before ≡ unwrap_or place 0 → AreApart page before (load ∷ loads) → AllByRecursion (Agrees before (load ∷ loads)) mappings → AllByRecursion (Agrees before (load ∷ loads)) (cons_option (gap_mapping page by place load) mappings)
+  gap_agrees : (before : ℕ) (load : Segment) (loads : List Segment) (mappings : List Mapping) (place : Option ℕ) → before ≡ unwrap_or place 0 → AreApart page before (load ∷ loads) → AllByRecursion (Agrees before (load ∷ loads)) mappings → AllByRecursion (Agrees before (load ∷ loads)) (cons_option (gap_mapping page by place load) mappings)
   gap_agrees before load loads mappings place is apart all = by_loader by place is
     where
       gap_byte : (end : ℕ) → end ≡ before → IsMapped address (record { start = end; end = load_start page load; flags = record { 0 = 0 }; contents = contents.NoAccess }) → (before ≤ address) × (byte_of page by len address (load ∷ loads) ≡ None)
@@ -61,7 +61,7 @@ module _ (page limit len : ℕ) (by : Loader) (address : ℕ) (h : 0 < page) whe
       by_loader Glibc (Some end) same =
           part_by (Agrees before (load ∷ loads)) (nat_lt end (load_start page load)) (record { start = end; end = load_start page load; flags = record { 0 = 0 }; contents = contents.NoAccess }) mappings (gap_byte end (sym same)) all
 
-  file_agrees : (before : ℕ) (load : ProgramHeader64) (loads : List ProgramHeader64) (mappings : List Mapping) → fits_below page limit load ≡ true → before ≤ load_start page load → AllByRecursion (Agrees before (load ∷ loads)) mappings → AllByRecursion (Agrees before (load ∷ loads)) (cons_option (file_mapping page by load) mappings)
+  file_agrees : (before : ℕ) (load : Segment) (loads : List Segment) (mappings : List Mapping) → fits_below page limit load ≡ true → before ≤ load_start page load → AllByRecursion (Agrees before (load ∷ loads)) mappings → AllByRecursion (Agrees before (load ∷ loads)) (cons_option (file_mapping page by load) mappings)
   file_agrees before load loads mappings fits after all =
       part_by (Agrees before (load ∷ loads)) (nat_lt (load_start page load) (mapped_end page by load)) (record { start = load_start page load; end = mapped_end page by load; flags = load.flags; contents = contents.File (down page load.offset) }) mappings file_byte all
     where
@@ -76,7 +76,7 @@ module _ (page limit len : ℕ) (by : Loader) (address : ℕ) (h : 0 < page) whe
                 (file_or_zero (is_of_file page by address load && nat_lt (offset_at page address load) len) (offset_at page address load)),
           )
 
-  zero_agrees : (before : ℕ) (load : ProgramHeader64) (loads : List ProgramHeader64) (mappings : List Mapping) → fits_below page limit load ≡ true → before ≤ load_start page load → AllByRecursion (Agrees before (load ∷ loads)) mappings → AllByRecursion (Agrees before (load ∷ loads)) (cons_option (zero_mapping page by load) mappings)
+  zero_agrees : (before : ℕ) (load : Segment) (loads : List Segment) (mappings : List Mapping) → fits_below page limit load ≡ true → before ≤ load_start page load → AllByRecursion (Agrees before (load ∷ loads)) mappings → AllByRecursion (Agrees before (load ∷ loads)) (cons_option (zero_mapping page by load) mappings)
   zero_agrees before load loads mappings fits after all =
       part_by (Agrees before (load ∷ loads)) (nat_lt (mapped_end page by load) (load_end page load)) (record { start = mapped_end page by load; end = load_end page load; flags = load.flags; contents = contents.Zero }) mappings zero_byte all
     where
@@ -89,7 +89,7 @@ module _ (page limit len : ℕ) (by : Loader) (address : ℕ) (h : 0 < page) whe
           let past : nat_lt address (mapped_end page by load) ≡ false = le-ltb address (mapped_end page by load) begins in
           (omega arith, found_first load loads (omega arith) ends ∙ rw past refl)
 
-  rest_agrees : (before : ℕ) (load : ProgramHeader64) (loads : List ProgramHeader64) (mappings : List Mapping) → before ≤ load_start page load → AllByRecursion (Agrees (load_end page load) loads) mappings → AllByRecursion (Agrees before (load ∷ loads)) mappings
+  rest_agrees : (before : ℕ) (load : Segment) (loads : List Segment) (mappings : List Mapping) → before ≤ load_start page load → AllByRecursion (Agrees (load_end page load) loads) mappings → AllByRecursion (Agrees before (load ∷ loads)) mappings
   rest_agrees before load loads mappings after all = all_map (Agrees (load_end page load) loads) (Agrees before (load ∷ loads)) mappings later all
     where
       later : (x : Mapping) → Agrees (load_end page load) loads x → Agrees before (load ∷ loads) x
@@ -99,7 +99,7 @@ module _ (page limit len : ℕ) (by : Loader) (address : ℕ) (h : 0 < page) whe
           let same : byte_of page by len address (load ∷ loads) ≡ byte_of page by len address loads = rw (missed page address load past) refl in
           (omega arith, subst (IsByteOf x address) (sym same) is)
 
-  agree_from : (place : Option ℕ) (loads : List ProgramHeader64) → list_all (fits_below page limit) loads ≡ true → AreApart page (unwrap_or place 0) loads → AllByRecursion (Agrees (unwrap_or place 0) loads) (mappings_of page by place loads)
+  agree_from : (place : Option ℕ) (loads : List Segment) → list_all (fits_below page limit) loads ≡ true → AreApart page (unwrap_or place 0) loads → AllByRecursion (Agrees (unwrap_or place 0) loads) (mappings_of page by place loads)
   unfolding mappings_of
   agree_from place [] fits apart = tt
   agree_from place (load ∷ loads) fits apart =
@@ -111,5 +111,5 @@ module _ (page limit len : ℕ) (by : Loader) (address : ℕ) (h : 0 < page) whe
       (rest_agrees (unwrap_or place 0) load loads _ apart.0 rest)))
 
   -- each mapping that contains an address tells the byte there
-  pub agree : (loads : List ProgramHeader64) → list_all (fits_below page limit) loads ≡ true → AreApart page 0 loads → AllByRecursion (λ x. IsMapped address x → IsByteOf x address (byte_of page by len address loads)) (mappings_of page by None loads)
+  pub agree : (loads : List Segment) → list_all (fits_below page limit) loads ≡ true → AreApart page 0 loads → AllByRecursion (λ x. IsMapped address x → IsByteOf x address (byte_of page by len address loads)) (mappings_of page by None loads)
   agree loads fits apart = all_map (Agrees 0 loads) (λ x. IsMapped address x → IsByteOf x address (byte_of page by len address loads)) (mappings_of page by None loads) (λ x agrees mapped. (agrees mapped).1) (agree_from None loads fits apart)

@@ -1,49 +1,33 @@
 -- The errors that are left where the words of an object were checked.
-use Rattle.std.proofs.Common.{◌≡◌, ℕ, zero, suc, ◌+◌, ◌-◌, ◌<◌, ◌≤◌, ◌==◌, ◌&&◌, ◌||◌, ◌++◌, not, Bool, true, false, List, [], ◌∷◌, length, map, slice_get, slice_index_or, Option, None, Some, Result, Ok, Err, if◌then◌else◌, inl, inr, refl, sym, ap, ◌∙◌, subst, arith}
+use Rattle.std.proofs.Common.{◌≡◌, ℕ, zero, suc, ◌+◌, ◌-◌, ◌≤◌, ◌==◌, ◌&&◌, ◌||◌, ◌++◌, not, Bool, true, false, List, [], ◌∷◌, length, map, slice_get, Option, None, Some, Result, Ok, Err, if◌then◌else◌, inl, inr, refl, sym, ap, ◌∙◌, subst, arith}
+use Rattle.std.specs.Borrow.{Bor}
 use Rattle.std.specs.Prelude.{All, IfErr, MatchResult}
 use Rattle.std.specs.List.{Contains}
 use Rattle.std.proofs.lemmas.Bool.{cases_lt, eqb-true, le-ltb}
 use Rattle.std.proofs.lemmas.List.Elements.{All-head, All-tail}
-use Rattle.elf_base.specs.FileHeader.{file_order}
 use Rattle.elf_base.specs.Refusal.{and_then, unless}
-use Rattle.elf_base.specs.declared.bytes.Order.{Order}
 use Rattle.elf_linking.specs.DynamicObject.{object_file, object_view}
 use Rattle.elf_linking.specs.DynamicView.{view_entries}
+use Rattle.elf_linking.specs.declared.error.LinkError.TheVariants.{ObjectIndex}
 use Rattle.elf_linking.specs.declared.object.DynamicObject.{DynamicObject}
-use Rattle.elf_loading.specs.ImageTables.{asks_for_text, tables_of}
-use Rattle.elf_loading.specs.ImageWords.{AreWritten, IsWritableWord, words_in}
-use Rattle.elf_loading.specs.LoadCheck.{load_end, load_start}
+use Rattle.elf_loading.specs.ImageWords.{AreWordsApart, IsHeld, MatchBoth, words_in}
 use Rattle.elf_loading.specs.OneWord.{HasErrorLeft, IsErrorLeft}
-use Rattle.elf_loading.specs.Relocate.{IsRelocation, IsRelocationAt, IsWriting, all, has_no_number, is_copy_outside, is_outside, is_unresolved, is_wrong_size, sized_relocations, some, start_at, write_item}
-use Rattle.elf_loading.specs.Segments.{loads_of}
-use Rattle.elf_loading.specs.Spans.{first_start, last_end}
-use Rattle.elf_loading.specs.Words.{HasWord}
+use Rattle.elf_loading.specs.Plan.{plan_loads, plan_size, plan_span}
+use Rattle.elf_loading.specs.Relocate.{IsRelocation, IsRelocationIn, IsWriting, all, has_no_number, is_copy_outside, is_outside, is_unresolved, is_wrong_size, sized_relocations, some, sources_of, start_at, write_item}
+use Rattle.elf_loading.specs.Words.{HasWord, binds_lazily}
 use Rattle.elf_loading.specs.WordsLeft.{relocation_of, words_of}
 use Rattle.elf_loading.specs.declared.error.LoadError.{LoadError}
 use Rattle.elf_loading.specs.declared.error.LoadError.TheVariants as error
 use Rattle.elf_loading.specs.declared.in_order.Relocation.{Relocation}
 use Rattle.elf_loading.specs.declared.plan.LoadPlan.{LoadPlan}
+use Rattle.elf_loading.specs.declared.relocate.Place.{Place}
 use Rattle.elf_loading.specs.declared.relocate.Sources.{Sources}
 use Rattle.elf_loading.specs.declared.words.Binding.{Binding}
 use Rattle.elf_loading.specs.declared.words.Relocated.{Relocated}
 use Rattle.elf_loading.specs.declared.words.Word.{Word}
-use Rattle.elf_loading.proofs.Checked.{word_once}
-use Rattle.elf_loading.proofs.FileChecks.{passes_apart}
-use Rattle.elf_loading.proofs.Filled.{AreBetween, all_between, first_between}
-use Rattle.elf_loading.proofs.Rounded.{down_le, up_ge}
+use Rattle.elf_loading.proofs.CheckedWords.{word_once}
+use Rattle.elf_loading.proofs.ImageLoads.{held_in_plan}
 use Rattle.xmas_elf.specs.Symbol.{SymbolFields}
-use Rattle.xmas_elf.specs.Types.{ProgramHeader64}
-
--- A load is in the span.
-
-in_span : (page low high k : ℕ) (loads : List ProgramHeader64) (load : ProgramHeader64) → 0 < page → AreBetween page low high loads → k < length loads
-    → slice_index_or loads k load ≡ load → (low ≤ load_start page load) × (load_end page load ≤ high)
-in_span page low high k [] load h between below is = absurd (omega (arith, below))
-in_span page low high zero (first ∷ loads) load h between below is =
-    let all_of = first_between page h low high first (first ∷ loads) loads refl between in
-    subst (λ l. (low ≤ load_start page l) × (load_end page l ≤ high)) is (all_of.begins, all_of.ends)
-in_span page low high (suc k) (first ∷ loads) load h between below is =
-    in_span page low high k loads load h (first_between page h low high first (first ∷ loads) loads refl between).rest (omega (arith, below)) is
 
 -- A word in a load of the span is in its image.
 
@@ -51,13 +35,10 @@ none_outside : (some before behind : Bool) → before ≡ false → behind ≡ f
 none_outside true before behind one other = rw (one, other) refl
 none_outside false before behind one other = refl
 
-word_inside : (start end len : ℕ) (page : ℕ) (load : ProgramHeader64) (word : Word) → 0 < page → start ≤ load_start page load → load_end page load ≤ end → len ≡ end - start
-    → load.virtual_addr ≤ word.address → word.address + word.width ≤ load.virtual_addr + load.mem_size → is_outside start len word.address word.width ≡ false
-word_inside start end len page load word h begins ends size from to =
-    let below : load_start page load ≤ load.virtual_addr = down_le page load.virtual_addr in
-    let above : load.virtual_addr + load.mem_size ≤ load_end page load = up_ge page (load.virtual_addr + load.mem_size) h in
-    none_outside (not (word.width == 0)) _ _ (le-ltb word.address start (omega (arith, begins, below, from)))
-    (le-ltb (start + len) (word.address + word.width) (omega (arith, begins, ends, below, above, from, to, size)))
+word_inside : (start end len : ℕ) (word : Word) → len ≡ end - start → start ≤ word.address → word.address + word.width ≤ end → is_outside start len word.address word.width ≡ false
+word_inside start end len word size from to =
+    none_outside (not (word.width == 0)) _ _ (le-ltb word.address start (omega (arith, from)))
+    (le-ltb (start + len) (word.address + word.width) (omega (arith, from, to, size)))
 
 empty_inside : (start len : ℕ) (word : Word) (empty : Bool) → (word.width == 0) ≡ empty → (empty ≡ false → is_outside start len word.address word.width ≡ false)
     → is_outside start len word.address word.width ≡ false
@@ -82,20 +63,20 @@ reason_left word reason false true copied inside is = absurd (cc)
 reason_left word reason false false true inside is = inr (inr (cc))
 reason_left word reason false false false inside is = absurd (cc)
 
-module _ {E : Type 0} {r : _} (size : ℕ) (fields : E → SymbolFields) (sources : Sources E r) (own : DynamicObject E r) (before after : List ℕ) (there : slice_get sources.objects.now sources.of ≡ Some own) where
+module _ {E : Type 0} {r : _} (fields : E → SymbolFields) (sources : Sources E r) (own : DynamicObject E r) (plan : LoadPlan) (before after : List ℕ) (there : slice_get sources.plans.now sources.of ≡ Some plan) where
   abbrev worded : Relocated E → Type 0
   worded item = HasWord fields sources.objects.now (object_file own) own sources.of false item
 
   -- the item of a relocation that was checked, and its word
-  record Placed (words : List Word) (relocation : Relocation) : Type 0 where
-    one : Relocated E
-    word : Word
-    same : one.relocation ≡ relocation
-    known : one.word ≡ Ok word
-    place : Contains words word
-    has : worded one
+  pub record Placed (words : List Word) (relocation : Relocation) : Type 0 where
+    pub one : Relocated E
+    pub word : Word
+    pub same : one.relocation ≡ relocation
+    pub known : one.word ≡ Ok word
+    pub place : Contains words word
+    pub has : worded one
 
-  at_place : (firsts : List Relocation) (relocation : Relocation) (rest : List Relocation) (checked : List (Relocated E)) (words : List Word)
+  pub at_place : (firsts : List Relocation) (relocation : Relocation) (rest : List Relocation) (checked : List (Relocated E)) (words : List Word)
       → map relocation_of checked ≡ firsts ++ (relocation ∷ rest) → words_in checked ≡ map (λ word. Ok word) words → All worded checked → Placed words relocation
   at_place [] relocation rest [] words same known has = absurd (cc)
   at_place [] relocation rest (one ∷ checked) [] same known has = absurd (cc)
@@ -110,37 +91,25 @@ module _ {E : Type 0} {r : _} (size : ℕ) (fields : E → SymbolFields) (source
       let (k, below, is) = found.place in
       record { one = found.one; word = found.word; same = found.same; known = found.known; place = (suc k, omega (arith, below), is); has = found.has }
 
-  module _ (law : AreWritten size fields sources.objects.now sources.of own) (plan : LoadPlan) (file_is : plan.file ≡ object_file own) (page_is : plan.page ≡ sources.page) (right : is_wrong_size sources own (length before) ≡ false) where
-    abbrev loads : List ProgramHeader64
-    loads = loads_of (object_file own)
-
-    between : (0 < sources.page) × AreBetween sources.page (first_start sources.page loads) (last_end sources.page 0 loads) loads
-    between =
-        subst (λ page. (0 < page) × AreBetween page (first_start page loads) (last_end page 0 loads) loads) page_is
-        (subst (λ file. (0 < plan.page) × AreBetween plan.page (first_start plan.page (loads_of file)) (last_end plan.page 0 (loads_of file)) (loads_of file)) file_is
-        (plan.paged, all_between plan.page plan.paged (loads_of plan.file) (passes_apart plan.file plan.page plan.limit plan.end plan.checked)))
-
-    size_is : length before ≡ last_end sources.page 0 loads - first_start sources.page loads
+  module _ (law : AreWordsApart fields sources.objects.now sources.of own (plan_loads plan)) (right : is_wrong_size sources plan (length before) ≡ false) where
+    size_is : length before ≡ plan_size plan
     size_is =
-        let size_of = last_end sources.page 0 loads - first_start sources.page loads in
-        let wrong = not (length before == size_of) in
-        let others = not (length sources.places.now == length sources.objects.now) || not (length sources.images.now == length sources.objects.now) in
-        eqb-true (length before) size_of (not_false (length before == size_of) (first_false wrong others right))
+        let count = length sources.objects.now in
+        let others = not (length sources.plans.now == count) || (not (length sources.places.now == count) || not (length sources.images.now == count)) in
+        eqb-true (length before) (plan_size plan) (not_false (length before == plan_size plan) (first_false (not (length before == plan_size plan)) others right))
 
-    starts : start_at sources sources.of ≡ first_start sources.page loads
+    starts : start_at sources sources.of ≡ (plan_span plan).start
     starts = rw there refl
 
-    inside_some : (word : Word) → IsWritableWord loads (asks_for_text (view_entries (object_view own))) (tables_of size own) word
-        → is_outside (start_at sources sources.of) (length before) word.address word.width ≡ false
-    inside_some word can =
-        let (k, below, is) = can.is_load in
-        let (begins, ends) = in_span sources.page (first_start sources.page loads) (last_end sources.page 0 loads) k loads can.load between.0 between.1 below is in
+    inside_some : (word : Word) → IsHeld (plan_loads plan) word → is_outside (start_at sources sources.of) (length before) word.address word.width ≡ false
+    inside_some word (load, has, begins, ends) =
+        let (from, to) = held_in_plan plan word load has (record { begins = begins; ends = ends }) in
         subst (λ start. is_outside start (length before) word.address word.width ≡ false) (sym starts)
-        (word_inside (first_start sources.page loads) (last_end sources.page 0 loads) (length before) sources.page can.load word between.0 begins ends size_is can.begins can.ends)
+        (word_inside (plan_span plan).start (plan_span plan).end (length before) word size_is from to)
 
-    inside : (word : Word) → Contains law.words word → is_outside (start_at sources sources.of) (length before) word.address word.width ≡ false
+    pub inside : (word : Word) → Contains law.words word → is_outside (start_at sources sources.of) (length before) word.address word.width ≡ false
     inside word has = elim (cases_lt 0 word.width) [
-      | inl above ↦ inside_some word (law.each word has above)
+      | inl above ↦ inside_some word (law.held word has above)
       | inr none ↦ (let zero_is : ◌≡◌ {A = ℕ} word.width 0 = omega (arith, none) in rw zero_is refl)
     ]
 
@@ -165,29 +134,33 @@ module _ {E : Type 0} {r : _} (size : ℕ) (fields : E → SymbolFields) (source
         by_ok : {A B : Type 0} {x y : A} → ◌≡◌ {A = Result A B} (Ok x) (Ok y) → x ≡ y
         by_ok is = cc
 
-  error_left : (reason : LoadError) → AreWritten size fields sources.objects.now sources.of own → (plan : LoadPlan) → plan.file ≡ object_file own → plan.page ≡ sources.page
-      → IsRelocation fields sources own false before after (Err reason) → IsErrorLeft reason
-  error_left reason law plan file_is page_is relocation = by_size (is_wrong_size sources own (length before)) refl
+  error_left : (reason : LoadError) → AreWordsApart fields sources.objects.now sources.of own (plan_loads plan) → IsRelocation fields sources own plan false before after (Err reason) → IsErrorLeft reason
+  error_left reason law relocation = by_size (is_wrong_size sources plan (length before)) refl
     where
-      by_size : (wrong : Bool) → is_wrong_size sources own (length before) ≡ wrong → IsErrorLeft reason
+      by_size : (wrong : Bool) → is_wrong_size sources plan (length before) ≡ wrong → IsErrorLeft reason
       by_size true is =
-          let sized : sized_relocations sources own (length before) ≡ Err error.ImageSize = rw is refl in
+          let sized : sized_relocations sources own plan (length before) ≡ Err error.ImageSize = rw is refl in
           let refused = subst (λ said. MatchResult said (λ relocations. IsWriting fields sources own false relocations before after (Err reason)) (λ why. (◌≡◌ {A = Result ℕ LoadError} (Err reason) (Err why)) × (after ≡ before))) sized relocation in
           inl (let same = refused.0 in cc)
       by_size false is =
           let relocations = map relocation_of law.items in
-          let sized : sized_relocations sources own (length before) ≡ Ok relocations = rw (is, law.relocations_are) refl in
+          let sized : sized_relocations sources own plan (length before) ≡ Ok relocations = rw (is, law.relocations_are) refl in
           let writing = subst (λ said. MatchResult said (λ some_of. IsWriting fields sources own false some_of before after (Err reason)) (λ why. (◌≡◌ {A = Result ℕ LoadError} (Err reason) (Err why)) × (after ≡ before))) sized relocation in
-          writing_left law plan file_is page_is is reason relocations (Err reason) refl law.relocations_are writing
+          writing_left law is reason relocations (Err reason) refl law.relocations_are writing
 
-pub error_at : {E : Type 0} {r : _} (size : ℕ) (fields : E → SymbolFields) (sources : Order → Sources E r) (found : Option (DynamicObject E r)) (when : Binding) (before after : List ℕ) (objects : List (DynamicObject E r)) (of page : ℕ) (result : Result ℕ LoadError)
-    → ((order : Order) → slice_get (sources order).objects.now (sources order).of ≡ found) → ((order : Order) → (sources order).objects.now ≡ objects) → ((order : Order) → (sources order).of ≡ of) → ((order : Order) → (sources order).page ≡ page)
-    → IsRelocationAt fields sources found when before after result → IfErr result (HasErrorLeft size fields objects of found when page)
-error_at size fields sources found when before after objects of page (Ok count) there objects_are of_is page_is relocation = tt
-error_at size fields sources None when before after objects of page (Err reason) there objects_are of_is page_is (refused, same) = cc
-error_at size fields sources (Some own) when before after objects of page (Err reason) there objects_are of_is page_is relocation = λ law plan file_same page_same now.
-    let order = file_order (object_file own).header in
-    let from = sources order in
-    let law_here = subst (λ some_objects. AreWritten size fields some_objects from.of own) (sym (objects_are order)) (subst (λ index. AreWritten size fields objects index own) (sym (of_is order)) law) in
-    error_left size fields from own before after (there order) reason law_here plan file_same (page_same ∙ sym (page_is order))
-    (subst (λ later. IsRelocation fields from own later before after (Err reason)) now relocation)
+module _ {E : Type 0} {r : _} (fields : E → SymbolFields) (objects : Bor (List (DynamicObject E r))) (plans : Bor (List LoadPlan)) (of : ℕ) (when : Binding) (places : Bor (List Place)) (images : Bor (List (Bor (List ℕ)))) (before after : List ℕ) where
+  left_at : (own : Option (DynamicObject E r)) (plan : Option LoadPlan) (reason : LoadError) → slice_get plans.now of ≡ plan
+      → MatchBoth own plan ((◌≡◌ {A = Result ℕ LoadError} (Err reason) (Err (error.Link ObjectIndex))) × (after ≡ before))
+      (λ own plan. IsRelocation fields (sources_of objects plans of places images own) own plan (binds_lazily (view_entries (object_view own)) when) before after (Err reason))
+      → MatchBoth own plan (reason ≡ error.Link ObjectIndex)
+      (λ own plan. AreWordsApart fields objects.now of own (plan_loads plan) → binds_lazily (view_entries (object_view own)) when ≡ false → IsErrorLeft reason)
+  left_at None plan reason there (refused, same) = cc
+  left_at (Some own) None reason there (refused, same) = cc
+  left_at (Some own) (Some plan) reason there relocation = λ law now.
+      let from = sources_of objects plans of places images own in
+      error_left fields from own plan before after there reason law
+      (subst (λ later. IsRelocation fields from own plan later before after (Err reason)) now relocation)
+
+  pub error_in : (result : Result ℕ LoadError) → IsRelocationIn fields objects plans of when places images before after result → IfErr result (HasErrorLeft fields objects.now plans.now of when)
+  error_in (Ok count) relocation = tt
+  error_in (Err reason) relocation = left_at (slice_get objects.now of) (slice_get plans.now of) reason refl relocation

@@ -1,16 +1,14 @@
 -- What holds of a file that is not refused.
-use Rattle.std.proofs.Common.{◌≡◌, ℕ, ◌+◌, ◌-◌, ◌^◌, ◌==◌, ◌<◌, ◌≤◌, ◌||◌, ◌*◌, not, min, nat_lt, nat_le, slice_index, if◌then◌else◌, Bool, true, false, List, [], ◌∷◌, length, Option, Some, None, ok_or, option_map, Result, Ok, Err, refl, sym, ap, subst, arith}
-use Rattle.std.proofs.Math.Nat.{min-le_right}
+use Rattle.std.proofs.Common.{◌≡◌, ℕ, ◌+◌, ◌-◌, ◌^◌, ◌==◌, ◌<◌, ◌≤◌, ◌||◌, not, nat_lt, nat_le, slice_index, if◌then◌else◌, Bool, true, false, List, [], ◌∷◌, length, Option, Some, None, ok_or, option_map, Result, Ok, Err, refl, sym, ap, subst, arith}
 use Rattle.std.proofs.lemmas.Bool.{and_parts, eqb-true, eq-eqb, leb-true, ltb-false, or_parts}
 use Rattle.std.specs.List.{list_all}
-use Rattle.elf_base.specs.FileHeader.{file_class, header_fields}
 use Rattle.elf_base.specs.Refusal.{and_then, unless}
 use Rattle.elf_base.specs.Text.{BytesRefused}
 use Rattle.elf_base.specs.declared.error.ElfError.{ElfError}
 use Rattle.elf_base.specs.declared.error.ElfError.TheVariants.{TextStart, TextEnd}
-use Rattle.xmas_elf.specs.Types.{ElfFile, ProgramHeader64}
+use Rattle.xmas_elf.specs.Types.{ElfFile}
+use Rattle.elf_linking.specs.declared.segments.Segment.{Segment}
 use Rattle.elf_loading.specs.FileCheck.{NoneApplies, check_file, covered_to, header_rows, is_no_path, is_uncovered, segment_rows}
-use Rattle.elf_loading.specs.HeaderAt.{AreWhole, header_size}
 use Rattle.elf_loading.specs.LoadCheck.{check_loads, fits_below, holds_address, lies_in, load_end}
 use Rattle.elf_loading.specs.Others.{data_of, memory_of}
 use Rattle.elf_loading.specs.Pages.{down}
@@ -41,11 +39,11 @@ pub record Passes (file : ElfFile) (page limit end : ℕ) : Type 0 where
   pub loads : check_loads page limit (length file.input.now) None (loads_of file) ≡ Ok (Some end)
   pub rest : NoneApplies (segment_rows file page)
 
-covered_by : (page limit bound address : ℕ) (b : Bool) (load : ProgramHeader64) → limit < bound → address < bound → load_end page load ≤ limit → (if b then load_end page load else address) < bound
+covered_by : (page limit bound address : ℕ) (b : Bool) (load : Segment) → limit < bound → address < bound → load_end page load ≤ limit → (if b then load_end page load else address) < bound
 covered_by page limit bound address true load le at fits = omega arith
 covered_by page limit bound address false load le at fits = at
 
-covered_le : (page limit bound address : ℕ) (loads : List ProgramHeader64) → list_all (fits_below page limit) loads ≡ true → limit < bound → address < bound → covered_to page address loads < bound
+covered_le : (page limit bound address : ℕ) (loads : List Segment) → list_all (fits_below page limit) loads ≡ true → limit < bound → address < bound → covered_to page address loads < bound
 covered_le page limit bound address [] fits le at = at
 covered_le page limit bound address (load ∷ loads) fits le at =
     let both = and_parts (fits_below page limit load) (list_all (fits_below page limit) loads) fits in
@@ -58,7 +56,7 @@ un_not true is = refl
 un_not false is = absurd (cc)
 
 -- a path in a file ends in it
-path_ends : (input : List ℕ) (segment : ProgramHeader64) (why : ElfError) → is_no_path input (Some segment) ≡ false → BytesRefused input segment.offset why → ⊥
+path_ends : (input : List ℕ) (segment : Segment) (why : ElfError) → is_no_path input (Some segment) ≡ false → BytesRefused input segment.offset why → ⊥
 path_ends input segment why path refused =
     let all = or_parts (nat_lt segment.file_size 2 || nat_lt 4096 segment.file_size || nat_lt (length input) (segment.offset + segment.file_size)) (not (slice_index input (segment.offset + segment.file_size - 1) == 0)) path in
     let front = or_parts (nat_lt segment.file_size 2 || nat_lt 4096 segment.file_size) (nat_lt (length input) (segment.offset + segment.file_size)) all.0 in
@@ -76,7 +74,7 @@ path_ends input segment why path refused =
     by_error _ zero_there some inside never = never
 
 -- the segment of which a part was kept
-some_of : {A : Type 0} → (part : ProgramHeader64 → A) (whole : Option ProgramHeader64) (found : A) → Some found ≡ option_map part whole → (segment : ProgramHeader64) × (whole ≡ Some segment) × (part segment ≡ found)
+some_of : {A : Type 0} → (part : Segment → A) (whole : Option Segment) (found : A) → Some found ≡ option_map part whole → (segment : Segment) × (whole ≡ Some segment) × (part segment ≡ found)
 some_of part (Some segment) found is = (segment, refl, cc)
 some_of part None found is = absurd (cc)
 
@@ -84,16 +82,16 @@ some_of part None found is = absurd (cc)
 abbrev pub span_in : ℕ → Extent → Span
 span_in page memory = record { start = down page memory.start; end = down page (memory.start + memory.size) }
 
-pub relro_some : (page : ℕ) (relro : Option ProgramHeader64) (memory : Extent) → Some memory ≡ option_map memory_of relro → option_map (relro_span page) relro ≡ Some (span_in page memory)
+pub relro_some : (page : ℕ) (relro : Option Segment) (memory : Extent) → Some memory ≡ option_map memory_of relro → option_map (relro_span page) relro ≡ Some (span_in page memory)
 relro_some page (Some segment) memory is =
     let same : memory ≡ memory_of segment = cc in ap (λ m. Some (span_in page m)) (sym same)
 relro_some page None memory is = absurd (cc)
 
-pub relro_none : (page : ℕ) (relro : Option ProgramHeader64) → None ≡ option_map memory_of relro → option_map (relro_span page) relro ≡ None
+pub relro_none : (page : ℕ) (relro : Option Segment) → None ≡ option_map memory_of relro → option_map (relro_span page) relro ≡ None
 relro_none page (Some segment) is = absurd (cc)
 relro_none page None is = refl
 
-pub path_none : (interpreter : Option ProgramHeader64) → None ≡ option_map data_of interpreter → interpreter ≡ None
+pub path_none : (interpreter : Option Segment) → None ≡ option_map data_of interpreter → interpreter ≡ None
 path_none (Some segment) is = absurd (cc)
 path_none None is = refl
 
@@ -129,7 +127,7 @@ module _ (file : ElfFile) (page limit end : ℕ) where
   pub passes_apart : ends_at (check_file file page limit) end ≡ true → AreApart page 0 (loads_of file)
   passes_apart is = checks_apart page limit (length file.input.now) None (Some end) (loads_of file) (passes (ends_ok (check_file file page limit) end is)).loads
 
-  by_end : (loads : List ProgramHeader64) → Some end ≡ end_after page None loads → end ≡ last_end page 0 loads
+  by_end : (loads : List Segment) → Some end ≡ end_after page None loads → end ≡ last_end page 0 loads
   by_end [] is = absurd (cc)
   by_end (load ∷ loads) is = cc
 
@@ -137,20 +135,20 @@ module _ (file : ElfFile) (page limit end : ℕ) where
   passes_end is = by_end (loads_of file) (checks_end page limit (length file.input.now) None (Some end) (loads_of file) (passes (ends_ok (check_file file page limit) end is)).loads)
 
   -- what is read-only after relocation ends at an address
-  pub passes_relro : (bound : ℕ) (relro : ProgramHeader64) → ends_at (check_file file page limit) end ≡ true → relro_of file ≡ Some relro → limit < bound → relro.virtual_addr < bound → down page (relro.virtual_addr + relro.mem_size) < bound
+  pub passes_relro : (bound : ℕ) (relro : Segment) → ends_at (check_file file page limit) end ≡ true → relro_of file ≡ Some relro → limit < bound → relro.address < bound → down page (relro.address + relro.mem_size) < bound
   passes_relro bound relro is there le at =
       let pass = passes (ends_ok (check_file file page limit) end is) in
       let covered : is_uncovered page (loads_of file) (Some relro) ≡ false = subst (λ o. is_uncovered page (loads_of file) o ≡ false) there pass.rest.1.1.0 in
-      let below : down page relro.virtual_addr ≤ relro.virtual_addr = down_le page relro.virtual_addr in
-      let most = covered_le page limit bound (down page relro.virtual_addr) (loads_of file) (passes_fit is) le (omega arith) in
-      let least : down page (relro.virtual_addr + relro.mem_size) ≤ covered_to page (down page relro.virtual_addr) (loads_of file) = ltb-false _ _ covered in
+      let below : down page relro.address ≤ relro.address = down_le page relro.address in
+      let most = covered_le page limit bound (down page relro.address) (loads_of file) (passes_fit is) le (omega arith) in
+      let least : down page (relro.address + relro.mem_size) ≤ covered_to page (down page relro.address) (loads_of file) = ltb-false _ _ covered in
       omega arith
 
   pub passes_relro_fits : (memory : Extent) → ends_at (check_file file page limit) end ≡ true → Some memory ≡ option_map memory_of (relro_of file) → limit < 2 ^ 64 → memory.start < 2 ^ 64 → down page (memory.start + memory.size) < 2 ^ 64
   passes_relro_fits memory is there le at =
       let (segment, found, part) = some_of memory_of (relro_of file) memory there in
-      let same : segment.virtual_addr ≡ memory.start = ap (λ m. m.start) part in
-      let below : segment.virtual_addr < 2 ^ 64 = omega (arith, same, at) in
+      let same : segment.address ≡ memory.start = ap (λ m. m.start) part in
+      let below : segment.address < 2 ^ 64 = omega (arith, same, at) in
       subst (λ m. down page (m.start + m.size) < 2 ^ 64) part (passes_relro (2 ^ 64) segment is found le below)
 
   pub passes_path : (path : Extent) (why : ElfError) → ends_at (check_file file page limit) end ≡ true → Some path ≡ option_map data_of (interpreter_of file) → BytesRefused file.input.now path.start why → ⊥
@@ -166,29 +164,15 @@ module _ (file : ElfFile) (page limit end : ℕ) where
   pub passes_order : 0 < page → ends_at (check_file file page limit) end ≡ true → first_start page (loads_of file) ≤ last_end page 0 (loads_of file)
   passes_order h is = follow_order (first_start page (loads_of file)) (last_end page 0 (loads_of file)) (mappings_of page Kernel None (loads_of file)) (passes_follow Kernel h is)
 
-  covered_by_checked : (relro : ProgramHeader64) → ends_at (check_file file page limit) end ≡ true → relro_of file ≡ Some relro → IsCovered page (loads_of file) (relro_span page relro)
+  covered_by_checked : (relro : Segment) → ends_at (check_file file page limit) end ≡ true → relro_of file ≡ Some relro → IsCovered page (loads_of file) (relro_span page relro)
   covered_by_checked relro is there address from to =
       let pass = passes (ends_ok (check_file file page limit) end is) in
       let checked : is_uncovered page (loads_of file) (Some relro) ≡ false = subst (λ o. is_uncovered page (loads_of file) o ≡ false) there pass.rest.1.1.0 in
-      let least : down page (relro.virtual_addr + relro.mem_size) ≤ covered_to page (down page relro.virtual_addr) (loads_of file) = ltb-false _ _ checked in
-      covered page (down page relro.virtual_addr) address (loads_of file) from (omega arith)
+      let least : down page (relro.address + relro.mem_size) ≤ covered_to page (down page relro.address) (loads_of file) = ltb-false _ _ checked in
+      covered page (down page relro.address) address (loads_of file) from (omega arith)
 
   -- each address of what is read-only after relocation is in a load
   pub passes_covered : (memory : Extent) → ends_at (check_file file page limit) end ≡ true → Some memory ≡ option_map memory_of (relro_of file) → IsCovered page (loads_of file) (span_in page memory)
   passes_covered memory is there =
       let (segment, found, part) = some_of memory_of (relro_of file) memory there in
       subst (λ m. IsCovered page (loads_of file) (span_in page m)) part (covered_by_checked segment is found)
-
--- the program headers of a file that passes the rows of the header are in it whole
-pub whole_by : (file : ElfFile) (page : ℕ) → unless (header_rows file page) (tt {0}) ≡ Ok (tt {0}) → AreWhole file
-whole_by file page is =
-    let (none, same) = unless_ok (header_rows file page) (tt {0}) (tt {0}) is in
-    let sized = none.1.0 in let some = none.1.1.0 in let within = none.1.1.1.0 in record {
-      sized = eqb-true _ _ (un_not _ sized);
-      few = few_by (header_fields file.header.pt2).ph_count (file_class file.header == 1) (or_parts _ _ some).1;
-      within = ltb-false _ _ within;
-    }
-  where
-    few_by : (count : ℕ) (narrow : Bool) → nat_lt (min page 65536) (count * header_size narrow) ≡ false → count < 0xffff
-    few_by count true is = let most = ltb-false _ _ is in omega (arith, most, min-le_right page 65536)
-    few_by count false is = let most = ltb-false _ _ is in omega (arith, most, min-le_right page 65536)

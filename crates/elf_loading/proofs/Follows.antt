@@ -3,7 +3,7 @@ use Rattle.std.proofs.Common.{◌≡◌, ℕ, ◌+◌, ◌<◌, ◌≤◌, nat_l
 use Rattle.std.proofs.lemmas.Bool.{and_parts, leb-true, ltb-true}
 use Rattle.std.specs.List.{cons_option, list_all}
 use Rattle.elf_records.specs.declared.program.Flags.{Flags}
-use Rattle.xmas_elf.specs.Types.{ProgramHeader64}
+use Rattle.elf_linking.specs.declared.segments.Segment.{Segment}
 use Rattle.elf_loading.specs.LoadCheck.{file_end, fits_below, load_end, load_start}
 use Rattle.elf_loading.specs.Mappings.{FollowEachOther, file_mapping, gap_mapping, mapped_end, mapping_if, mappings_of, maps_file, zero_mapping}
 use Rattle.elf_loading.specs.Spans.{first_start, last_end}
@@ -31,7 +31,7 @@ part start end high flags contents mappings le rest =
     part_by (nat_lt start end) start end high (record { start = start; end = end; flags = flags; contents = contents }) mappings refl refl refl le rest
 
 -- the end of the pages of the file is between those of the load
-pub record IsWithin (page : ℕ) (by : Loader) (load : ProgramHeader64) : Type 0 where
+pub record IsWithin (page : ℕ) (by : Loader) (load : Segment) : Type 0 where
   pub begins : load_start page load ≤ mapped_end page by load
   pub ends : mapped_end page by load ≤ load_end page load
 
@@ -39,32 +39,32 @@ within_by : (b : Bool) (start middle end : ℕ) → start ≤ middle → middle 
 within_by true start middle end one two = (one, two)
 within_by false start middle end one two = (omega arith, omega arith)
 
-pub is_within : (page limit : ℕ) (by : Loader) (load : ProgramHeader64) → 0 < page → fits_below page limit load ≡ true → IsWithin page by load
+pub is_within : (page limit : ℕ) (by : Loader) (load : Segment) → 0 < page → fits_below page limit load ≡ true → IsWithin page by load
 is_within page limit by load h fits =
     let both = and_parts (nat_le load.file_size load.mem_size) (nat_le (load_end page load) limit) fits in
     let less : load.file_size ≤ load.mem_size = leb-true load.file_size load.mem_size both.0 in
-    let below : load_start page load ≤ load.virtual_addr = down_le page load.virtual_addr in
-    let above : load.virtual_addr + load.file_size ≤ file_end page load = up_ge page (load.virtual_addr + load.file_size) h in
-    let ends : file_end page load ≤ load_end page load = file_end_le page load.virtual_addr load.file_size load.mem_size h less in
+    let below : load_start page load ≤ load.address = down_le page load.address in
+    let above : load.address + load.file_size ≤ file_end page load = up_ge page (load.address + load.file_size) h in
+    let ends : file_end page load ≤ load_end page load = file_end_le page load.address load.file_size load.mem_size h less in
     let (one, two) = within_by (maps_file by load) (load_start page load) (file_end page load) (load_end page load) (omega arith) ends in
     record { begins = one; ends = two }
 
-gap : (page before high : ℕ) (by : Loader) (load : ProgramHeader64) (mappings : List Mapping) → before ≤ load_start page load → FollowEachOther (load_start page load) high mappings → FollowEachOther before high (cons_option (gap_mapping page by (Some before) load) mappings)
+gap : (page before high : ℕ) (by : Loader) (load : Segment) (mappings : List Mapping) → before ≤ load_start page load → FollowEachOther (load_start page load) high mappings → FollowEachOther before high (cons_option (gap_mapping page by (Some before) load) mappings)
 gap page before high Kernel load mappings le rest = lower (load_start page load) before high mappings le rest
 gap page before high Glibc load mappings le rest = part before (load_start page load) high (record { 0 = 0 }) NoAccess mappings le rest
 
-no_gap : (page high : ℕ) (by : Loader) (load : ProgramHeader64) (mappings : List Mapping) → FollowEachOther (load_start page load) high mappings → FollowEachOther (load_start page load) high (cons_option (gap_mapping page by None load) mappings)
+no_gap : (page high : ℕ) (by : Loader) (load : Segment) (mappings : List Mapping) → FollowEachOther (load_start page load) high mappings → FollowEachOther (load_start page load) high (cons_option (gap_mapping page by None load) mappings)
 no_gap page high Kernel load mappings rest = rest
 no_gap page high Glibc load mappings rest = rest
 
 module _ (page limit : ℕ) (by : Loader) (h : 0 < page) where
-  two_parts : (high : ℕ) (load : ProgramHeader64) (mappings : List Mapping) → fits_below page limit load ≡ true → FollowEachOther (load_end page load) high mappings → FollowEachOther (load_start page load) high (cons_option (file_mapping page by load) (cons_option (zero_mapping page by load) mappings))
+  two_parts : (high : ℕ) (load : Segment) (mappings : List Mapping) → fits_below page limit load ≡ true → FollowEachOther (load_end page load) high mappings → FollowEachOther (load_start page load) high (cons_option (file_mapping page by load) (cons_option (zero_mapping page by load) mappings))
   two_parts high load mappings fits rest =
       let within = is_within page limit by load h fits in
       part (load_start page load) (mapped_end page by load) high load.flags (File (down page load.offset)) (cons_option (zero_mapping page by load) mappings) within.begins
       (part (mapped_end page by load) (load_end page load) high load.flags Zero mappings within.ends rest)
 
-  follow_from : (before : ℕ) (loads : List ProgramHeader64) → list_all (fits_below page limit) loads ≡ true → AreApart page before loads → FollowEachOther before (last_end page before loads) (mappings_of page by (Some before) loads)
+  follow_from : (before : ℕ) (loads : List Segment) → list_all (fits_below page limit) loads ≡ true → AreApart page before loads → FollowEachOther before (last_end page before loads) (mappings_of page by (Some before) loads)
   unfolding mappings_of
   follow_from before [] fits apart = omega arith
   follow_from before (load ∷ loads) fits (after, apart) =
@@ -72,7 +72,7 @@ module _ (page limit : ℕ) (by : Loader) (h : 0 < page) where
       gap page before (last_end page (load_end page load) loads) by load _ after
       (two_parts (last_end page (load_end page load) loads) load _ both.0 (follow_from (load_end page load) loads both.1 apart))
 
-  pub follow : (loads : List ProgramHeader64) → list_all (fits_below page limit) loads ≡ true → AreApart page 0 loads → FollowEachOther (first_start page loads) (last_end page 0 loads) (mappings_of page by None loads)
+  pub follow : (loads : List Segment) → list_all (fits_below page limit) loads ≡ true → AreApart page 0 loads → FollowEachOther (first_start page loads) (last_end page 0 loads) (mappings_of page by None loads)
   unfolding mappings_of
   follow [] fits apart = omega arith
   follow (load ∷ loads) fits (after, apart) =

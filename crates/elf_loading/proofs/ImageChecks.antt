@@ -1,5 +1,5 @@
 -- The check of the words of an object, word by word.
-use Rattle.std.proofs.Common.{◌≡◌, ℕ, ◌*◌, ◌≤◌, nat_lt, Bool, List, [], ◌∷◌, ◌++◌, map, Option, Some, None, Result, Ok, Err, refl, sym, ap, ◌∙◌, subst, append_assoc, arith}
+use Rattle.std.proofs.Common.{◌≡◌, ℕ, ◌≤◌, nat_lt, Bool, List, [], ◌∷◌, ◌++◌, map, Option, Some, None, Result, Ok, Err, refl, sym, ap, ◌∙◌, subst, append_assoc}
 use Rattle.std.proofs.lemmas.Bool.{ltb-false}
 use Rattle.std.proofs.lemmas.List.{map-append}
 use Rattle.std.proofs.lemmas.List.Elements.{All-nil, All-push, All-weaker}
@@ -11,29 +11,30 @@ use Rattle.elf_base.specs.Refusal.{and_then, unless}
 use Rattle.elf_linking.specs.DynamicObject.{object_file, object_view}
 use Rattle.elf_linking.specs.DynamicView.{view_entries}
 use Rattle.elf_linking.specs.declared.error.LinkError.{LinkError}
-use Rattle.elf_linking.specs.declared.error.LinkError.TheVariants.{ObjectIndex}
 use Rattle.elf_linking.specs.declared.object.DynamicObject.{DynamicObject}
 use Rattle.elf_loading.specs.ImageTables.{asks_for_text, check_tables, tables_of}
-use Rattle.elf_loading.specs.ImageWords.{AreMarksOf, AreWordsFrom, HasRoom, IsBegun, IsImageCheck, IsCheckAt, as_load_error, by_words, marks_count, check_word, check_words, checked_relocations, refused, words_in}
-use Rattle.elf_loading.specs.Segments.{loads_of}
+use Rattle.elf_loading.specs.ImageWords.{AreMarksOf, AreWordsFrom, IsBegun, IsOwnCheck, MatchBoth, as_load_error, by_words, check_word, check_words, checked_relocations, words_in}
+use Rattle.elf_loading.specs.Plan.{plan_loads, plan_size}
 use Rattle.elf_loading.specs.Words.{HasWord}
 use Rattle.elf_loading.specs.WordsLeft.{IsSame, relocation_of, words_file, words_index, words_lazy, words_left, words_objects, words_of, words_own}
 use Rattle.elf_loading.specs.declared.error.LoadError.{LoadError}
-use Rattle.elf_loading.specs.declared.error.LoadError.TheVariants.{FewMarks, Link}
-use Rattle.elf_loading.specs.declared.image_tables.TableLocation.{TableLocation}
+use Rattle.elf_linking.specs.declared.view.location.TableLocation.{TableLocation}
+use Rattle.elf_loading.specs.declared.error.LoadError.TheVariants.{FewMarks}
 use Rattle.elf_loading.specs.declared.in_order.Relocation.{Relocation}
 use Rattle.elf_loading.specs.declared.words.Relocated.{Relocated}
+use Rattle.elf_loading.specs.declared.plan.LoadPlan.{LoadPlan}
 use Rattle.elf_loading.specs.declared.words.Word.{Word}
 use Rattle.elf_loading.specs.declared.words.Words.{Words}
 use Rattle.elf_loading.proofs.LoadChecks.{unless_ok}
 use Rattle.xmas_elf.specs.Symbol.{SymbolFields}
-use Rattle.xmas_elf.specs.Types.{ElfFile, ProgramHeader64}
+use Rattle.xmas_elf.specs.Types.{ElfFile}
+use Rattle.elf_linking.specs.declared.segments.Segment.{Segment}
 
 ok_last : {A E : Type 0} (r : Result A E) → and_then r (λ x. Ok x) ≡ r
 ok_last (Ok x) = refl
 ok_last (Err e) = refl
 
-module _ (loads : List ProgramHeader64) (text : Bool) (tables : List TableLocation) where
+module _ (loads : List Segment) (text : Bool) (tables : List TableLocation) where
   then_by : (r : Result (List Word) LoadError) (words : List (Result Word LoadError)) (word : Result Word LoadError)
       → ((after : List Word) → check_words loads text tables after (words ++ (word ∷ [])) ≡ and_then (check_words loads text tables after words) (λ last. check_word loads text tables last word))
       → and_then r (λ after. check_words loads text tables after (words ++ (word ∷ []))) ≡ and_then (and_then r (λ after. check_words loads text tables after words)) (λ after. check_word loads text tables after word)
@@ -60,7 +61,7 @@ has_word_same fields item objects objects' file file' own own' of of' lazy lazy'
     (subst (λ x. HasWord fields objects' file' own' x lazy item) four
     (subst (λ x. HasWord fields objects' file' own' of' x item) five has))))
 
-module _ {E : Type 0} {r : _} (fields : E → SymbolFields) (loads : List ProgramHeader64) (text : Bool) (tables : List TableLocation) (start : ℕ) where
+module _ {E : Type 0} {r : _} (fields : E → SymbolFields) (loads : List Segment) (text : Bool) (tables : List TableLocation) (start : ℕ) where
   -- the words of these items of an iterator are checked and have marks, and the others are left
   pub record AreCheckedSoFar (all now : Words E r) (marks : List ℕ) : Type 0 where
     pub items : List (Relocated E)
@@ -146,27 +147,22 @@ link_ok : {A : Type 0} (r : Result A LinkError) (value : A) → as_load_error r 
 link_ok (Ok x) value is = let same : x ≡ value = cc in ap (λ v. Ok v) same
 link_ok (Err error) value is = absurd (cc)
 
-pub relocations_are : {E : Type 0} {r : _} (size : ℕ) (own : DynamicObject E r) (bits : ℕ) (relocations : List Relocation) → checked_relocations size own bits ≡ Ok relocations → words_of (Some own) ≡ Ok relocations
-relocations_are size own bits relocations is =
-    let few : List (Bool × LoadError) = (nat_lt bits (marks_count (loads_of (object_file own))), FewMarks) ∷ [] in
+pub relocations_are : {E : Type 0} {r : _} (size : ℕ) (own : DynamicObject E r) (plan : LoadPlan) (bits : ℕ) (relocations : List Relocation) → checked_relocations size own plan bits ≡ Ok relocations → words_of (Some own) ≡ Ok relocations
+relocations_are size own plan bits relocations is =
+    let few : List (Bool × LoadError) = (nat_lt bits (plan_size plan), FewMarks) ∷ [] in
     let (done, tables, more) = then_ok {A = Unit {0}} (check_tables size own) (λ done. and_then (as_load_error (words_of (Some own))) (λ all. unless few all)) relocations is in
     let (all, found, enough) = then_ok (as_load_error (words_of (Some own))) (λ all. unless few all) relocations more in
     let (none, same) = unless_ok few all relocations enough in
     link_ok (words_of (Some own)) relocations (found ∙ ap (λ v. Ok v) same)
 
 -- there are enough marks
-enough_marks : {E : Type 0} {r : _} (size : ℕ) (own : DynamicObject E r) (bits : ℕ) (relocations : List Relocation) → checked_relocations size own bits ≡ Ok relocations → marks_count (loads_of (object_file own)) ≤ bits
-enough_marks size own bits relocations is =
-    let few : List (Bool × LoadError) = (nat_lt bits (marks_count (loads_of (object_file own))), FewMarks) ∷ [] in
+pub enough_marks : {E : Type 0} {r : _} (size : ℕ) (own : DynamicObject E r) (plan : LoadPlan) (bits : ℕ) (relocations : List Relocation) → checked_relocations size own plan bits ≡ Ok relocations → plan_size plan ≤ bits
+enough_marks size own plan bits relocations is =
+    let few : List (Bool × LoadError) = (nat_lt bits (plan_size plan), FewMarks) ∷ [] in
     let (done, tables, more) = then_ok {A = Unit {0}} (check_tables size own) (λ done. and_then (as_load_error (words_of (Some own))) (λ all. unless few all)) relocations is in
     let (all, found, enough) = then_ok (as_load_error (words_of (Some own))) (λ all. unless few all) relocations more in
     let (none, same) = unless_ok few all relocations enough in
-    ltb-false bits (marks_count (loads_of (object_file own))) none.0
-
-pub image_room : {E : Type 0} {r : _} (size : ℕ) (objects : Bor (List (DynamicObject E r))) (of : ℕ) (own : DynamicObject E r) (bits len : ℕ) (words : Words E r) (start : ℕ) (file : ElfFile) → IsBegun size objects of own bits words start → file ≡ object_file own → bits ≡ 8 * len → HasRoom (loads_of file) start len
-image_room size objects of own bits len words start file begun same many =
-    let enough : marks_count (loads_of (object_file own)) ≤ bits = enough_marks size own bits (words_left words) begun.relocations_are in
-    subst (λ one. HasRoom (loads_of one) start len) (sym same) (record { begins = begun.start_is; fits = omega (arith, enough, many) })
+    ltb-false bits (plan_size plan) none.0
 
 -- The check of an object.
 
@@ -174,28 +170,35 @@ image_room size objects of own bits len words start file begun same many =
 pub lent_item : {X : Type 0} (xs : List X) (i : ℕ) (lent : Option (Bor X)) (x : Bor X) → IsItemAt xs i lent → lent ≡ Some x → slice_get xs i ≡ Some x.now
 lent_item xs i lent x item is = let at = subst (IsItemAt xs i) is item in slice_get-get_or xs i x.now at.3.0 ∙ ap (λ y. Some y) (sym at.1)
 
-module _ {E : Type 0} {r : _} (size : ℕ) (fields : E → SymbolFields) (objects : Bor (List (DynamicObject E r))) (of bits : ℕ) where
-  pub no_image : slice_get objects.now of ≡ None → IsImageCheck size fields objects.now of bits (Err (Link ObjectIndex))
-  no_image is = subst (λ own. IsCheckAt size fields objects.now of own bits (Err (Link ObjectIndex))) (sym is) refl
+-- a claim of the object and the plan at an index, by what a look-up finds
+pub no_object : {A B : Type 0} (objects : List A) (plans : List B) (of : ℕ) (missing : Type 0) (holds : A → B → Type 0) → slice_get objects of ≡ None → missing → MatchBoth (slice_get objects of) (slice_get plans of) missing holds
+no_object objects plans of missing holds is none = subst (λ own. MatchBoth own (slice_get plans of) missing holds) (sym is) none
 
-  module _ (own : DynamicObject E r) (own_is : slice_get objects.now of ≡ Some own) where
-    pub image_refused : (error : LoadError) → checked_relocations size own bits ≡ Err error → IsImageCheck size fields objects.now of bits (Err error)
-    image_refused error is = subst (λ one. IsCheckAt size fields objects.now of one bits (Err error)) (sym own_is) (refused error is refl)
+pub no_plan : {A B : Type 0} (objects : List A) (plans : List B) (of : ℕ) (missing : Type 0) (holds : A → B → Type 0) → slice_get plans of ≡ None → missing → MatchBoth (slice_get objects of) (slice_get plans of) missing holds
+no_plan {A} {B} objects plans of missing holds is none = subst (λ plan. MatchBoth (slice_get objects of) plan missing holds) (sym is) (by_own (slice_get objects of))
+  where
+    by_own : (own : Option A) → MatchBoth own None missing holds
+    by_own None = none
+    by_own (Some own) = none
 
-    pub image_checked : (words : Words E r) (start : ℕ) (loads : List ProgramHeader64) (text : Bool) (tables : List TableLocation) (result : Result (Unit {0}) LoadError)
-        → IsBegun size objects of own bits words start → loads ≡ loads_of (object_file own) → text ≡ asks_for_text (view_entries (object_view own)) → tables ≡ tables_of size own
-        → AreWordsFrom fields loads text tables words result → IsImageCheck size fields objects.now of bits result
-    image_checked words start loads text tables result begun loads_are text_is tables_are from =
-        let own_same : words_own words ≡ own = same_Some _ _ (sym begun.words_are.own_is ∙ own_is) in
-        let file_same : words_file words ≡ object_file own = begun.words_are.file_is ∙ ap object_file own_same in
-        subst (λ one. IsCheckAt size fields objects.now of one bits result) (sym own_is)
-        (by_words (words_left words) from.items begun.relocations_are
-        (record {
-          rest = from.rest;
-          are = from.are;
-          have_words = All-weaker _ _ (λ item has. has_word_same fields item _ _ _ _ _ _ _ _ _ _ (ap (λ o. o.now) begun.words_are.objects_are) file_same own_same begun.words_are.index_is begun.words_are.lazy_is has) from.items from.have_words;
-          all = from.all;
-        })
-        (from.checked ∙ ap (λ l. and_then (check_words l text tables [] (words_in from.items)) (λ words. Ok tt)) loads_are
-        ∙ ap (λ t. and_then (check_words (loads_of (object_file own)) t tables [] (words_in from.items)) (λ words. Ok tt)) text_is
-        ∙ ap (λ t. and_then (check_words (loads_of (object_file own)) (asks_for_text (view_entries (object_view own))) t [] (words_in from.items)) (λ words. Ok tt)) tables_are))
+pub both_at : {A B : Type 0} (objects : List A) (plans : List B) (of : ℕ) (missing : Type 0) (holds : A → B → Type 0) (own : A) (plan : B) → slice_get objects of ≡ Some own → slice_get plans of ≡ Some plan → holds own plan → MatchBoth (slice_get objects of) (slice_get plans of) missing holds
+both_at objects plans of missing holds own plan own_is plan_is both =
+    subst (λ some. MatchBoth some (slice_get plans of) missing holds) (sym own_is) (subst (λ some. MatchBoth (Some own) some missing holds) (sym plan_is) both)
+
+module _ {E : Type 0} {r : _} (size : ℕ) (fields : E → SymbolFields) (objects : Bor (List (DynamicObject E r))) (of bits : ℕ) (own : DynamicObject E r) (plan : LoadPlan) (own_is : slice_get objects.now of ≡ Some own) where
+  pub own_checked : (words : Words E r) (text : Bool) (tables : List TableLocation) (result : Result (Unit {0}) LoadError)
+      → IsBegun size objects of own plan bits words → text ≡ asks_for_text (view_entries (object_view own)) → tables ≡ tables_of size own
+      → AreWordsFrom fields (plan_loads plan) text tables words result → IsOwnCheck size fields objects.now of own plan bits result
+  own_checked words text tables result begun text_is tables_are from =
+      let own_same : words_own words ≡ own = same_Some _ _ (sym begun.words_are.own_is ∙ own_is) in
+      let file_same : words_file words ≡ object_file own = begun.words_are.file_is ∙ ap object_file own_same in
+      by_words (words_left words) from.items begun.relocations_are
+      (record {
+        rest = from.rest;
+        are = from.are;
+        have_words = All-weaker _ _ (λ item has. has_word_same fields item _ _ _ _ _ _ _ _ _ _ (ap (λ o. o.now) begun.words_are.objects_are) file_same own_same begun.words_are.index_is begun.words_are.lazy_is has) from.items from.have_words;
+        all = from.all;
+      })
+      (from.checked
+      ∙ ap (λ t. and_then (check_words (plan_loads plan) t tables [] (words_in from.items)) (λ words. Ok tt)) text_is
+      ∙ ap (λ t. and_then (check_words (plan_loads plan) (asks_for_text (view_entries (object_view own))) t [] (words_in from.items)) (λ words. Ok tt)) tables_are)

@@ -1,74 +1,99 @@
--- The load that has a word, and the memory of all loads, load by load.
-use Rattle.std.proofs.Common.{◌≡◌, ℕ, ◌+◌, ◌≤◌, Bool, true, false, List, [], ◌∷◌, Some, None, if◌then◌else◌, min, max, refl, sym, ap, ◌∙◌, subst, arith}
+-- The load that has a word, and the span of a plan, which has all loads.
+use Rattle.std.proofs.Common.{◌≡◌, ℕ, zero, suc, ◌+◌, ◌-◌, ◌*◌, ◌<◌, ◌≤◌, Bool, true, false, List, [], ◌∷◌, length, slice_index_or, Some, None, if◌then◌else◌, refl, ap, ◌∙◌, subst, arith}
 use Rattle.std.proofs.lemmas.Bool.{and_parts, leb-true}
 use Rattle.std.proofs.lemmas.Option.{same_Some}
 use Rattle.std.specs.Prelude.{nat_le}
-use Rattle.std.specs.List.{find}
-use Rattle.elf_loading.specs.ImageWords.{highest, holds_word, lowest, marks_start}
+use Rattle.std.specs.List.{Contains, find}
+use Rattle.elf_linking.specs.declared.segments.Segment.{Segment}
+use Rattle.elf_loading.specs.ImageWords.{holds_word}
+use Rattle.elf_loading.specs.LoadCheck.{load_end, load_start}
+use Rattle.elf_loading.specs.Plan.{plan_file, plan_loads, plan_size, plan_span}
+use Rattle.elf_loading.specs.declared.plan.LoadPlan.{LoadPlan}
 use Rattle.elf_loading.specs.declared.words.Word.{Word}
-use Rattle.xmas_elf.specs.Types.{ProgramHeader64}
+use Rattle.elf_loading.proofs.FileChecks.{passes_apart}
+use Rattle.elf_loading.proofs.Filled.{AreBetween, all_between, first_between}
+use Rattle.elf_loading.proofs.Rounded.{down_le, up_ge}
 
-pub holder_first : (word : Word) (items others : List ProgramHeader64) (load : ProgramHeader64) → items ≡ load ∷ others → holds_word word load ≡ true → find (holds_word word) items ≡ Some load
+pub holder_first : (word : Word) (items others : List Segment) (load : Segment) → items ≡ load ∷ others → holds_word word load ≡ true → find (holds_word word) items ≡ Some load
 holder_first word items others load is hit = ap (find (holds_word word)) is ∙ rw hit refl
 
-pub holder_rest : (word : Word) (items others : List ProgramHeader64) (load : ProgramHeader64) → items ≡ load ∷ others → holds_word word load ≡ false → find (holds_word word) items ≡ find (holds_word word) others
+pub holder_rest : (word : Word) (items others : List Segment) (load : Segment) → items ≡ load ∷ others → holds_word word load ≡ false → find (holds_word word) items ≡ find (holds_word word) others
 holder_rest word items others load is miss = ap (find (holds_word word)) is ∙ rw miss refl
 
-pub holder_end : (word : Word) (items : List ProgramHeader64) → items ≡ [] → find (holds_word word) items ≡ None
+pub holder_end : (word : Word) (items : List Segment) → items ≡ [] → find (holds_word word) items ≡ None
 holder_end word items is = ap (find (holds_word word)) is
 
--- the least address and the greatest end so far lead to those of all loads
-pub record IsMemorySoFar (loads rest : List ProgramHeader64) (start end : ℕ) : Type 0 where
-  pub start_left : lowest start rest ≡ marks_start loads
-  pub end_left : highest end rest ≡ highest 0 loads
+-- a load has a word
+pub record IsHolder (word : Word) (load : Segment) : Type 0 where
+  pub begins : load.address ≤ word.address
+  pub ends : word.address + word.width ≤ load.address + load.mem_size
 
-pub memory_first : (loads items others : List ProgramHeader64) (load : ProgramHeader64) (start end : ℕ) → items ≡ load ∷ others → IsMemorySoFar loads items start end → IsMemorySoFar loads others (min start load.virtual_addr) (max end (load.virtual_addr + load.mem_size))
-memory_first loads items others load start end is so_far = record {
-  start_left = sym (ap (lowest start) is) ∙ so_far.start_left;
-  end_left = sym (ap (highest end) is) ∙ so_far.end_left;
-}
+pub holder_by : (word : Word) (load : Segment) → holds_word word load ≡ true → IsHolder word load
+holder_by word load held =
+    let both = and_parts (nat_le load.address word.address) (nat_le (word.address + word.width) (load.address + load.mem_size)) held in
+    record { begins = leb-true _ _ both.0; ends = leb-true _ _ both.1 }
 
-pub memory_end : (loads items : List ProgramHeader64) (start end : ℕ) → items ≡ [] → IsMemorySoFar loads items start end → (start ≡ marks_start loads) × (end ≡ highest 0 loads)
-memory_end loads items start end is so_far = (
-  sym (ap (lowest start) is) ∙ so_far.start_left,
-  sym (ap (highest end) is) ∙ so_far.end_left,
-)
+-- the load that is found has the word
+pub found_holder : (word : Word) (loads : List Segment) (load : Segment) → find (holds_word word) loads ≡ Some load → IsHolder word load
+found_holder word [] load is = absurd (cc)
+found_holder word (first ∷ loads) load is = by_first (found_holder word loads load) (holds_word word first) refl is
+  where
+    by_first : (find (holds_word word) loads ≡ Some load → IsHolder word load) → (b : Bool) → holds_word word first ≡ b
+        → (if b then Some first else find (holds_word word) loads) ≡ Some load → IsHolder word load
+    by_first later true held found = subst (IsHolder word) (same_Some first load found) (holder_by word first held)
+    by_first later false held found = later found
 
--- a load is within the memory of all loads
-lowest_below : (from : ℕ) (loads : List ProgramHeader64) → lowest from loads ≤ from
-lowest_below from [] = omega arith
-lowest_below from (load ∷ loads) = let below : lowest (min from load.virtual_addr) loads ≤ min from load.virtual_addr = lowest_below (min from load.virtual_addr) loads in omega (arith, below)
+-- the pages of a load that is found are between those of all loads
+module _ (word : Word) (page low high : ℕ) (h : 0 < page) where
+  abbrev IsBetween : Segment → Type 0
+  IsBetween load = (low ≤ load_start page load) × (load_end page load ≤ high)
 
-highest_above : (to : ℕ) (loads : List ProgramHeader64) → to ≤ highest to loads
-highest_above to [] = omega arith
-highest_above to (load ∷ loads) = let above : max to (load.virtual_addr + load.mem_size) ≤ highest (max to (load.virtual_addr + load.mem_size)) loads = highest_above (max to (load.virtual_addr + load.mem_size)) loads in omega (arith, above)
+  found_between : (loads : List Segment) (load : Segment) → AreBetween page low high loads → find (holds_word word) loads ≡ Some load → IsBetween load
+  found_between [] load between is = absurd (cc)
+  found_between (first ∷ loads) load between is =
+      let all_of = first_between page h low high first (first ∷ loads) loads refl between in
+      by_first all_of.begins all_of.ends (found_between loads load all_of.rest) (holds_word word first) is
+    where
+      by_first : low ≤ load_start page first → load_end page first ≤ high → (find (holds_word word) loads ≡ Some load → IsBetween load)
+          → (b : Bool) → (if b then Some first else find (holds_word word) loads) ≡ Some load → IsBetween load
+      by_first begins ends later true found = subst IsBetween (same_Some first load found) (begins, ends)
+      by_first begins ends later false found = later found
 
--- a word that a load holds lies between the least address and the greatest end
-pub record IsWithin (word : Word) (low high : ℕ) (load : ProgramHeader64) : Type 0 where
-  pub above : low ≤ word.address
-  pub below : word.address + word.width ≤ high
-  pub begins : load.virtual_addr ≤ word.address
-  pub ends : word.address + word.width ≤ load.virtual_addr + load.mem_size
+-- the loads of a plan are in its span
+pub plan_between : (plan : LoadPlan) → AreBetween plan.page (plan_span plan).start (plan_span plan).end (plan_loads plan)
+plan_between plan = all_between plan.page plan.paged (plan_loads plan) (passes_apart (plan_file plan) plan.page plan.limit plan.end plan.checked)
 
-module _ (word : Word) (from to : ℕ) (first : ProgramHeader64) (loads : List ProgramHeader64) (load : ProgramHeader64) where
-  within_by : (b : Bool) → holds_word word first ≡ b → (find (holds_word word) loads ≡ Some load → IsWithin word (lowest (min from first.virtual_addr) loads) (highest (max to (first.virtual_addr + first.mem_size)) loads) load)
-      → (if b then Some first else find (holds_word word) loads) ≡ Some load → IsWithin word (lowest from (first ∷ loads)) (highest to (first ∷ loads)) load
-  within_by false held later found = later found
-  within_by true held later found =
-      let both = and_parts (nat_le first.virtual_addr word.address) (nat_le (word.address + word.width) (first.virtual_addr + first.mem_size)) held in
-      let begins : first.virtual_addr ≤ word.address = leb-true _ _ both.0 in
-      let ends : word.address + word.width ≤ first.virtual_addr + first.mem_size = leb-true _ _ both.1 in
-      let low : lowest (min from first.virtual_addr) loads ≤ min from first.virtual_addr = lowest_below (min from first.virtual_addr) loads in
-      let high : max to (first.virtual_addr + first.mem_size) ≤ highest (max to (first.virtual_addr + first.mem_size)) loads = highest_above (max to (first.virtual_addr + first.mem_size)) loads in
-      let same : first ≡ load = same_Some first load found in
-      subst (λ one. IsWithin word (lowest from (first ∷ loads)) (highest to (first ∷ loads)) one) same (record {
-        above = omega (arith, low, begins);
-        below = omega (arith, high, ends);
-        begins = begins;
-        ends = ends;
-      })
+-- a word that a load of a plan holds is in its span
+pub in_plan : (plan : LoadPlan) (word : Word) (load : Segment) → (plan_span plan).start ≤ load_start plan.page load → load_end plan.page load ≤ (plan_span plan).end → IsHolder word load
+    → ((plan_span plan).start ≤ word.address) × (word.address + word.width ≤ (plan_span plan).end)
+in_plan plan word load begins ends holder =
+    let below : load_start plan.page load ≤ load.address = down_le plan.page load.address in
+    let above : load.address + load.mem_size ≤ load_end plan.page load = up_ge plan.page (load.address + load.mem_size) plan.paged in
+    let from : load.address ≤ word.address = holder.begins in
+    let to : word.address + word.width ≤ load.address + load.mem_size = holder.ends in
+    (omega (arith, begins, below, from), omega (arith, ends, above, to))
 
-pub held_within : (word : Word) (from to : ℕ) (loads : List ProgramHeader64) (load : ProgramHeader64) → find (holds_word word) loads ≡ Some load → IsWithin word (lowest from loads) (highest to loads) load
-held_within word from to [] load is = absurd (cc)
-held_within word from to (first ∷ loads) load is =
-    within_by word from to first loads load (holds_word word first) refl (held_within word (min from first.virtual_addr) (max to (first.virtual_addr + first.mem_size)) loads load) is
+-- a word that a load holds has its marks
+pub word_room : (plan : LoadPlan) (start len : ℕ) (word : Word) (load : Segment) → start ≡ (plan_span plan).start → plan_size plan ≤ 8 * len → find (holds_word word) (plan_loads plan) ≡ Some load
+    → (start ≤ word.address) × (word.address - start + word.width ≤ 8 * len)
+word_room plan start len word load starts room found =
+    let between = found_between word plan.page (plan_span plan).start (plan_span plan).end plan.paged (plan_loads plan) load (plan_between plan) found in
+    let (from, to) = in_plan plan word load between.0 between.1 (found_holder word (plan_loads plan) load found) in
+    (omega (arith, from, starts), omega (arith, from, to, room, starts))
+
+-- a load at an index is between those of all loads
+in_span : (page low high k : ℕ) (loads : List Segment) (load : Segment) → 0 < page → AreBetween page low high loads → k < length loads
+    → slice_index_or loads k load ≡ load → (low ≤ load_start page load) × (load_end page load ≤ high)
+in_span page low high k [] load h between below is = absurd (omega (arith, below))
+in_span page low high zero (first ∷ loads) load h between below is =
+    let all_of = first_between page h low high first (first ∷ loads) loads refl between in
+    subst (λ l. (low ≤ load_start page l) × (load_end page l ≤ high)) is (all_of.begins, all_of.ends)
+in_span page low high (suc k) (first ∷ loads) load h between below is =
+    in_span page low high k loads load h (first_between page h low high first (first ∷ loads) loads refl between).rest (omega (arith, below)) is
+
+-- a word that a load of a plan has is in its span
+pub held_in_plan : (plan : LoadPlan) (word : Word) (load : Segment) → Contains (plan_loads plan) load → IsHolder word load
+    → ((plan_span plan).start ≤ word.address) × (word.address + word.width ≤ (plan_span plan).end)
+held_in_plan plan word load (k, below, is) holder =
+    let (begins, ends) = in_span plan.page (plan_span plan).start (plan_span plan).end k (plan_loads plan) load plan.paged (plan_between plan) below is in
+    in_plan plan word load begins ends holder

@@ -3,24 +3,27 @@ use Rattle.std.proofs.Common.{◌≡◌, ℕ, zero, suc, ◌+◌, ◌<◌, ◌==
 use Rattle.std.proofs.lemmas.Bool.{eqb-true, lt-ltb, ne_eqb, not-false, or_parts}
 use Rattle.std.proofs.lemmas.List.Folds.{find_at}
 use Rattle.std.proofs.lemmas.Option.{get_or_from_slice_get, slice_get_read, slice_get_within}
-use Rattle.std.specs.Prelude.{IfOk, IsSomeAnd, bit_and, slice_get, ⊤}
+use Rattle.std.specs.Prelude.{IfOk, bit_and, slice_get, ⊤}
 use Rattle.std.specs.List.{Contains, find, list_any, position_or_len}
 use Rattle.elf_base.specs.Refusal.{and_then, unless}
-use Rattle.elf_linking.specs.DynamicObject.{object_file, object_view}
+use Rattle.elf_linking.specs.DynamicObject.{object_view}
 use Rattle.elf_linking.specs.DynamicView.{view_entries}
 use Rattle.elf_linking.specs.declared.object.DynamicObject.{DynamicObject}
 use Rattle.elf_loading.specs.ImageTables.{asks_for_text, has_flag, tables_of}
-use Rattle.elf_loading.specs.ImageWords.{AreWritten, IsCheckAt, IsImageCheck, IsIn, IsOwnCheck, IsWritableWord, by_words, check_word, check_words, holds_word, is_shut, overlaps, refused, touches, word_rows, words_in}
-use Rattle.elf_loading.specs.Segments.{loads_of}
+use Rattle.elf_loading.specs.ImageWords.{AreWritten, IsHeld, IsImageCheck, IsIn, IsOwnCheck, IsWritableWord, MatchBoth, by_words, check_word, check_words, holds_word, is_shut, overlaps, refused, touches, word_rows, words_in}
+use Rattle.elf_loading.specs.Plan.{plan_loads}
 use Rattle.elf_loading.specs.WordsLeft.{relocation_of}
+use Rattle.elf_linking.specs.declared.error.LinkError.TheVariants.{ObjectIndex}
 use Rattle.elf_loading.specs.declared.error.LoadError.{LoadError}
-use Rattle.elf_loading.specs.declared.image_tables.TableLocation.{TableLocation}
+use Rattle.elf_linking.specs.declared.view.location.TableLocation.{TableLocation}
+use Rattle.elf_loading.specs.declared.error.LoadError.TheVariants as error
+use Rattle.elf_loading.specs.declared.plan.LoadPlan.{LoadPlan}
 use Rattle.elf_loading.specs.declared.words.Word.{Word}
 use Rattle.elf_loading.proofs.ImageChecks.{relocations_are, then_ok}
-use Rattle.elf_loading.proofs.ImageLoads.{held_within}
+use Rattle.elf_loading.proofs.ImageLoads.{found_holder}
 use Rattle.elf_loading.proofs.LoadChecks.{unless_ok}
 use Rattle.xmas_elf.specs.Symbol.{SymbolFields}
-use Rattle.xmas_elf.specs.Types.{ProgramHeader64}
+use Rattle.elf_linking.specs.declared.segments.Segment.{Segment}
 
 -- an item that is not one that passes a test
 none_at : {X : Type 0} (test : X → Bool) (xs : List X) (k : ℕ) (x : X) → list_any test xs ≡ false → slice_get xs k ≡ Some x → test x ≡ false
@@ -41,7 +44,7 @@ meet_at start size other many address (one, two) (three, four) = lt-ltb _ _ (ome
 true_false : true ≡ false → ⊥
 true_false is = absurd (cc)
 
-module _ (loads : List ProgramHeader64) (text : Bool) (tables : List TableLocation) where
+module _ (loads : List Segment) (text : Bool) (tables : List TableLocation) where
   -- a word with bytes can be written, and meets none of those before it
   pub record IsPassed (before : List Word) (word : Word) : Type 0 where
     pub writable : 0 < word.width → IsWritableWord loads text tables word
@@ -62,10 +65,10 @@ module _ (loads : List ProgramHeader64) (text : Bool) (tables : List TableLocati
       let meets : touches word table ≡ true = rw (start_is, size_is) (meet_at word.address word.width start size address in_word in_table) in
       true_false (sym meets ∙ untouched)
 
-  writable_by : (word : Word) (found : Option ProgramHeader64) → find (holds_word word) loads ≡ found → is_none found ≡ false → (not text && is_shut found) ≡ false → list_any (touches word) tables ≡ false → IsWritableWord loads text tables word
+  writable_by : (word : Word) (found : Option Segment) → find (holds_word word) loads ≡ found → is_none found ≡ false → (not text && is_shut found) ≡ false → list_any (touches word) tables ≡ false → IsWritableWord loads text tables word
   writable_by word None is some shut free = absurd (true_false some)
   writable_by word (Some load) is some shut free =
-      let within = held_within word 0 0 loads load is in record {
+      let within = found_holder word loads load is in record {
         load = load;
         is_load = contains_read loads (position_or_len (holds_word word) loads) load (sym (find_at (holds_word word) loads) ∙ is);
         begins = within.begins;
@@ -153,26 +156,36 @@ module _ (loads : List ProgramHeader64) (text : Bool) (tables : List TableLocati
       all_apart (after_word before first) words i j one other address others (omega (arith, order)) at later in_one in_other
 
 module _ {E : Type 0} {r : _} (size : ℕ) (fields : E → SymbolFields) (objects : List (DynamicObject E r)) (of bits : ℕ) where
-  own_passes : (own : DynamicObject E r) (result : Result (Unit {0}) LoadError) → result ≡ Ok tt → IsOwnCheck size fields objects of own bits result → AreWritten size fields objects of own
-  own_passes own result ok (refused error why is) = absurd (cc)
-  own_passes own result ok (by_words relocations items checked first is) =
-      let (after, passes, done) = then_ok (check_words (loads_of (object_file own)) (asks_for_text (view_entries (object_view own))) (tables_of size own) [] (words_in items)) (λ words. Ok (tt {0})) tt (sym is ∙ ok) in
-      let passing = all_passing (loads_of (object_file own)) (asks_for_text (view_entries (object_view own))) (tables_of size own) [] after (words_in items) passes in
-      let none : first.rest ≡ [] = subst (λ one. IfOk one (λ d. first.rest ≡ [])) ok first.all in record {
-        items = items;
-        words = passing.words;
-        relocations_are = relocations_are size own bits relocations checked ∙ ap (λ list. Ok list) (first.are ∙ ap (λ rest. map relocation_of items ++ rest) none ∙ append-nil (map relocation_of items));
-        have_words = first.have_words;
-        words_are = passing.words_are;
-        each = λ word has some. let (k, at) = read_of passing.words word has in each_passed _ _ _ [] passing.words k word passing.passed at some;
-        apart = λ i j one other address order at later in_one in_other. all_apart _ _ _ [] passing.words i j one other address passing.passed order at later in_one in_other;
+  held_by : (loads : List Segment) (text : Bool) (tables : List TableLocation) (word : Word) → IsWritableWord loads text tables word → IsHeld loads word
+  held_by loads text tables word can = (can.load, can.is_load, can.begins, can.ends)
+
+  own_passes : (own : DynamicObject E r) (plan : LoadPlan) (result : Result (Unit {0}) LoadError) → result ≡ Ok tt → IsOwnCheck size fields objects of own plan bits result → AreWritten size fields objects of own plan
+  own_passes own plan result ok (refused error why is) = absurd (cc)
+  own_passes own plan result ok (by_words relocations items checked first is) =
+      let text = asks_for_text (view_entries (object_view own)) in
+      let (after, passes, done) = then_ok (check_words (plan_loads plan) text (tables_of size own) [] (words_in items)) (λ words. Ok (tt {0})) tt (sym is ∙ ok) in
+      let passing = all_passing (plan_loads plan) text (tables_of size own) [] after (words_in items) passes in
+      let none : first.rest ≡ [] = subst (λ one. IfOk one (λ d. first.rest ≡ [])) ok first.all in
+      let each : (word : Word) → Contains passing.words word → 0 < word.width → IsWritableWord (plan_loads plan) text (tables_of size own) word =
+      λ word has some. let (k, at) = read_of passing.words word has in each_passed _ _ _ [] passing.words k word passing.passed at some in record {
+        apart = record {
+          items = items;
+          words = passing.words;
+          relocations_are = relocations_are size own plan bits relocations checked ∙ ap (λ list. Ok list) (first.are ∙ ap (λ rest. map relocation_of items ++ rest) none ∙ append-nil (map relocation_of items));
+          have_words = first.have_words;
+          words_are = passing.words_are;
+          held = λ word has some. held_by (plan_loads plan) text (tables_of size own) word (each word has some);
+          apart = λ i j one other address order at later in_one in_other. all_apart _ _ _ [] passing.words i j one other address passing.passed order at later in_one in_other;
+        };
+        each = each;
       }
 
-  at_passes : (own : Option (DynamicObject E r)) (result : Result (Unit {0}) LoadError) → IsCheckAt size fields objects of own bits result → IfOk result (λ done. IsSomeAnd own (AreWritten size fields objects of))
-  at_passes None (Ok done) is = absurd (cc)
-  at_passes None (Err error) is = tt
-  at_passes (Some own) (Ok done) is = own_passes own (Ok done) (search) is
-  at_passes (Some own) (Err error) is = tt
+  at_passes : (own : Option (DynamicObject E r)) (plan : Option LoadPlan) (result : Result (Unit {0}) LoadError) → MatchBoth own plan (result ≡ Err (error.Link ObjectIndex)) (λ own plan. IsOwnCheck size fields objects of own plan bits result)
+      → IfOk result (λ done. MatchBoth own plan ⊥ (AreWritten size fields objects of))
+  at_passes None plan (Ok done) is = absurd (cc)
+  at_passes (Some own) None (Ok done) is = absurd (cc)
+  at_passes (Some own) (Some plan) (Ok done) is = own_passes own plan (Ok done) (search) is
+  at_passes own plan (Err error) is = tt
 
-  pub image_passes : (result : Result (Unit {0}) LoadError) → IsImageCheck size fields objects of bits result → IfOk result (λ done. IsSomeAnd (slice_get objects of) (AreWritten size fields objects of))
-  image_passes result is = at_passes (slice_get objects of) result is
+  pub image_passes : (plans : List LoadPlan) (result : Result (Unit {0}) LoadError) → IsImageCheck size fields objects plans of bits result → IfOk result (λ done. MatchBoth (slice_get objects of) (slice_get plans of) ⊥ (AreWritten size fields objects of))
+  image_passes plans result is = at_passes (slice_get objects of) (slice_get plans of) result is

@@ -4,13 +4,13 @@ use Rattle.std.specs.Prelude.{take}
 use Rattle.elf_linking.specs.declared.references.Reference.{Reference}
 use Rattle.elf_loading.specs.InOrder.{place, placed, relative_at}
 
-pub relative_none : (machine : ℕ) (addresses : List ℕ) → addresses ≡ [] → map (relative_at machine) addresses ≡ []
-relative_none machine addresses is = ap (map (relative_at machine)) is
+pub relative_none : (kind : ℕ) (addresses : List ℕ) → addresses ≡ [] → map (relative_at kind) addresses ≡ []
+relative_none kind addresses is = ap (map (relative_at kind)) is
 
-pub relative_first : (machine after : ℕ) (addresses others : List ℕ) (address : ℕ) → after ≡ machine → addresses ≡ address ∷ others
-    → map (relative_at machine) addresses ≡ relative_at machine address ∷ map (relative_at after) others
-relative_first machine after addresses others address same is =
-    ap (map (relative_at machine)) is ∙ ap (λ m. relative_at machine address ∷ map (relative_at m) others) (sym same)
+pub relative_first : (kind after : ℕ) (addresses others : List ℕ) (address : ℕ) → after ≡ kind → addresses ≡ address ∷ others
+    → map (relative_at kind) addresses ≡ relative_at kind address ∷ map (relative_at after) others
+relative_first kind after addresses others address same is =
+    ap (map (relative_at kind)) is ∙ ap (λ m. relative_at kind address ∷ map (relative_at m) others) (sym same)
 
 pub placed_none : (in_place slot : Bool) (references : List Reference) → references ≡ [] → placed in_place slot references ≡ []
 placed_none in_place slot references is = ap (placed in_place slot) is

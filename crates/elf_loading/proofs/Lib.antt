@@ -1,6 +1,5 @@
 pub mod Rounded
 pub mod Fits
-pub mod HeadersAt
 pub mod Lists
 pub mod Others
 pub mod LoadChecks
@@ -22,7 +21,7 @@ pub mod InOrders
 pub mod NumberBytes
 pub mod Written
 pub mod RelativeWords
-pub mod Checked
+pub mod CheckedWords
 pub mod OneWords
 pub mod ErrorsLeft
 pub mod ImageTables
@@ -31,4 +30,7 @@ pub mod Marks
 pub mod ImageWord
 pub mod ImageChecks
 pub mod ImagePasses
-pub mod FileLoads
+mod CheckedImages
+mod CheckedResults
+mod CheckedWritten
+mod CheckedScopes

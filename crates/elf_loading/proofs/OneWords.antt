@@ -2,24 +2,24 @@
 use Rattle.std.proofs.Common.{◌≡◌, ℕ, ◌+◌, ◌<◌, ◌≤◌, Bool, true, false, List, [], ◌∷◌, length, map, slice_index, slice_get, Option, None, Some, Result, Ok, Err, if◌then◌else◌, cond, refl, sym, ap, ◌∙◌, arith}
 use Rattle.std.specs.Prelude.{IfOk, MatchResult}
 use Rattle.std.specs.List.{count_by, find}
-use Rattle.elf_base.specs.FileHeader.{file_order}
-use Rattle.elf_base.specs.declared.bytes.Order.{Order}
-use Rattle.elf_linking.specs.DynamicObject.{object_file, object_view}
+use Rattle.std.specs.Borrow.{Bor}
+use Rattle.elf_linking.specs.DynamicObject.{object_view}
 use Rattle.elf_linking.specs.DynamicView.{view_entries}
 use Rattle.elf_linking.specs.declared.error.LinkError.{LinkError}
+use Rattle.elf_linking.specs.declared.error.LinkError.TheVariants.{ObjectIndex}
 use Rattle.elf_linking.specs.declared.object.DynamicObject.{DynamicObject}
-use Rattle.elf_loading.specs.ImageWords.{as_load_error}
-use Rattle.elf_loading.specs.OneWord.{IsByOneWordAt, IsByOneWordEach, byte_by, is_of_word, is_over, plan_byte}
-use Rattle.elf_loading.specs.Plan.{plan_loads}
-use Rattle.elf_loading.specs.Relocate.{AreItemsWritten, IsRelocation, IsRelocationAt, IsWriting, all, is_wrong_size, relocated_byte, sized_relocations, some, start_at, word_byte}
-use Rattle.elf_loading.specs.Segments.{loads_of}
-use Rattle.elf_loading.specs.Spans.{first_start}
+use Rattle.elf_loading.specs.ImageWords.{MatchBoth, as_load_error}
+use Rattle.elf_loading.specs.OneWord.{IsByOneWord, IsByOneWordIn, byte_by, is_of_word, is_over, plan_byte}
+use Rattle.elf_loading.specs.Plan.{plan_loads, plan_span}
+use Rattle.elf_loading.specs.Relocate.{AreItemsWritten, IsRelocation, IsRelocationIn, IsWriting, all, is_wrong_size, relocated_byte, sized_relocations, some, sources_of, start_at, word_byte}
 use Rattle.elf_loading.specs.Words.{binds_lazily}
 use Rattle.elf_loading.specs.WordsLeft.{relocation_of, words_of}
-use Rattle.elf_loading.proofs.Checked.{checked_once, count_first}
+use Rattle.elf_loading.proofs.CheckedWords.{checked_once, count_first}
 use Rattle.elf_loading.specs.declared.error.LoadError.{LoadError}
 use Rattle.elf_loading.specs.declared.error.LoadError.TheVariants as error
 use Rattle.elf_loading.specs.declared.in_order.Relocation.{Relocation}
+use Rattle.elf_loading.specs.declared.plan.LoadPlan.{LoadPlan}
+use Rattle.elf_loading.specs.declared.relocate.Place.{Place}
 use Rattle.elf_loading.specs.declared.relocate.Sources.{Sources}
 use Rattle.elf_loading.specs.declared.words.Binding.{Binding}
 use Rattle.elf_loading.specs.declared.words.Relocated.{Relocated}
@@ -74,12 +74,12 @@ are_words true said relocations is = absurd (cc)
 are_words false (Ok all_of) relocations is = cc
 are_words false (Err e) relocations is = absurd (cc)
 
-module _ {E : Type 0} {r : _} (size : ℕ) (fields : E → SymbolFields) (sources : Sources E r) (own : DynamicObject E r) (lazy : Bool) (before after : List ℕ) (there : slice_get sources.objects.now sources.of ≡ Some own) where
-  starts : start_at sources sources.of ≡ first_start sources.page (loads_of (object_file own))
+module _ {E : Type 0} {r : _} (fields : E → SymbolFields) (sources : Sources E r) (own : DynamicObject E r) (plan : LoadPlan) (lazy : Bool) (before after : List ℕ) (there : slice_get sources.plans.now sources.of ≡ Some plan) where
+  starts : start_at sources sources.of ≡ (plan_span plan).start
   starts = rw there refl
 
   once_written : (items : List (Relocated E)) (count : ℕ) → words_of (Some own) ≡ Ok (map relocation_of items)
-      → AreItemsWritten fields sources own lazy before after items count → IsByOneWordEach size fields sources own lazy before after
+      → AreItemsWritten fields sources own lazy before after items count → IsByOneWord fields sources own plan lazy before after
   once_written items count are written =
       let start = start_at sources sources.of in
       let each : (i : ℕ) → i < length before → count_by (is_over (start + i)) items ≤ 1
@@ -89,45 +89,33 @@ module _ {E : Type 0} {r : _} (size : ℕ) (fields : E → SymbolFields) (source
         are = are;
         have_words = written.have_words;
         bytes = each;
-        of_plan = λ by plan image file_is page_is i below single.
-            let begins : first_start plan.page (plan_loads plan) ≡ start = rw (file_is, page_is) (sym starts) in
+        of_plan = λ by image i below single.
             each i below single ∙ ap (byte_by sources (start + i) (find (is_over (start + i)) items))
-            (image.bytes i below ∙ ap (λ s. plan_byte plan by (s + i)) begins);
-        once = λ law address. checked_once fields sources.objects.now own sources.of size lazy address items are written.have_words law;
+            (image.bytes i below ∙ ap (λ s. plan_byte plan by (s + i)) (sym starts));
+        once = λ law address. checked_once fields sources.objects.now own sources.of (plan_loads plan) lazy address items are written.have_words law;
       }
 
   once_by : (result : Result ℕ LoadError) (count : ℕ) (relocations : List Relocation) → result ≡ Ok count → words_of (Some own) ≡ Ok relocations
-      → IsWriting fields sources own lazy relocations before after result → IsByOneWordEach size fields sources own lazy before after
+      → IsWriting fields sources own lazy relocations before after result → IsByOneWord fields sources own plan lazy before after
   once_by result count relocations ok are (all items number is written done) = once_written items number (are ∙ ap (λ rs. Ok rs) is) written
   once_by result count relocations ok are (some items number item rest reason is written has can_not stopped) = absurd (cc)
 
-  pub once_of : (result : Result ℕ LoadError) → IsRelocation fields sources own lazy before after result
-      → IfOk result (λ count. IsByOneWordEach size fields sources own lazy before after)
+  pub once_of : (result : Result ℕ LoadError) → IsRelocation fields sources own plan lazy before after result
+      → IfOk result (λ count. IsByOneWord fields sources own plan lazy before after)
   once_of (Err reason) relocation = tt
-  once_of (Ok count) relocation = by_sizes (sized_relocations sources own (length before)) refl relocation
+  once_of (Ok count) relocation = by_sizes (sized_relocations sources own plan (length before)) refl relocation
     where
-      by_sizes : (sized : Result (List Relocation) LoadError) → sized_relocations sources own (length before) ≡ sized
+      by_sizes : (sized : Result (List Relocation) LoadError) → sized_relocations sources own plan (length before) ≡ sized
           → MatchResult sized (λ relocations. IsWriting fields sources own lazy relocations before after (Ok count)) (λ reason. (Ok count ≡ Err reason) × (after ≡ before))
-          → IsByOneWordEach size fields sources own lazy before after
+          → IsByOneWord fields sources own plan lazy before after
       by_sizes (Ok relocations) is writing =
-          once_by (Ok count) count relocations refl (are_words (is_wrong_size sources own (length before)) (words_of (Some own)) relocations is) writing
+          once_by (Ok count) count relocations refl (are_words (is_wrong_size sources plan (length before)) (words_of (Some own)) relocations is) writing
       by_sizes (Err reason) is (refused, same) = absurd (cc)
 
-pub once_at : {E : Type 0} {r : _} (size : ℕ) (fields : E → SymbolFields) (sources : Order → Sources E r) (there : Option (DynamicObject E r)) (when : Binding) (before after : List ℕ) (result : Result ℕ LoadError)
-    → ((order : Order) → slice_get (sources order).objects.now (sources order).of ≡ there)
-    → IsRelocationAt fields sources there when before after result
-    → IfOk result (λ count. IsByOneWordAt size fields sources there when before after)
-once_at size fields sources None when before after (Ok count) there (refused, same) = absurd (cc)
-once_at size fields sources None when before after (Err reason) there relocation = tt
-once_at size fields sources (Some own) when before after result there relocation =
-    let order = file_order (object_file own).header in
-    once_of size fields (sources order) own (binds_lazily (view_entries (object_view own)) when) before after (there order) result relocation
-
 -- the relocation of an image keeps its length
-module _ {E : Type 0} {r : _} (fields : E → SymbolFields) (before after : List ℕ) where
-  pub kept_size : (sources : Sources E r) (own : DynamicObject E r) (lazy : Bool) (result : Result ℕ LoadError) → IsRelocation fields sources own lazy before after result
-      → length after ≡ length before
-  kept_size sources own lazy result relocation = by_sizes (sized_relocations sources own (length before)) relocation
+module _ {E : Type 0} {r : _} (fields : E → SymbolFields) (before after : List ℕ) (sources : Sources E r) (own : DynamicObject E r) (plan : LoadPlan) (lazy : Bool) (result : Result ℕ LoadError) where
+  pub kept_size : IsRelocation fields sources own plan lazy before after result → length after ≡ length before
+  kept_size relocation = by_sizes (sized_relocations sources own plan (length before)) relocation
     where
       by_writing : (relocations : List Relocation) → IsWriting fields sources own lazy relocations before after result → length after ≡ length before
       by_writing relocations (all items number is written done) = written.same_size
@@ -139,8 +127,33 @@ module _ {E : Type 0} {r : _} (fields : E → SymbolFields) (before after : List
       by_sizes (Ok relocations) writing = by_writing relocations writing
       by_sizes (Err reason) (refused, same) = ap length same
 
-  pub kept_size_at : (sources : Order → Sources E r) (there : Option (DynamicObject E r)) (when : Binding) (result : Result ℕ LoadError)
-      → IsRelocationAt fields sources there when before after result → length after ≡ length before
-  kept_size_at sources None when result (refused, same) = ap length same
-  kept_size_at sources (Some own) when result relocation =
-      kept_size (sources (file_order (object_file own).header)) own (binds_lazily (view_entries (object_view own)) when) result relocation
+-- The object and the plan at an index of a scope.
+
+module _ {E : Type 0} {r : _} (fields : E → SymbolFields) (objects : Bor (List (DynamicObject E r))) (plans : Bor (List LoadPlan)) (of : ℕ) (when : Binding) (places : Bor (List Place)) (images : Bor (List (Bor (List ℕ)))) (before after : List ℕ) where
+  abbrev lazy_of : DynamicObject E r → Bool
+  lazy_of own = binds_lazily (view_entries (object_view own)) when
+
+  abbrev IsDone : Option (DynamicObject E r) → Option LoadPlan → Result ℕ LoadError → Type 0
+  IsDone own plan result = MatchBoth own plan ((result ≡ Err (error.Link ObjectIndex)) × (after ≡ before))
+      (λ own plan. IsRelocation fields (sources_of objects plans of places images own) own plan (lazy_of own) before after result)
+
+  once_at : (own : Option (DynamicObject E r)) (plan : Option LoadPlan) (result : Result ℕ LoadError) → slice_get plans.now of ≡ plan → IsDone own plan result
+      → IfOk result (λ count. MatchBoth own plan ⊥ (λ own plan. IsByOneWord fields (sources_of objects plans of places images own) own plan (lazy_of own) before after))
+  once_at own plan (Err reason) there relocation = tt
+  once_at None plan (Ok count) there (refused, same) = absurd (cc)
+  once_at (Some own) None (Ok count) there (refused, same) = absurd (cc)
+  once_at (Some own) (Some plan) (Ok count) there relocation =
+      once_of fields (sources_of objects plans of places images own) own plan (lazy_of own) before after there (Ok count) relocation
+
+  kept_at : (own : Option (DynamicObject E r)) (plan : Option LoadPlan) (result : Result ℕ LoadError) → IsDone own plan result → length after ≡ length before
+  kept_at None plan result (refused, same) = ap length same
+  kept_at (Some own) None result (refused, same) = ap length same
+  kept_at (Some own) (Some plan) result relocation =
+      kept_size fields before after (sources_of objects plans of places images own) own plan (lazy_of own) result relocation
+
+  pub once_in : (result : Result ℕ LoadError) → IsRelocationIn fields objects plans of when places images before after result
+      → IfOk result (λ count. IsByOneWordIn fields objects plans of when places images before after)
+  once_in result relocation = once_at (slice_get objects.now of) (slice_get plans.now of) result refl relocation
+
+  pub kept_in : (result : Result ℕ LoadError) → IsRelocationIn fields objects plans of when places images before after result → length after ≡ length before
+  kept_in result relocation = kept_at (slice_get objects.now of) (slice_get plans.now of) result relocation

@@ -3,7 +3,7 @@ use Rattle.std.proofs.Common.{◌≡◌, ℕ, ◌+◌, ◌<◌, ◌≤◌, ◌==
 use Rattle.std.proofs.Math.Nat.{min-eq_left, min-eq_right}
 use Rattle.std.proofs.lemmas.Bool.{le-ltb, lt-ltb, ltb-false, ltb-true}
 use Rattle.std.specs.List.{cons_option}
-use Rattle.xmas_elf.specs.Types.{ProgramHeader64}
+use Rattle.elf_linking.specs.declared.segments.Segment.{Segment}
 use Rattle.elf_loading.specs.LoadCheck.{file_end, load_end, load_start}
 use Rattle.elf_loading.specs.MappingParts.{pages_from, parts_before, parts_of, parts_rest, zeros_from}
 use Rattle.elf_loading.specs.Mappings.{file_mapping, gap_mapping, mapped_end, mapping_if, mappings_of, zero_mapping}
@@ -70,13 +70,13 @@ unfolding parts_before
 parts_end parts after past over =
     rw (le-ltb parts.at parts.start after, le-ltb parts.at parts.middle past, le-ltb parts.at parts.end over) refl
 
-middle_by : (page : ℕ) (load : ProgramHeader64) (b : Bool) → 0 < page → load_start page load ≤ (if b then file_end page load else load_start page load)
+middle_by : (page : ℕ) (load : Segment) (b : Bool) → 0 < page → load_start page load ≤ (if b then file_end page load else load_start page load)
 middle_by page load true h =
-    let above : load.virtual_addr + load.file_size ≤ file_end page load = up_ge page (load.virtual_addr + load.file_size) h in
-    let below : load_start page load ≤ load.virtual_addr = down_le page load.virtual_addr in omega arith
+    let above : load.address + load.file_size ≤ file_end page load = up_ge page (load.address + load.file_size) h in
+    let below : load_start page load ≤ load.address = down_le page load.address in omega arith
 middle_by page load false h = omega arith
 
-middle_after : (page : ℕ) (by : Loader) (load : ProgramHeader64) → 0 < page → load_start page load ≤ mapped_end page by load
+middle_after : (page : ℕ) (by : Loader) (load : Segment) → 0 < page → load_start page load ≤ mapped_end page by load
 middle_after page Kernel load h = middle_by page load (not (load.file_size == 0)) h
 middle_after page Glibc load h = middle_by page load true h
 
@@ -104,7 +104,7 @@ module _ (parts : Parts) (others : List Mapping) where
   unfolding parts_before
   no_gap same = rw (same, le-ltb parts.start parts.start (omega arith)) refl
 
-module _ (page : ℕ) (load : ProgramHeader64) (others : List Mapping) where
+module _ (page : ℕ) (load : Segment) (others : List Mapping) where
   from_gap : (by : Loader) (before : Option ℕ) → parts_before (parts_of page by before load) others ≡ cons_option (gap_mapping page by before load) (pages_from (load_start page load) (parts_of page by before load) others)
   from_gap Glibc (Some before) = gap_are (parts_of page Glibc (Some before) load) others before (nat_lt before (load_start page load)) refl refl
   from_gap Glibc None = no_gap (parts_of page Glibc None load) others refl
@@ -116,12 +116,12 @@ module _ (page : ℕ) (load : ProgramHeader64) (others : List Mapping) where
       from_gap by before ∙ ap (cons_option (gap_mapping page by before load))
       (pages_are (parts_of page by before load) others (nat_lt (load_start page load) (mapped_end page by load)) refl (middle_after page by load h))
 
-pub parts_load : (page end : ℕ) (by : Loader) (before : Option ℕ) (items others : List ProgramHeader64) (load : ProgramHeader64) → 0 < page → items ≡ load ∷ others → end ≡ load_end page load → parts_before (parts_of page by before load) (mappings_of page by (Some end) others) ≡ mappings_of page by before items
+pub parts_load : (page end : ℕ) (by : Loader) (before : Option ℕ) (items others : List Segment) (load : Segment) → 0 < page → items ≡ load ∷ others → end ≡ load_end page load → parts_before (parts_of page by before load) (mappings_of page by (Some end) others) ≡ mappings_of page by before items
 unfolding mappings_of
 parts_load page end by before items others load h is same =
     ap (λ n. parts_before (parts_of page by before load) (mappings_of page by (Some n) others)) same
     ∙ (parts_are page load (mappings_of page by (Some (load_end page load)) others) by before h ∙ sym (ap (mappings_of page by before) is))
 
-pub no_loads : (page : ℕ) (by : Loader) (before : Option ℕ) (items : List ProgramHeader64) → items ≡ [] → mappings_of page by before items ≡ []
+pub no_loads : (page : ℕ) (by : Loader) (before : Option ℕ) (items : List Segment) → items ≡ [] → mappings_of page by before items ≡ []
 unfolding mappings_of
 no_loads page by before items is = ap (mappings_of page by before) is

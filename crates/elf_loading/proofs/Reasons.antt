@@ -2,7 +2,8 @@
 use Rattle.std.proofs.Common.{◌≡◌, ℕ, Bool, true, false, List, [], ◌∷◌, ◌++◌, length, Option, Some, None, ok_or, Result, Ok, Err, if◌then◌else◌, refl, sym, ap, subst, ◌∙◌}
 use Rattle.std.specs.Prelude.{IsOk, ◌↔◌}
 use Rattle.elf_base.specs.Refusal.{and_then, unless}
-use Rattle.xmas_elf.specs.Types.{ElfFile, ProgramHeader64}
+use Rattle.xmas_elf.specs.Types.{ElfFile}
+use Rattle.elf_linking.specs.declared.segments.Segment.{Segment}
 use Rattle.elf_loading.specs.FileCheck.{NoneApplies, all_rows, check_file, has_no_load, header_rows, segment_rows}
 use Rattle.elf_loading.specs.LoadCheck.{check_load, check_loads, load_end, load_rows, loads_rows}
 use Rattle.elf_loading.specs.Segments.{loads_of}
@@ -31,13 +32,13 @@ value_is [] value = refl
 value_is (row ∷ rows) value = value_by row.0 row.1 rows value (value_is rows value)
 
 module _ (page limit len : ℕ) where
-  load_by : (answer : Result (Unit {0}) LoadError) (end : ℕ) (loads : List ProgramHeader64) → check_loads page limit len (Some end) loads ≡ and_then (unless (loads_rows page limit len (Some end) loads) (tt {0})) (λ done. Ok (end_after page (Some end) loads))
+  load_by : (answer : Result (Unit {0}) LoadError) (end : ℕ) (loads : List Segment) → check_loads page limit len (Some end) loads ≡ and_then (unless (loads_rows page limit len (Some end) loads) (tt {0})) (λ done. Ok (end_after page (Some end) loads))
       → and_then (and_then answer (λ done. Ok end)) (λ found. check_loads page limit len (Some found) loads)
       ≡ and_then (and_then answer (λ done. unless (loads_rows page limit len (Some end) loads) (tt {0}))) (λ done. Ok (Some (last_end page end loads)))
   load_by (Ok done) end loads next = next ∙ ap (λ last. and_then (unless (loads_rows page limit len (Some end) loads) (tt {0})) (λ done. Ok last)) (some_end page end loads)
   load_by (Err why) end loads next = refl
 
-  loads_are : (before : Option ℕ) (loads : List ProgramHeader64) → check_loads page limit len before loads ≡ and_then (unless (loads_rows page limit len before loads) (tt {0})) (λ done. Ok (end_after page before loads))
+  loads_are : (before : Option ℕ) (loads : List Segment) → check_loads page limit len before loads ≡ and_then (unless (loads_rows page limit len before loads) (tt {0})) (λ done. Ok (end_after page before loads))
   unfolding check_loads check_load
   loads_are before [] = refl
   loads_are before (load ∷ loads) =
@@ -51,7 +52,7 @@ module _ (file : ElfFile) (page limit : ℕ) where
   abbrev rest_rows : List (Bool × LoadError)
   rest_rows = (has_no_load (loads_of file), error.NoLoad) ∷ segment_rows file page
 
-  last_by : (loads : List ProgramHeader64) → and_then (ok_or (end_after page None loads) error.NoLoad) (λ end. and_then (unless (segment_rows file page) (tt {0})) (λ passed. Ok end))
+  last_by : (loads : List Segment) → and_then (ok_or (end_after page None loads) error.NoLoad) (λ end. and_then (unless (segment_rows file page) (tt {0})) (λ passed. Ok end))
       ≡ unless ((has_no_load loads, error.NoLoad) ∷ segment_rows file page) (last_end page 0 loads)
   last_by [] = refl
   last_by (load ∷ loads) = sym (value_is (segment_rows file page) (last_end page (load_end page load) loads))

@@ -1,5 +1,5 @@
 -- Words that are written without a look-up.
-use Rattle.std.proofs.Common.{◌≡◌, ℕ, ◌+◌, ◌==◌, ◌&&◌, ◌||◌, not, Bool, true, false, List, length, slice_index, Option, Some, None, Result, Ok, Err, MatchOption, MatchResult, if◌then◌else◌, refl, sym, ap, ◌∙◌, subst}
+use Rattle.std.proofs.Common.{◌≡◌, ℕ, ◌+◌, ◌==◌, ◌&&◌, ◌||◌, not, Bool, true, false, List, [], length, slice_index, Option, Some, None, Result, Ok, Err, MatchOption, MatchResult, if◌then◌else◌, refl, sym, ap, ◌∙◌, subst}
 use Rattle.std.specs.Prelude.{IfErr, IfOk, slice_get}
 use Rattle.std.proofs.lemmas.Bool.{and_parts, eqb-true}
 use Rattle.elf_base.specs.Table.{table_items}
@@ -12,15 +12,18 @@ use Rattle.elf_linking.specs.declared.object.DynamicObject.{DynamicObject}
 use Rattle.elf_linking.specs.declared.references.Reference.{Reference}
 use Rattle.elf_linking.specs.declared.scope.Bound.{Bound}
 use Rattle.elf_linking.specs.declared.scope.asking.Asked.{Asked}
-use Rattle.elf_loading.specs.Formulas.{formula_of, width_of}
-use Rattle.elf_loading.specs.RelativeWords.{IsItemWritten, asks_as, relative_of, relative_word}
+use Rattle.elf_linking.specs.RelocationTypes.{is_base, relative_of, row_of}
+use Rattle.elf_linking.specs.declared.find.Use.TheVariants.{Any}
+use Rattle.elf_linking.specs.declared.references.types.Row.{Row}
+use Rattle.elf_linking.specs.declared.references.types.TheConstants.{AARCH64, I386, X86_64}
+use Rattle.std.specs.List.{find}
+use Rattle.elf_loading.specs.RelativeWords.{IsItemWritten, asks_as, relative_word}
 use Rattle.elf_loading.specs.Relocate.{AreWordsFor, start_at, word_byte, write_item, write_word}
 use Rattle.elf_loading.specs.Values.{low}
-use Rattle.elf_loading.specs.Words.{HasWord, IsBoundIf, formula_when, formula_word, in_place_when, is_jump_slot, is_lazy, needs_symbol, symbol_in}
+use Rattle.elf_loading.specs.Words.{HasWord, IsBoundIf, formula_when, formula_word, in_place_when, is_lazy, needs_symbol, symbol_in}
 use Rattle.elf_loading.specs.declared.error.LoadError.{LoadError}
-use Rattle.elf_loading.specs.declared.formulas.Formula.TheVariants as formulas
+use Rattle.elf_linking.specs.declared.references.types.Formula.TheVariants as formulas
 use Rattle.elf_loading.specs.declared.in_order.Relocation.{Relocation}
-use Rattle.elf_loading.specs.declared.relocate.Relative.{Relative}
 use Rattle.elf_loading.specs.declared.relocate.Sources.{Sources}
 use Rattle.elf_loading.specs.declared.value.Origin.TheVariants.{Base}
 use Rattle.elf_loading.specs.declared.value.Value.TheVariants.{Sum}
@@ -63,7 +66,7 @@ same_slot false true is = absurd (cc)
 
 needs_by : ℕ → Bool → Bool → ℕ → Bool
 needs_by machine lazy slot kind =
-    symbol_in (if lazy && (slot && is_jump_slot machine kind) then Some formulas.Base else formula_of machine kind)
+    symbol_in (if lazy && (slot && (row_of machine kind).slot) then Some formulas.Base else (row_of machine kind).formula)
 
 -- a relocation that asks as another gets its symbol
 pub bound_as : {E : Type 0} {r : _} (fields : E → SymbolFields) (objects : List (DynamicObject E r)) (of machine : ℕ) (lazy : Bool) (bound : Result (Option (Bound E)) LinkError) (one other : Relocation)
@@ -83,24 +86,23 @@ bound_as fields objects of machine lazy bound one other same is =
 
 -- Relative relocations.
 
-record Facts (machine : ℕ) (relative : Relative) : Type 0 where
-  formula : formula_of machine relative.kind ≡ Some formulas.Base
-  width : width_of machine relative.kind ≡ relative.width
-  no_slot : is_jump_slot machine relative.kind ≡ false
+record Facts (machine : ℕ) (relative : Row) : Type 0 where
+  formula : (row_of machine relative.kind).formula ≡ Some formulas.Base
+  width : (row_of machine relative.kind).width ≡ relative.width
+  no_slot : (row_of machine relative.kind).slot ≡ false
 
-module _ (machine : ℕ) (relative : Relative) where
-  facts_at : (m : ℕ) (one : Relative) → machine ≡ m → Some one ≡ Some relative → Facts m one → Facts machine relative
+module _ (machine : ℕ) (relative : Row) where
+  facts_at : (m : ℕ) (one : Row) → machine ≡ m → Some one ≡ Some relative → Facts m one → Facts machine relative
   facts_at m one same is facts = let those : one ≡ relative = cc in subst (λ k. Facts k relative) (sym same) (subst (Facts m) those facts)
 
   by_machine : (one two three : Bool) → (machine == 62) ≡ one → (machine == 3) ≡ two → (machine == 183) ≡ three
-      → (if one then Some (record { kind = 8; width = 8 }) else (if two then Some (record { kind = 8; width = 4 })
-      else (if three then Some (record { kind = 1027; width = 8 }) else None))) ≡ Some relative → Facts machine relative
+      → find (λ (row : Row). is_base row.formula) (if one then X86_64 else (if two then I386 else (if three then AARCH64 else []))) ≡ Some relative → Facts machine relative
   by_machine true two three a b c is =
-      facts_at 62 (record { kind = 8; width = 8 }) (eqb-true machine 62 a) is (record { formula = refl; width = refl; no_slot = refl })
+      facts_at 62 (record { kind = 8; formula = Some formulas.Base; width = 8; use_ = Any; names = false; slot = false }) (eqb-true machine 62 a) is (record { formula = refl; width = refl; no_slot = refl })
   by_machine false true three a b c is =
-      facts_at 3 (record { kind = 8; width = 4 }) (eqb-true machine 3 b) is (record { formula = refl; width = refl; no_slot = refl })
+      facts_at 3 (record { kind = 8; formula = Some formulas.Base; width = 4; use_ = Any; names = false; slot = false }) (eqb-true machine 3 b) is (record { formula = refl; width = refl; no_slot = refl })
   by_machine false false true a b c is =
-      facts_at 183 (record { kind = 1027; width = 8 }) (eqb-true machine 183 c) is (record { formula = refl; width = refl; no_slot = refl })
+      facts_at 183 (record { kind = 1027; formula = Some formulas.Base; width = 8; use_ = Any; names = false; slot = false }) (eqb-true machine 183 c) is (record { formula = refl; width = refl; no_slot = refl })
   by_machine false false false a b c is = absurd (cc)
 
   facts_of : relative_of machine ≡ Some relative → Facts machine relative
@@ -114,14 +116,14 @@ not_lazy false slot jump is = refl
 abbrev word_with : ℕ → ℕ → Reference → Word
 word_with of width reference = record { address = reference.offset; width = width; value = Sum (Base of) (low width reference.addend) }
 
-record Parts (of : ℕ) (found : Option Relative) (relocation : Relocation) (word : Word) : Type 0 where
-  relative : Relative
+record Parts (of : ℕ) (found : Option Row) (relocation : Relocation) (word : Word) : Type 0 where
+  relative : Row
   there : found ≡ Some relative
   kind : relocation.reference.kind ≡ relative.kind
   in_record : relocation.in_place ≡ false
   word_is : word_with of relative.width relocation.reference ≡ word
 
-parts_of : (of : ℕ) (found : Option Relative) (relocation : Relocation) (word : Word) → relative_word of found relocation ≡ Some word → Parts of found relocation word
+parts_of : (of : ℕ) (found : Option Row) (relocation : Relocation) (word : Word) → relative_word of found relocation ≡ Some word → Parts of found relocation word
 parts_of of None relocation word is = absurd (cc)
 parts_of of (Some relative) relocation word is = by_tests (relocation.reference.kind == relative.kind) relocation.in_place refl refl is
   where
@@ -144,26 +146,29 @@ module _ {E : Type 0} {r : _} (fields : E → SymbolFields) (own : DynamicObject
   facts : Facts machine parts.relative
   facts = facts_of machine parts.relative parts.there
 
-  lazy_false : is_lazy machine lazy relocation ≡ false
-  lazy_false = not_lazy lazy relocation.slot (is_jump_slot machine relocation.reference.kind) (ap (is_jump_slot machine) parts.kind ∙ facts.no_slot)
+  abbrev row : Row
+  row = row_of machine relocation.reference.kind
 
-  formula_is : formula_when machine lazy relocation ≡ Some formulas.Base
-  formula_is = ap (λ b. if b then Some formulas.Base else formula_of machine relocation.reference.kind) lazy_false
-      ∙ ap (formula_of machine) parts.kind ∙ facts.formula
+  lazy_false : is_lazy row lazy relocation ≡ false
+  lazy_false = not_lazy lazy relocation.slot (row_of machine relocation.reference.kind).slot (ap (λ kind. (row_of machine kind).slot) parts.kind ∙ facts.no_slot)
+
+  formula_is : formula_when row lazy relocation ≡ Some formulas.Base
+  formula_is = ap (λ b. if b then Some formulas.Base else (row_of machine relocation.reference.kind).formula) lazy_false
+      ∙ ap (λ kind. (row_of machine kind).formula) parts.kind ∙ facts.formula
 
   needs_none : needs_symbol machine lazy relocation ≡ false
   needs_none = ap symbol_in formula_is
 
-  in_place_false : in_place_when machine lazy relocation ≡ false
-  in_place_false = ap (λ b. b || is_lazy machine lazy relocation) parts.in_record ∙ lazy_false
+  in_place_false : in_place_when row lazy relocation ≡ false
+  in_place_false = ap (λ b. b || is_lazy row lazy relocation) parts.in_record ∙ lazy_false
 
-  width_is : width_of machine relocation.reference.kind ≡ parts.relative.width
-  width_is = ap (width_of machine) parts.kind ∙ facts.width
+  width_is : (row_of machine relocation.reference.kind).width ≡ parts.relative.width
+  width_is = ap (λ kind. (row_of machine kind).width) parts.kind ∙ facts.width
 
   has : (objects : List (DynamicObject E r)) → HasWord fields objects (object_file own) own of lazy item
   has objects = (
     subst (λ b. IsBoundIf b fields objects of relocation.reference (Ok None)) (sym needs_none) refl,
-    sym (ap (λ b. formula_word fields (object_file own) own of b relocation.reference (Ok None) (formula_when machine lazy relocation)) in_place_false
+    sym (ap (λ b. formula_word fields (object_file own) own of b relocation.reference (Ok None) (formula_when row lazy relocation)) in_place_false
         ∙ ap (formula_word fields (object_file own) own of false relocation.reference (Ok None)) formula_is
         ∙ ap (λ width. Ok (word_with of width relocation.reference)) width_is ∙ ap (λ one. Ok one) parts.word_is),
   )

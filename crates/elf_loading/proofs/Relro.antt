@@ -3,7 +3,8 @@ use Rattle.std.proofs.Common.{◌≡◌, ℕ, ◌<◌, Bool, true, false, List, 
 use Rattle.std.proofs.lemmas.Bool.{ltb-true}
 use Rattle.std.specs.Prelude.{MatchOption}
 use Rattle.elf_base.specs.Refusal.{and_then, unless}
-use Rattle.xmas_elf.specs.Types.{ElfFile, ProgramHeader64}
+use Rattle.xmas_elf.specs.Types.{ElfFile}
+use Rattle.elf_linking.specs.declared.segments.Segment.{Segment}
 use Rattle.elf_loading.specs.FileCheck.{check_file, covered_to, header_rows, is_uncovered, segment_rows}
 use Rattle.elf_loading.specs.LoadCheck.{check_load, check_loads, load_end, load_rows}
 use Rattle.elf_loading.specs.Pages.{down}
@@ -29,16 +30,16 @@ not_of_rows why (row ∷ rows) value (first, none) is = not_by why row.1 row.0 v
 
 -- no load has it
 module _ (page limit len : ℕ) where
-  not_of_load : (before : Option ℕ) (load : ProgramHeader64) → check_load page limit len before load ≡ Err error.Relro → ⊥
+  not_of_load : (before : Option ℕ) (load : Segment) → check_load page limit len before load ≡ Err error.Relro → ⊥
   unfolding check_load
   not_of_load before load is = not_of_rows error.Relro (load_rows page limit len before load) (load_end page load)
       ((λ same. absurd (cc)), ((λ same. absurd (cc)), ((λ same. absurd (cc)), ((λ same. absurd (cc)), ((λ same. absurd (cc)), ((λ same. absurd (cc)), ((λ same. absurd (cc)), ((λ same. absurd (cc)), tt)))))))) is
 
-  not_by_load : (loads : List ProgramHeader64) (answer : Result ℕ LoadError) → (answer ≡ Err error.Relro → ⊥) → ((end : ℕ) → check_loads page limit len (Some end) loads ≡ Err error.Relro → ⊥) → and_then answer (λ end. check_loads page limit len (Some end) loads) ≡ Err error.Relro → ⊥
+  not_by_load : (loads : List Segment) (answer : Result ℕ LoadError) → (answer ≡ Err error.Relro → ⊥) → ((end : ℕ) → check_loads page limit len (Some end) loads ≡ Err error.Relro → ⊥) → and_then answer (λ end. check_loads page limit len (Some end) loads) ≡ Err error.Relro → ⊥
   not_by_load loads (Ok end) first next is = next end is
   not_by_load loads (Err why) first next is = first (cc)
 
-  not_of_loads : (before : Option ℕ) (loads : List ProgramHeader64) → check_loads page limit len before loads ≡ Err error.Relro → ⊥
+  not_of_loads : (before : Option ℕ) (loads : List Segment) → check_loads page limit len before loads ≡ Err error.Relro → ⊥
   unfolding check_loads
   not_of_loads before [] is = absurd (cc)
   not_of_loads before (load ∷ loads) is = not_by_load loads (check_load page limit len before load) (not_of_load before load) (λ end. not_of_loads (Some end) loads) is
@@ -51,13 +52,13 @@ third_by false false false true is = absurd (cc)
 third_by false false false false is = absurd (cc)
 
 module _ (file : ElfFile) (page limit : ℕ) (h : 0 < page) where
-  first_free : (last : Option ℕ) (relro : Option ProgramHeader64) → check_loads page limit (length file.input.now) None (loads_of file) ≡ Ok last → is_uncovered page (loads_of file) relro ≡ true → MatchOption relro ⊥ (λ one. HasUncovered page (loads_of file) (relro_span page one))
+  first_free : (last : Option ℕ) (relro : Option Segment) → check_loads page limit (length file.input.now) None (loads_of file) ≡ Ok last → is_uncovered page (loads_of file) relro ≡ true → MatchOption relro ⊥ (λ one. HasUncovered page (loads_of file) (relro_span page one))
   first_free last None loads is = absurd (cc)
   first_free last (Some one) loads is = record {
-    address = covered_to page (down page one.virtual_addr) (loads_of file);
-    begins = covered_up page (down page one.virtual_addr) (loads_of file);
+    address = covered_to page (down page one.address) (loads_of file);
+    begins = covered_up page (down page one.address) (loads_of file);
     ends = ltb-true _ _ is;
-    not_in_load = free page h (down page one.virtual_addr) 0 (loads_of file) (checks_apart page limit (length file.input.now) None last (loads_of file) loads);
+    not_in_load = free page h (down page one.address) 0 (loads_of file) (checks_apart page limit (length file.input.now) None last (loads_of file) loads);
   }
 
   by_rest : (found : ℕ) (last : Option ℕ) (answer : Result (Unit {0}) LoadError) → unless (segment_rows file page) (tt {0}) ≡ answer → check_loads page limit (length file.input.now) None (loads_of file) ≡ Ok last → and_then answer (λ passed. Ok found) ≡ Err error.Relro → MatchOption (relro_of file) ⊥ (λ one. HasUncovered page (loads_of file) (relro_span page one))

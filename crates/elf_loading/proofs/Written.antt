@@ -14,19 +14,22 @@ use Rattle.elf_base.specs.FileHeader.{file_order}
 use Rattle.elf_base.specs.declared.bytes.Order.{Order}
 use Rattle.elf_linking.specs.DynamicObject.{object_file, object_view}
 use Rattle.elf_linking.specs.DynamicView.{view_entries}
+use Rattle.elf_linking.specs.declared.error.LinkError.TheVariants.{ObjectIndex}
 use Rattle.elf_linking.specs.declared.object.DynamicObject.{DynamicObject}
-use Rattle.elf_loading.specs.Relocate.{AreWordsFor, AreItemsWritten, IsRelocation, IsRelocationAt, IsRelocationIn, IsWriting, all, has_no_number, is_copy_outside, is_outside, is_unresolved, is_wrong_size, lacks_number, relocated_byte, sized_relocations, some, start_at, value_byte, word_byte, write_item}
+use Rattle.elf_loading.specs.Relocate.{AreWordsFor, AreItemsWritten, IsRelocation, IsRelocationIn, IsWriting, all, has_no_number, is_copy_outside, is_outside, is_unresolved, is_wrong_size, lacks_number, relocated_byte, sized_relocations, some, sources_of, start_at, value_byte, word_byte, write_item}
 use Rattle.elf_loading.specs.Words.{HasWord, binds_lazily}
 use Rattle.elf_loading.specs.WordsLeft.{IsSame, relocation_of, words_file, words_index, words_lazy, words_objects, words_of, words_own}
 use Rattle.elf_loading.specs.declared.error.LoadError.{LoadError}
 use Rattle.elf_loading.specs.declared.error.LoadError.TheVariants as error
 use Rattle.elf_loading.specs.declared.in_order.Relocation.{Relocation}
+use Rattle.elf_loading.specs.declared.plan.LoadPlan.{LoadPlan}
 use Rattle.elf_loading.specs.declared.relocate.Sources.{Sources}
 use Rattle.elf_loading.specs.declared.words.Relocated.{Relocated}
 use Rattle.elf_loading.specs.declared.words.Binding.{Binding}
 use Rattle.elf_loading.specs.declared.words.Word.{Word}
 use Rattle.elf_loading.specs.declared.words.Words.{Words}
 use Rattle.elf_loading.specs.declared.relocate.Place.{Place}
+use Rattle.elf_loading.proofs.ImageChecks.{both_at}
 use Rattle.xmas_elf.specs.Symbol.{SymbolFields}
 
 -- one word more
@@ -194,29 +197,31 @@ module _ {E : Type 0} {r : _} (fields : E → SymbolFields) (sources : Sources E
 pub item_is : {X : Type 0} (xs : List X) (i : ℕ) (lent : Option (Bor X)) (x : Bor X) → IsItemAt xs i lent → lent ≡ Some x → slice_get xs i ≡ Some x.now
 item_is xs i lent x item is = let at = subst (IsItemAt xs i) is item in slice_get-get_or xs i x.now at.3.0 ∙ ap (λ y. Some y) (sym at.1)
 
-module _ {E : Type 0} {r : _} (fields : E → SymbolFields) (sources : Sources E r) (own : DynamicObject E r) (lazy : Bool) (before after : List ℕ) where
-  pub is_written : (result : Result ℕ LoadError) (relocations : List Relocation) → is_wrong_size sources own (length before) ≡ false
+module _ {E : Type 0} {r : _} (fields : E → SymbolFields) (sources : Sources E r) (own : DynamicObject E r) (plan : LoadPlan) (lazy : Bool) (before after : List ℕ) where
+  pub is_written : (result : Result ℕ LoadError) (relocations : List Relocation) → is_wrong_size sources plan (length before) ≡ false
       → words_of (Some own) ≡ Ok relocations → IsWriting fields sources own lazy relocations before after result
-      → IsRelocation fields sources own lazy before after result
+      → IsRelocation fields sources own plan lazy before after result
   is_written result relocations right are writing =
-      let sized : sized_relocations sources own (length before) ≡ Ok relocations = rw (right, are) refl in
+      let sized : sized_relocations sources own plan (length before) ≡ Ok relocations = rw (right, are) refl in
       subst (λ said. MatchResult said (λ all_of. IsWriting fields sources own lazy all_of before after result) (λ reason. (result ≡ Err reason) × (after ≡ before))) (sym sized) writing
 
-module _ {E : Type 0} {r : _} (fields : E → SymbolFields) (objects : Bor (List (DynamicObject E r))) (of : ℕ) (when : Binding) (page : ℕ) (places : Bor (List Place)) (images : Bor (List (Bor (List ℕ)))) (before after : List ℕ) (own : DynamicObject E r) where
+module _ {E : Type 0} {r : _} (fields : E → SymbolFields) (objects : Bor (List (DynamicObject E r))) (plans : Bor (List LoadPlan)) (of : ℕ) (when : Binding) (places : Bor (List Place)) (images : Bor (List (Bor (List ℕ)))) (before after : List ℕ) (own : DynamicObject E r) (plan : LoadPlan) where
   abbrev of_order : Order → Sources E r
-  of_order order = record { objects = objects; page = page; of = of; order = order; places = places; images = images }
+  of_order order = record { objects = objects; plans = plans; of = of; order = order; places = places; images = images }
 
   pub is_relocated : (result : Result ℕ LoadError) (lent : Bor (List (DynamicObject E r))) (order : Order) → lent ≡ objects → slice_get lent.now of ≡ Some own
-      → order ≡ file_order (object_file own).header
-      → IsRelocation fields (record { objects = lent; page = page; of = of; order = order; places = places; images = images }) own
+      → slice_get plans.now of ≡ Some plan → order ≡ file_order (object_file own).header
+      → IsRelocation fields (record { objects = lent; plans = plans; of = of; order = order; places = places; images = images }) own plan
       (binds_lazily (view_entries (object_view own)) when) before after result
-      → IsRelocationIn fields objects of when page places images before after result
-  is_relocated result lent order same there order_is relocation =
+      → IsRelocationIn fields objects plans of when places images before after result
+  is_relocated result lent order same there planned order_is relocation =
       let lazy = binds_lazily (view_entries (object_view own)) when in
       let found : slice_get objects.now of ≡ Some own = ap (λ (all_of : Bor (List (DynamicObject E r))). slice_get all_of.now of) (sym same) ∙ there in
       let own_order = file_order (object_file own).header in
-      let one : IsRelocation fields (record { objects = objects; page = page; of = of; order = order; places = places; images = images }) own lazy before after result =
-      subst (λ all_of. IsRelocation fields (record { objects = all_of; page = page; of = of; order = order; places = places; images = images }) own lazy before after result) same relocation in
-      let other : IsRelocation fields (of_order own_order) own lazy before after result =
-      subst (λ some_order. IsRelocation fields (of_order some_order) own lazy before after result) order_is one in
-      subst (λ here. IsRelocationAt fields of_order here when before after result) (sym found) other
+      let one : IsRelocation fields (record { objects = objects; plans = plans; of = of; order = order; places = places; images = images }) own plan lazy before after result =
+      subst (λ all_of. IsRelocation fields (record { objects = all_of; plans = plans; of = of; order = order; places = places; images = images }) own plan lazy before after result) same relocation in
+      let other : IsRelocation fields (of_order own_order) own plan lazy before after result =
+      subst (λ some_order. IsRelocation fields (of_order some_order) own plan lazy before after result) order_is one in
+      both_at objects.now plans.now of ((result ≡ Err (error.Link ObjectIndex)) × (after ≡ before))
+      (λ own plan. IsRelocation fields (sources_of objects plans of places images own) own plan (binds_lazily (view_entries (object_view own)) when) before after result)
+      own plan found planned other

@@ -6,33 +6,30 @@ use Rattle.elf_base.specs.FileHeader.{file_class}
 use Rattle.elf_base.specs.Refusal.{and_then, unless}
 use Rattle.elf_base.specs.Table.{table_items}
 use Rattle.elf_linking.specs.DynamicObject.{object_file, object_records, object_table, object_view}
-use Rattle.elf_linking.specs.DynamicView.{dynamic_segment_of, number_with, view_entries}
+use Rattle.elf_linking.specs.DynamicView.{dynamic_segment_of, flag_in, number_with, view_entries}
 use Rattle.elf_linking.specs.GnuHash as gnu
-use Rattle.elf_linking.specs.Loaded.{place_of, segment_at_of}
-use Rattle.elf_linking.specs.References.{file_machine}
+use Rattle.elf_linking.specs.Loaded.{segment_at_of}
+use Rattle.elf_linking.specs.References.{file_machine, record_size}
+use Rattle.elf_linking.specs.TableLocations.{table_by}
 use Rattle.elf_linking.specs.declared.any_table.AnyTable.{AnyTable}
 use Rattle.elf_linking.specs.declared.any_table.AnyTable.TheVariants.{Gnu, Sysv}
 use Rattle.elf_linking.specs.declared.object.DynamicObject.{DynamicObject}
 use Rattle.elf_linking.specs.declared.view.tags.TheConstants.{DT_FLAGS, DT_GNU_HASH, DT_HASH, DT_JMPREL, DT_PLTREL, DT_PLTRELSZ, DT_REL, DT_RELA, DT_RELAENT, DT_RELASZ, DT_RELENT, DT_RELR, DT_RELRENT, DT_RELRSZ, DT_RELSZ, DT_STRSZ, DT_STRTAB, DT_SYMTAB, DT_TEXTREL, DT_VERSYM}
-use Rattle.elf_loading.specs.InOrder.{is_kind, record_size}
-use Rattle.elf_loading.specs.Words.{address_size, flag_in}
+use Rattle.elf_loading.specs.InOrder.{is_kind}
+use Rattle.elf_loading.specs.Words.{address_size}
 use Rattle.elf_loading.specs.declared.error.LoadError.{LoadError}
 use Rattle.elf_loading.specs.declared.error.LoadError.TheVariants as error
-use Rattle.elf_loading.specs.declared.image_tables.TableLocation.{TableLocation}
+use Rattle.elf_linking.specs.declared.view.location.TableLocation.{TableLocation}
 use Rattle.elf_records.specs.declared.dynamic.Dynamic.{Dynamic}
 use Rattle.xmas_elf.specs.HashTable as gabi
-use Rattle.xmas_elf.specs.ProgramHeader.{program_fields}
-use Rattle.xmas_elf.specs.Types.{ElfFile, ProgramHeader, ProgramHeader64}
+use Rattle.xmas_elf.specs.Types.{ElfFile}
+use Rattle.elf_linking.specs.declared.segments.Segment.{Segment}
 
 -- a segment is readable (PF_R, 4), or writable (PF_W, 2)
-abbrev pub has_flag : ℕ → ProgramHeader64 → Bool
+abbrev pub has_flag : ℕ → Segment → Bool
 has_flag flag segment = bit_and segment.flags.0 flag == flag
 
 -- Tables by their entries.
-
--- a table at the number of one entry, with as many bytes as the number of another
-abbrev pub table_by : List (Dynamic ℕ) → ℕ → ℕ → TableLocation
-table_by entries start size = record { start = number_with start entries; size = number_with size entries }
 
 -- the size of a hash table in bytes, for a file with this many symbols: words of 4 bytes, and in GNU's the Bloom words,
 -- which are addresses
@@ -68,14 +65,14 @@ symbol_tables size object = let entries = view_entries (object_view object) in
     ∷ table_of_size entries DT_VERSYM (2 * count) ∷ []
 
 -- the number of bytes of a segment: those in memory, or those in the file if these are more
-abbrev pub segment_size : ProgramHeader64 → ℕ
-segment_size segment = max segment.mem_size segment.file_size
+abbrev pub full_size : Segment → ℕ
+full_size segment = max segment.mem_size segment.file_size
 
 -- the bytes of a segment
-abbrev pub segment_extent : Option ProgramHeader → TableLocation
+abbrev pub segment_extent : Option Segment → TableLocation
 segment_extent None = record { start = None; size = None }
-segment_extent (Some program) = let segment = program_fields program in
-    record { start = Some segment.virtual_addr; size = Some (segment_size segment) }
+segment_extent (Some segment) =
+    record { start = Some segment.address; size = Some (full_size segment) }
 
 -- all tables that a dynamic linker reads while it relocates a file: these, and the dynamic segment
 abbrev pub tables_of : {E : Type 0} → {r : _} → ℕ → DynamicObject E r → List TableLocation
@@ -85,9 +82,9 @@ tables_of size object = relocation_tables (view_entries (object_view object))
 -- Whether they can be read.
 
 -- there is a segment, and it is readable
-abbrev pub is_readable : Option ProgramHeader → Bool
+abbrev pub is_readable : Option Segment → Bool
 is_readable None = false
-is_readable (Some program) = has_flag 4 (program_fields program)
+is_readable (Some segment) = has_flag 4 segment
 
 -- the file has not all bytes of a table for a readable load
 abbrev pub is_unreadable_at : ElfFile → ℕ → Option ℕ → Bool
@@ -120,22 +117,22 @@ relocation_rows file each told table =
 abbrev pub slot_rows : ElfFile → Option ℕ → TableLocation → List (Bool × LoadError)
 slot_rows file kind table =
     (is_some table.start && not (is_kind DT_RELA kind || is_kind DT_REL kind), error.SlotKind)
-    ∷ (is_some table.start && is_no_multiple (record_size file (if is_kind DT_RELA kind then DT_RELA else DT_REL)) table.size, error.NotMultiple)
+    ∷ (is_some table.start && is_no_multiple (record_size (address_size file) (is_kind DT_RELA kind)) table.size, error.NotMultiple)
     ∷ (is_unreadable file table, error.Unreadable)
     ∷ []
 
 -- a load has the bytes of the dynamic segment, from the same offset of the file; it is readable, and writable if the
 -- segment is
-abbrev pub holds_dynamic : ProgramHeader64 → Option ProgramHeader → Bool
+abbrev pub holds_dynamic : Segment → Option Segment → Bool
 holds_dynamic dynamic None = false
-holds_dynamic dynamic (Some program) = let load = program_fields program in
-    has_flag 4 load && (not (has_flag 2 dynamic) || has_flag 2 load) && place_of load dynamic.virtual_addr == dynamic.offset
+holds_dynamic dynamic (Some load) =
+    has_flag 4 load && (not (has_flag 2 dynamic) || has_flag 2 load) && load.offset + (dynamic.address - load.address) == dynamic.offset
 
 -- no load has the dynamic segment
-abbrev pub is_dynamic_lost : ElfFile → Option ProgramHeader → Bool
+abbrev pub is_dynamic_lost : ElfFile → Option Segment → Bool
 is_dynamic_lost file None = true
-is_dynamic_lost file (Some program) = let dynamic = program_fields program in
-    not (holds_dynamic dynamic (segment_at_of file dynamic.virtual_addr (segment_size dynamic)))
+is_dynamic_lost file (Some dynamic) =
+    not (holds_dynamic dynamic (segment_at_of file dynamic.address (full_size dynamic)))
 
 -- the machine and the class are not those of x86-64 (62), 386 (3) or AArch64 (183)
 abbrev pub is_other_machine : ElfFile → Bool
@@ -145,8 +142,8 @@ is_other_machine file = let class = file_class file.header in let machine = file
 -- all relocations can be read: those of DT_RELA, DT_REL, DT_RELR and DT_JMPREL; or the first reason why not
 unfoldable pub check_all_relocations : ElfFile → List (Dynamic ℕ) → Result (Unit {0}) LoadError
 check_all_relocations file entries =
-    and_then (unless (relocation_rows file (record_size file DT_RELA) (number_with DT_RELAENT entries) (table_by entries DT_RELA DT_RELASZ)) (tt {0})) (λ rela.
-    and_then (unless (relocation_rows file (record_size file DT_REL) (number_with DT_RELENT entries) (table_by entries DT_REL DT_RELSZ)) (tt {0})) (λ rel.
+    and_then (unless (relocation_rows file (record_size (address_size file) true) (number_with DT_RELAENT entries) (table_by entries DT_RELA DT_RELASZ)) (tt {0})) (λ rela.
+    and_then (unless (relocation_rows file (record_size (address_size file) false) (number_with DT_RELENT entries) (table_by entries DT_REL DT_RELSZ)) (tt {0})) (λ rel.
     and_then (unless (relocation_rows file (address_size file) (number_with DT_RELRENT entries) (table_by entries DT_RELR DT_RELRSZ)) (tt {0})) (λ packed.
     unless (slot_rows file (number_with DT_PLTREL entries) (table_by entries DT_JMPREL DT_PLTRELSZ)) tt)))
 

@@ -1,5 +1,5 @@
 -- Whether the words of relocations can be written (this project's own list, by what glibc 2.36 needs).
-use Rattle.std.specs.Prelude.{◌≡◌, ℕ, zero, suc, ◌+◌, ◌-◌, ◌*◌, ◌/◌, ◌%◌, ◌^◌, ◌<◌, ◌≤◌, ◌==◌, ◌&&◌, ◌||◌, not, nat_le, nat_lt, bit_and, is_none, min, max, slice_get, slice_index, Bool, false, List, [], ◌∷◌, ◌++◌, All, map, length, Option, None, Some, Result, Ok, Err, IfOk, if◌then◌else◌}
+use Rattle.std.specs.Prelude.{◌≡◌, ℕ, zero, suc, ◌+◌, ◌*◌, ◌/◌, ◌%◌, ◌<◌, ◌≤◌, ◌==◌, ◌&&◌, ◌||◌, not, nat_le, nat_lt, bit_and, is_none, min, max, slice_get, slice_index, Bool, false, List, [], ◌∷◌, ◌++◌, All, map, length, Option, None, Some, Result, Ok, Err, IfOk, MatchOption, if◌then◌else◌}
 use Rattle.std.specs.Borrow.{Bor}
 use Rattle.std.specs.Int.{bit_at}
 use Rattle.std.specs.List.{Contains, find, list_any}
@@ -10,19 +10,20 @@ use Rattle.elf_linking.specs.declared.error.LinkError.{LinkError}
 use Rattle.elf_linking.specs.declared.error.LinkError.TheVariants.{ObjectIndex}
 use Rattle.elf_linking.specs.declared.object.DynamicObject.{DynamicObject}
 use Rattle.elf_loading.specs.ImageTables.{asks_for_text, check_tables, has_flag, tables_of}
-use Rattle.elf_loading.specs.Segments.{loads_of}
+use Rattle.elf_loading.specs.Plan.{plan_loads, plan_size}
 use Rattle.elf_loading.specs.Words.{HasWord}
 use Rattle.elf_loading.specs.WordsLeft.{AreWordsOf, relocation_of, words_file, words_index, words_lazy, words_left, words_objects, words_of, words_own}
 use Rattle.elf_loading.specs.declared.error.LoadError.{LoadError}
 use Rattle.elf_loading.specs.declared.error.LoadError.TheVariants as error
-use Rattle.elf_loading.specs.declared.image_tables.TableLocation.{TableLocation}
+use Rattle.elf_linking.specs.declared.view.location.TableLocation.{TableLocation}
 use Rattle.elf_loading.specs.declared.in_order.Relocation.{Relocation}
 use Rattle.elf_loading.specs.declared.words.Binding.TheVariants.{Now}
 use Rattle.elf_loading.specs.declared.words.Relocated.{Relocated}
+use Rattle.elf_loading.specs.declared.plan.LoadPlan.{LoadPlan}
 use Rattle.elf_loading.specs.declared.words.Word.{Word}
 use Rattle.elf_loading.specs.declared.words.Words.{Words}
 use Rattle.xmas_elf.specs.Symbol.{SymbolFields}
-use Rattle.xmas_elf.specs.Types.{ProgramHeader64}
+use Rattle.elf_linking.specs.declared.segments.Segment.{Segment}
 
 -- Ranges of addresses.
 
@@ -47,20 +48,20 @@ abbrev pub touches : Word → TableLocation → Bool
 touches word table = touches_at word table.start table.size
 
 -- the memory of a load has all bytes of a word
-abbrev pub holds_word : Word → ProgramHeader64 → Bool
-holds_word word load = nat_le load.virtual_addr word.address
-    && nat_le (word.address + word.width) (load.virtual_addr + load.mem_size)
+abbrev pub holds_word : Word → Segment → Bool
+holds_word word load = nat_le load.address word.address
+    && nat_le (word.address + word.width) (load.address + load.mem_size)
 
 -- Each word.
 
 -- there is a load, and it is not writable
-abbrev pub is_shut : Option ProgramHeader64 → Bool
+abbrev pub is_shut : Option Segment → Bool
 is_shut None = false
 is_shut (Some load) = not (has_flag 2 load)
 
 -- why a word can't be written, after earlier ones: by the loads, whether the file asks for writes where they are not
 -- writable, and the tables
-abbrev pub word_rows : List ProgramHeader64 → Bool → List TableLocation → List Word → Word → List (Bool × LoadError)
+abbrev pub word_rows : List Segment → Bool → List TableLocation → List Word → Word → List (Bool × LoadError)
 word_rows loads text tables before word = let load = find (holds_word word) loads in
     (is_none load, error.WordAddress)
     ∷ (not text && is_shut load, error.ReadOnly)
@@ -69,13 +70,13 @@ word_rows loads text tables before word = let load = find (holds_word word) load
     ∷ []
 
 -- the words with one more, or why it is not known or can't be written; a word without bytes is not written
-abbrev pub check_word : List ProgramHeader64 → Bool → List TableLocation → List Word → Result Word LoadError → Result (List Word) LoadError
+abbrev pub check_word : List Segment → Bool → List TableLocation → List Word → Result Word LoadError → Result (List Word) LoadError
 check_word loads text tables before (Err error) = Err error
 check_word loads text tables before (Ok word) =
     if word.width == 0 then Ok before else unless (word_rows loads text tables before word) (word ∷ before)
 
 -- the words that are written, the last first, or the first reason why one can't be
-unfoldable pub check_words : List ProgramHeader64 → Bool → List TableLocation → List Word → List (Result Word LoadError) → Result (List Word) LoadError
+unfoldable pub check_words : List Segment → Bool → List TableLocation → List Word → List (Result Word LoadError) → Result (List Word) LoadError
 check_words loads text tables before [] = Ok before
 check_words loads text tables before (word ∷ words) = and_then (check_word loads text tables before word)
     (λ after. check_words loads text tables after words)
@@ -94,24 +95,7 @@ pub record AreFirstItems {E T : Type 0} {r : _} (fields : E → SymbolFields) (o
   pub have_words : All (HasWord fields objects (object_file own) own of lazy) items
   pub all : IfOk result (λ _. rest ≡ [])
 
--- Marks: a bit for each byte of the memory of the loads.
-
--- the least address of the memory of loads, and of `from`
-abbrev pub lowest : ℕ → List ProgramHeader64 → ℕ
-lowest from [] = from
-lowest from (load ∷ loads) = lowest (min from load.virtual_addr) loads
-
--- the greatest end of the memory of loads, and of `to`
-abbrev pub highest : ℕ → List ProgramHeader64 → ℕ
-highest to [] = to
-highest to (load ∷ loads) = highest (max to (load.virtual_addr + load.mem_size)) loads
-
--- the first address that has a mark, and the number of marks
-abbrev pub marks_start : List ProgramHeader64 → ℕ
-marks_start loads = lowest (2 ^ 64 - 1) loads
-
-abbrev pub marks_count : List ProgramHeader64 → ℕ
-marks_count loads = highest 0 loads - marks_start loads
+-- Marks: a bit for each byte of the span of a plan.
 
 -- mark i is set
 abbrev pub is_marked : List ℕ → ℕ → Bool
@@ -126,11 +110,6 @@ some_marked marks start (suc count) = some_marked marks start count || is_marked
 pub record AreMarksOf (start : ℕ) (words : List Word) (marks : List ℕ) : Type 0 where
   pub each : (i : ℕ) → i < 8 * length marks → is_marked marks i ≡ list_any (covers (start + i)) words
 
--- the memory of the loads begins at `start` or after it, and has no more bytes from there on than `len` bytes have bits
-pub record HasRoom (loads : List ProgramHeader64) (start len : ℕ) : Type 0 where
-  pub begins : start ≡ marks_start loads
-  pub fits : marks_count loads ≤ 8 * len
-
 -- The check.
 
 -- a result of elf_linking, with its error in `Link`
@@ -138,21 +117,20 @@ abbrev pub as_load_error : {A : Type 0} → Result A LinkError → Result A Load
 as_load_error (Ok value) = Ok value
 as_load_error (Err reason) = Err (error.Link reason)
 
--- the relocations of an object whose tables can be used, where `bits` marks are enough; or the first reason why not
-abbrev pub checked_relocations : {E : Type 0} → {r : _} → ℕ → DynamicObject E r → ℕ → Result (List Relocation) LoadError
-checked_relocations size own bits = and_then (check_tables size own) (λ done.
+-- the relocations of an object whose tables can be used, where `bits` marks are enough for its plan; or the first reason
+-- why not
+abbrev pub checked_relocations : {E : Type 0} → {r : _} → ℕ → DynamicObject E r → LoadPlan → ℕ → Result (List Relocation) LoadError
+checked_relocations size own plan bits = and_then (check_tables size own) (λ done.
     and_then (as_load_error (words_of (Some own))) (λ relocations.
-    unless ((nat_lt bits (marks_count (loads_of (object_file own))), error.FewMarks) ∷ []) relocations))
+    unless ((nat_lt bits (plan_size plan), error.FewMarks) ∷ []) relocations))
 
--- the words of the object at an index, all of them left, where its tables can be used and `bits` marks from an address
--- on are enough
-pub record IsBegun {E : Type 0} {r : _} (size : ℕ) (objects : Bor (List (DynamicObject E r))) (of : ℕ) (own : DynamicObject E r) (bits : ℕ) (words : Words E r) (start : ℕ) : Type 0 where
-  pub relocations_are : checked_relocations size own bits ≡ Ok (words_left words)
+-- the words of the object at an index, all of them left, where its tables can be used and `bits` marks are enough
+pub record IsBegun {E : Type 0} {r : _} (size : ℕ) (objects : Bor (List (DynamicObject E r))) (of : ℕ) (own : DynamicObject E r) (plan : LoadPlan) (bits : ℕ) (words : Words E r) : Type 0 where
+  pub relocations_are : checked_relocations size own plan bits ≡ Ok (words_left words)
   pub words_are : AreWordsOf objects of Now words
-  pub start_is : start ≡ marks_start (loads_of (object_file own))
 
 -- the result of the check of the words that are left: these items are the first, and all of them if it is Ok
-pub record AreWordsFrom {E : Type 0} {r : _} (fields : E → SymbolFields) (loads : List ProgramHeader64) (text : Bool) (tables : List TableLocation) (words : Words E r) (result : Result (Unit {0}) LoadError) : Type 0 where
+pub record AreWordsFrom {E : Type 0} {r : _} (fields : E → SymbolFields) (loads : List Segment) (text : Bool) (tables : List TableLocation) (words : Words E r) (result : Result (Unit {0}) LoadError) : Type 0 where
   pub items : List (Relocated E)
   pub rest : List Relocation
   pub are : words_left words ≡ map relocation_of items ++ rest
@@ -160,24 +138,24 @@ pub record AreWordsFrom {E : Type 0} {r : _} (fields : E → SymbolFields) (load
   pub all : IfOk result (λ _. rest ≡ [])
   pub checked : result ≡ and_then (check_words loads text tables [] (words_in items)) (λ _. Ok tt)
 
--- the result of the check of an object: the first reason of its tables; or that of its words, in order
-pub data IsOwnCheck {E : Type 0} {r : _} (size : ℕ) (fields : E → SymbolFields) (objects : List (DynamicObject E r)) (of : ℕ) (own : DynamicObject E r) (bits : ℕ) (result : Result (Unit {0}) LoadError) : Type 0 where
-  refused : (error : LoadError) → checked_relocations size own bits ≡ Err error → result ≡ Err error
-      → IsOwnCheck size fields objects of own bits result
-  by_words : (relocations : List Relocation) (items : List (Relocated E)) → checked_relocations size own bits ≡ Ok relocations
+-- the result of the check of an object with its plan: the first reason of its tables; or that of its words, in order
+pub data IsOwnCheck {E : Type 0} {r : _} (size : ℕ) (fields : E → SymbolFields) (objects : List (DynamicObject E r)) (of : ℕ) (own : DynamicObject E r) (plan : LoadPlan) (bits : ℕ) (result : Result (Unit {0}) LoadError) : Type 0 where
+  refused : (error : LoadError) → checked_relocations size own plan bits ≡ Err error → result ≡ Err error
+      → IsOwnCheck size fields objects of own plan bits result
+  by_words : (relocations : List Relocation) (items : List (Relocated E)) → checked_relocations size own plan bits ≡ Ok relocations
       → AreFirstItems fields objects of own false relocations result items
-      → result ≡ and_then (check_words (loads_of (object_file own)) (asks_for_text (view_entries (object_view own)))
+      → result ≡ and_then (check_words (plan_loads plan) (asks_for_text (view_entries (object_view own)))
       (tables_of size own) [] (words_in items)) (λ words. Ok tt)
-      → IsOwnCheck size fields objects of own bits result
+      → IsOwnCheck size fields objects of own plan bits result
 
--- the result of the check of the object at an index
-abbrev pub IsCheckAt : {E : Type 0} → {r : _} → ℕ → (E → SymbolFields) → List (DynamicObject E r) → ℕ → Option (DynamicObject E r) → ℕ → Result (Unit {0}) LoadError → Type 0
-IsCheckAt size fields objects of None bits result = result ≡ Err (error.Link ObjectIndex)
-IsCheckAt size fields objects of (Some own) bits result = IsOwnCheck size fields objects of own bits result
+-- what holds of the object and the plan at an index of a scope, or what holds if one of them is missing
+abbrev pub MatchBoth : {A B : Type 0} → Option A → Option B → Type 0 → (A → B → Type 0) → Type 0
+MatchBoth own plan missing holds = MatchOption own missing (λ some. MatchOption plan missing (holds some))
 
--- the same, where the object may be missing from the scope
-abbrev pub IsImageCheck : {E : Type 0} → {r : _} → ℕ → (E → SymbolFields) → List (DynamicObject E r) → ℕ → ℕ → Result (Unit {0}) LoadError → Type 0
-IsImageCheck size fields objects of bits result = IsCheckAt size fields objects of (slice_get objects of) bits result
+-- the result of the check of the object at an index, of which the scope may have no object or no plan
+abbrev pub IsImageCheck : {E : Type 0} → {r : _} → ℕ → (E → SymbolFields) → List (DynamicObject E r) → List LoadPlan → ℕ → ℕ → Result (Unit {0}) LoadError → Type 0
+IsImageCheck size fields objects plans of bits result = MatchBoth (slice_get objects of) (slice_get plans of)
+    (result ≡ Err (error.Link ObjectIndex)) (λ own plan. IsOwnCheck size fields objects of own plan bits result)
 
 -- What holds of an object that passes.
 
@@ -187,23 +165,34 @@ IsIn start size address = (start ≤ address) × (address < start + size)
 
 -- a word is in the memory of one load, which is writable unless the file asks for writes elsewhere, and no byte of it is
 -- in one of these tables
-pub record IsWritableWord (loads : List ProgramHeader64) (text : Bool) (tables : List TableLocation) (word : Word) : Type 0 where
-  pub load : ProgramHeader64
+pub record IsWritableWord (loads : List Segment) (text : Bool) (tables : List TableLocation) (word : Word) : Type 0 where
+  pub load : Segment
   pub is_load : Contains loads load
-  pub begins : load.virtual_addr ≤ word.address
-  pub ends : word.address + word.width ≤ load.virtual_addr + load.mem_size
+  pub begins : load.address ≤ word.address
+  pub ends : word.address + word.width ≤ load.address + load.mem_size
   pub writable : text ≡ false → bit_and load.flags.0 2 ≡ 2
   pub in_no_table : (table : TableLocation) (start size address : ℕ) → Contains tables table → table.start ≡ Some start
       → table.size ≡ Some size → IsIn word.address word.width address → ¬ IsIn start size address
 
--- all relocations of an object have words; each with bytes can be written; no two have a byte in common
-pub record AreWritten {E : Type 0} {r : _} (size : ℕ) (fields : E → SymbolFields) (objects : List (DynamicObject E r)) (of : ℕ) (own : DynamicObject E r) : Type 0 where
+-- a word is in the memory of one of these loads
+abbrev pub IsHeld : List Segment → Word → Type 0
+IsHeld loads word = (load : Segment) × Contains loads load × (load.address ≤ word.address)
+    × (word.address + word.width ≤ load.address + load.mem_size)
+
+-- all relocations of an object have words; each with bytes is in the memory of one of these loads; no two have a byte in
+-- common
+pub record AreWordsApart {E : Type 0} {r : _} (fields : E → SymbolFields) (objects : List (DynamicObject E r)) (of : ℕ) (own : DynamicObject E r) (loads : List Segment) : Type 0 where
   pub items : List (Relocated E)
   pub words : List Word
   pub relocations_are : words_of (Some own) ≡ Ok (map relocation_of items)
   pub have_words : All (HasWord fields objects (object_file own) own of false) items
   pub words_are : words_in items ≡ map (λ word. Ok word) words
-  pub each : (word : Word) → Contains words word → 0 < word.width → IsWritableWord (loads_of (object_file own))
-      (asks_for_text (view_entries (object_view own))) (tables_of size own) word
+  pub held : (word : Word) → Contains words word → 0 < word.width → IsHeld loads word
   pub apart : (i j : ℕ) (one other : Word) (address : ℕ) → i < j → slice_get words i ≡ Some one → slice_get words j ≡ Some other
       → IsIn one.address one.width address → ¬ IsIn other.address other.width address
+
+-- the words of an object are apart, and each with bytes can be written
+pub record AreWritten {E : Type 0} {r : _} (size : ℕ) (fields : E → SymbolFields) (objects : List (DynamicObject E r)) (of : ℕ) (own : DynamicObject E r) (plan : LoadPlan) : Type 0 where
+  pub apart : AreWordsApart fields objects of own (plan_loads plan)
+  pub each : (word : Word) → Contains apart.words word → 0 < word.width → IsWritableWord (plan_loads plan)
+      (asks_for_text (view_entries (object_view own))) (tables_of size own) word

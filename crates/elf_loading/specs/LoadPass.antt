@@ -3,7 +3,8 @@ use Rattle.std.specs.Prelude.{◌≡◌, ℕ, ◌+◌, ◌-◌, ◌==◌, ◌&&�
 use Rattle.std.specs.Int.{is_power_of_two}
 use Rattle.std.specs.List.{list_any}
 use Rattle.elf_base.specs.FileHeader.{header_fields}
-use Rattle.xmas_elf.specs.Types.{ElfFile, ProgramHeader64}
+use Rattle.xmas_elf.specs.Types.{ElfFile}
+use Rattle.elf_linking.specs.declared.segments.Segment.{Segment}
 use Rattle.elf_loading.specs.FileCheck.{covered_to, holder_in, holds_offset, is_put_at, kind_of}
 use Rattle.elf_loading.specs.LoadCheck.{holds_address, load_end, load_start}
 use Rattle.elf_loading.specs.Pages.{down}
@@ -29,17 +30,17 @@ wanted_of page file others = record {
 }
 
 -- the bytes of a template, if there is one, are in the memory of a load
-abbrev pub holds_some : Option Tls → ProgramHeader64 → Bool
-holds_some (Some tls) load = nat_le load.virtual_addr tls.address
-    && nat_le (tls.address + tls.file_size) (load.virtual_addr + load.mem_size)
+abbrev pub holds_some : Option Tls → Segment → Bool
+holds_some (Some tls) load = nat_le load.address tls.address
+    && nat_le (tls.address + tls.file_size) (load.address + load.mem_size)
 holds_some None load = false
 
 -- the first page that is in no load, after one more
-abbrev pub covered_with : ℕ → ℕ → ProgramHeader64 → ℕ
+abbrev pub covered_with : ℕ → ℕ → Segment → ℕ
 covered_with page covered load = if holds_address page covered load then load_end page load else covered
 
 -- what is found, after one more load
-abbrev pub pass_with : ℕ → Wanted → Pass → ProgramHeader64 → Pass
+abbrev pub pass_with : ℕ → Wanted → Pass → Segment → Pass
 pass_with page wanted pass load = record {
   start = if is_none pass.end then load_start page load else pass.start;
   end = Some (load_end page load);
@@ -49,7 +50,7 @@ pass_with page wanted pass load = record {
 }
 
 -- what is found of these loads
-pub record IsPassOf (page : ℕ) (wanted : Wanted) (loads : List ProgramHeader64) (pass : Pass) : Type 0 where
+pub record IsPassOf (page : ℕ) (wanted : Wanted) (loads : List Segment) (pass : Pass) : Type 0 where
   pub start_is : pass.start ≡ first_start page loads
   pub placed_is : pass.is_placed ≡ is_put_at wanted.offset wanted.phdr (holder_in wanted.offset None loads)
   pub covered_is : pass.covered ≡ covered_to page wanted.first loads

@@ -1,6 +1,6 @@
 -- The mappings of one load.
 use Rattle.std.specs.Prelude.{ℕ, min, nat_lt, List, [], ◌∷◌, Option, Some, if◌then◌else◌}
-use Rattle.xmas_elf.specs.Types.{ProgramHeader64}
+use Rattle.elf_linking.specs.declared.segments.Segment.{Segment}
 use Rattle.elf_loading.specs.LoadCheck.{load_end, load_start}
 use Rattle.elf_loading.specs.Mappings.{mapped_end}
 use Rattle.elf_loading.specs.Pages.{down}
@@ -11,12 +11,12 @@ use Rattle.elf_loading.specs.declared.mapping.Mapping.{Mapping}
 use Rattle.elf_loading.specs.declared.mapping.Parts.{Parts}
 
 -- where the mappings of a load and of the gap before it begin
-abbrev pub first_mapped : ℕ → Loader → Option ℕ → ProgramHeader64 → ℕ
+abbrev pub first_mapped : ℕ → Loader → Option ℕ → Segment → ℕ
 first_mapped page Glibc (Some before) load = min before (load_start page load)
 first_mapped page _ _ load = load_start page load
 
 -- the mappings of a load, and of the gap before it
-abbrev pub parts_of : ℕ → Loader → Option ℕ → ProgramHeader64 → Parts
+abbrev pub parts_of : ℕ → Loader → Option ℕ → Segment → Parts
 parts_of page by before load = record {
   at = first_mapped page by before load;
   start = load_start page load;

@@ -2,7 +2,7 @@
 use Rattle.std.specs.Prelude.{◌≤◌, ◌<◌, ℕ, ◌==◌, not, nat_lt, Bool, true, List, [], ◌∷◌, Option, Some, None, if◌then◌else◌}
 use Rattle.std.specs.List.{cons_option}
 use Rattle.elf_records.specs.declared.program.Flags.{Flags}
-use Rattle.xmas_elf.specs.Types.{ProgramHeader64}
+use Rattle.elf_linking.specs.declared.segments.Segment.{Segment}
 use Rattle.elf_loading.specs.LoadCheck.{file_end, load_end, load_start}
 use Rattle.elf_loading.specs.Pages.{down}
 use Rattle.elf_loading.specs.declared.mapping.Loader.{Loader}
@@ -12,12 +12,12 @@ use Rattle.elf_loading.specs.declared.mapping.Contents.TheVariants.{File, Zero, 
 use Rattle.elf_loading.specs.declared.mapping.Mapping.{Mapping}
 
 -- a loader maps pages of the file for a load: Linux does not for a load without bytes
-abbrev pub maps_file : Loader → ProgramHeader64 → Bool
+abbrev pub maps_file : Loader → Segment → Bool
 maps_file Kernel load = not (load.file_size == 0)
 maps_file Glibc load = true
 
 -- the end of the pages of the file that a loader maps for a load
-abbrev pub mapped_end : ℕ → Loader → ProgramHeader64 → ℕ
+abbrev pub mapped_end : ℕ → Loader → Segment → ℕ
 mapped_end page by load = if maps_file by load then file_end page load else load_start page load
 
 -- a mapping, unless it is empty
@@ -26,21 +26,21 @@ mapping_if start end flags contents =
     if nat_lt start end then Some (record { start = start; end = end; flags = flags; contents = contents }) else None
 
 -- the pages between the load before and a load, which glibc maps without access, and Linux leaves to others
-abbrev pub gap_mapping : ℕ → Loader → Option ℕ → ProgramHeader64 → Option Mapping
+abbrev pub gap_mapping : ℕ → Loader → Option ℕ → Segment → Option Mapping
 gap_mapping page Glibc (Some before) load = mapping_if before (load_start page load) (record { 0 = 0 }) NoAccess
 gap_mapping page _ _ load = None
 
 -- the pages of the file, from the page of the load's offset on
-abbrev pub file_mapping : ℕ → Loader → ProgramHeader64 → Option Mapping
+abbrev pub file_mapping : ℕ → Loader → Segment → Option Mapping
 file_mapping page by load =
     mapping_if (load_start page load) (mapped_end page by load) load.flags (File (down page load.offset))
 
 -- the pages of zeros after those of the file
-abbrev pub zero_mapping : ℕ → Loader → ProgramHeader64 → Option Mapping
+abbrev pub zero_mapping : ℕ → Loader → Segment → Option Mapping
 zero_mapping page by load = mapping_if (mapped_end page by load) (load_end page load) load.flags Zero
 
 -- the mappings of loads in order; `before` is the end of the load before the first
-unfoldable pub mappings_of : ℕ → Loader → Option ℕ → List ProgramHeader64 → List Mapping
+unfoldable pub mappings_of : ℕ → Loader → Option ℕ → List Segment → List Mapping
 mappings_of page by before [] = []
 mappings_of page by before (load ∷ loads) =
     cons_option (gap_mapping page by before load)

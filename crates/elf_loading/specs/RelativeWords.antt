@@ -3,12 +3,12 @@
 use Rattle.std.specs.Prelude.{◌≡◌, ℕ, ◌+◌, ◌==◌, ◌&&◌, not, Bool, List, length, slice_index, Option, None, Some, Result, IfErr, IfOk, if◌then◌else◌}
 use Rattle.elf_linking.specs.DynamicObject.{object_file}
 use Rattle.elf_linking.specs.declared.object.DynamicObject.{DynamicObject}
+use Rattle.elf_linking.specs.declared.references.types.Row.{Row}
 use Rattle.elf_loading.specs.Relocate.{start_at, word_byte, write_item}
 use Rattle.elf_loading.specs.Values.{low}
 use Rattle.elf_loading.specs.Words.{HasWord}
 use Rattle.elf_loading.specs.declared.error.LoadError.{LoadError}
 use Rattle.elf_loading.specs.declared.in_order.Relocation.{Relocation}
-use Rattle.elf_loading.specs.declared.relocate.Relative.{Relative}
 use Rattle.elf_loading.specs.declared.relocate.Sources.{Sources}
 use Rattle.elf_loading.specs.declared.value.Origin.TheVariants.{Base}
 use Rattle.elf_loading.specs.declared.value.Value.TheVariants.{Sum}
@@ -16,15 +16,8 @@ use Rattle.elf_loading.specs.declared.words.Relocated.{Relocated}
 use Rattle.elf_loading.specs.declared.words.Word.{Word}
 use Rattle.xmas_elf.specs.Symbol.{SymbolFields}
 
--- relative relocations, with the number of bytes that they write: R_X86_64_RELATIVE (machine 62), R_386_RELATIVE (3) and
--- R_AARCH64_RELATIVE (183)
-abbrev pub relative_of : ℕ → Option Relative
-relative_of machine = if machine == 62 then Some (record { kind = 8; width = 8 })
-    else (if machine == 3 then Some (record { kind = 8; width = 4 })
-    else (if machine == 183 then Some (record { kind = 1027; width = 8 }) else None))
-
--- the word of a relative relocation of the object at index `of`, if its addend is in its record
-abbrev pub relative_word : ℕ → Option Relative → Relocation → Option Word
+-- the word of a relative relocation of the object at index `of`, by the row of their type, if its addend is in its record
+abbrev pub relative_word : ℕ → Option Row → Relocation → Option Word
 relative_word of None relocation = None
 relative_word of (Some relative) relocation =
     if relocation.reference.kind == relative.kind && not relocation.in_place then Some (record {

@@ -15,14 +15,14 @@ use Rattle.elf_linking.specs.declared.error.LinkError.{LinkError}
 use Rattle.elf_linking.specs.declared.error.LinkError.TheVariants.{ObjectIndex}
 use Rattle.elf_linking.specs.declared.object.DynamicObject.{DynamicObject}
 use Rattle.elf_linking.specs.declared.scope.Bound.{Bound}
-use Rattle.elf_loading.specs.ImageWords.{as_load_error, covers}
-use Rattle.elf_loading.specs.Segments.{loads_of}
-use Rattle.elf_loading.specs.Spans.{first_start, span_of}
+use Rattle.elf_loading.specs.ImageWords.{MatchBoth, as_load_error, covers}
+use Rattle.elf_loading.specs.Plan.{plan_size, plan_span}
 use Rattle.elf_loading.specs.Words.{HasWord, binds_lazily, needs_symbol}
 use Rattle.elf_loading.specs.WordsLeft.{relocation_of, words_file, words_index, words_lazy, words_objects, words_of, words_own}
 use Rattle.elf_loading.specs.declared.error.LoadError.{LoadError}
 use Rattle.elf_loading.specs.declared.error.LoadError.TheVariants as error
 use Rattle.elf_loading.specs.declared.in_order.Relocation.{Relocation}
+use Rattle.elf_loading.specs.declared.plan.LoadPlan.{LoadPlan}
 use Rattle.elf_loading.specs.declared.relocate.Place.{Place}
 use Rattle.elf_loading.specs.declared.relocate.Sources.{Sources}
 use Rattle.elf_loading.specs.declared.value.Origin.{Origin}
@@ -87,14 +87,14 @@ image_in (Some image) = image.now
 abbrev pub image_at : {E : Type 0} → {r : _} → Sources E r → ℕ → List ℕ
 image_at sources object = image_in (slice_get sources.images.now object)
 
--- the first address of the image of an object, if there is one
-abbrev pub object_start : {E : Type 0} → {r : _} → ℕ → Option (DynamicObject E r) → ℕ
-object_start page None = 0
-object_start page (Some object) = first_start page (loads_of (object_file object))
+-- the first address of a plan; 0 if there is none
+abbrev pub plan_start : Option LoadPlan → ℕ
+plan_start None = 0
+plan_start (Some plan) = (plan_span plan).start
 
--- the same for the object at an index
+-- the first address of the image of an object
 abbrev pub start_at : {E : Type 0} → {r : _} → Sources E r → ℕ → ℕ
-start_at sources object = object_start sources.page (slice_get sources.objects.now object)
+start_at sources object = plan_start (slice_get sources.plans.now object)
 
 -- byte j of what a word of `width` bytes writes, where `old` is the byte that is there: of an object's bytes, or of a number
 abbrev pub value_byte : {E : Type 0} → {r : _} → Sources E r → ℕ → Value → ℕ → ℕ → ℕ
@@ -128,7 +128,7 @@ is_absent _ = false
 
 -- a relocation needs a symbol that no object has, and that is not weak
 abbrev pub is_unresolved : {E : Type 0} → {r : _} → (E → SymbolFields) → DynamicObject E r → Bool → Relocated E → Bool
-is_unresolved fields own lazy item = needs_symbol (file_machine (object_file own)) lazy item.relocation && is_absent item.bound
+is_unresolved fields own lazy item = is_absent item.bound && needs_symbol (file_machine (object_file own)) lazy item.relocation
     && not (is_weak fields (slice_get (table_items (object_records own)) item.relocation.reference.symbol))
 
 -- bytes from an address on are not all in an image of `len` bytes that begins at `start`; no bytes are in each
@@ -196,37 +196,37 @@ pub data IsWriting {E : Type 0} {r : _} (fields : E → SymbolFields) (sources :
       → write_item fields sources own lazy (length before) item ≡ Err error → result ≡ Err error
       → IsWriting fields sources own lazy relocations before after result
 
--- the image is not of the size of the span, or there are not as many places or images as objects
-abbrev pub is_wrong_size : {E : Type 0} → {r : _} → Sources E r → DynamicObject E r → ℕ → Bool
-is_wrong_size sources own len = let span = span_of sources.page (loads_of (object_file own)) in
-    not (len == span.end - span.start) || (not (length sources.places.now == length sources.objects.now)
-    || not (length sources.images.now == length sources.objects.now))
+-- the image is not of the size of the span, or there are not as many plans, places or images as objects
+abbrev pub is_wrong_size : {E : Type 0} → {r : _} → Sources E r → LoadPlan → ℕ → Bool
+is_wrong_size sources plan len = let count = length sources.objects.now in
+    not (len == plan_size plan) || (not (length sources.plans.now == count)
+    || (not (length sources.places.now == count) || not (length sources.images.now == count)))
 
 -- the relocations of an object, or why its image can't be relocated: the sizes, or an error of the relocations
-abbrev pub sized_relocations : {E : Type 0} → {r : _} → Sources E r → DynamicObject E r → ℕ → Result (List Relocation) LoadError
-sized_relocations sources own len =
-    if is_wrong_size sources own len then Err error.ImageSize else as_load_error (words_of (Some own))
+abbrev pub sized_relocations : {E : Type 0} → {r : _} → Sources E r → DynamicObject E r → LoadPlan → ℕ → Result (List Relocation) LoadError
+sized_relocations sources own plan len =
+    if is_wrong_size sources plan len then Err error.ImageSize else as_load_error (words_of (Some own))
 
--- what a call does to the image of an object, and its result
-abbrev pub IsRelocation : {E : Type 0} → {r : _} → (E → SymbolFields) → Sources E r → DynamicObject E r → Bool → List ℕ → List ℕ → Result ℕ LoadError → Type 0
-IsRelocation fields sources own lazy before after result = MatchResult (sized_relocations sources own (length before))
+-- what a call does to the image of an object with this plan, and its result
+abbrev pub IsRelocation : {E : Type 0} → {r : _} → (E → SymbolFields) → Sources E r → DynamicObject E r → LoadPlan → Bool → List ℕ → List ℕ → Result ℕ LoadError → Type 0
+IsRelocation fields sources own plan lazy before after result = MatchResult (sized_relocations sources own plan (length before))
     (λ relocations. IsWriting fields sources own lazy relocations before after result)
     (λ error. (result ≡ Err error) × (after ≡ before))
 
--- the same for the object at an index of a scope
-abbrev pub IsRelocationAt : {E : Type 0} → {r : _} → (E → SymbolFields) → (Order → Sources E r) → Option (DynamicObject E r) → Binding → List ℕ → List ℕ → Result ℕ LoadError → Type 0
-IsRelocationAt fields sources None when before after result = (result ≡ Err (error.Link ObjectIndex)) × (after ≡ before)
-IsRelocationAt fields sources (Some own) when before after result =
-    IsRelocation fields (sources (file_order (object_file own).header)) own (binds_lazily (view_entries (object_view own)) when)
-    before after result
-
--- the same for the object at an index of these, by the arguments of the call
-abbrev pub IsRelocationIn : {E : Type 0} → {r : _} → (E → SymbolFields) → Bor (List (DynamicObject E r)) → ℕ → Binding → ℕ → Bor (List Place) → Bor (List (Bor (List ℕ))) → List ℕ → List ℕ → Result ℕ LoadError → Type 0
-IsRelocationIn fields objects of when page places images before after result = IsRelocationAt fields (λ order. record {
+-- what the words of an object of a scope are written by
+abbrev pub sources_of : {E : Type 0} → {r : _} → Bor (List (DynamicObject E r)) → Bor (List LoadPlan) → ℕ → Bor (List Place) → Bor (List (Bor (List ℕ))) → DynamicObject E r → Sources E r
+sources_of objects plans of places images own = record {
   objects = objects;
-  page = page;
+  plans = plans;
   of = of;
-  order = order;
+  order = file_order (object_file own).header;
   places = places;
   images = images;
-}) (slice_get objects.now of) when before after result
+}
+
+-- the same for the object at an index, of which the scope may have no object or no plan
+abbrev pub IsRelocationIn : {E : Type 0} → {r : _} → (E → SymbolFields) → Bor (List (DynamicObject E r)) → Bor (List LoadPlan) → ℕ → Binding → Bor (List Place) → Bor (List (Bor (List ℕ))) → List ℕ → List ℕ → Result ℕ LoadError → Type 0
+IsRelocationIn fields objects plans of when places images before after result =
+    MatchBoth (slice_get objects.now of) (slice_get plans.now of) ((result ≡ Err (error.Link ObjectIndex)) × (after ≡ before))
+    (λ own plan. IsRelocation fields (sources_of objects plans of places images own) own plan
+    (binds_lazily (view_entries (object_view own)) when) before after result)

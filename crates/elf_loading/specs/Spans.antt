@@ -1,31 +1,31 @@
 -- The addresses that a plan covers (this project's own).
 use Rattle.std.specs.Prelude.{ℕ, ◌+◌, ◌<◌, ◌≤◌, ◌==◌, ◌&&◌, nat_le, nat_lt, Bool, false, List, [], ◌∷◌, Option, Some, None, Result, Ok, Err}
 use Rattle.std.specs.List.{Contains}
-use Rattle.xmas_elf.specs.Types.{ProgramHeader64}
+use Rattle.elf_linking.specs.declared.segments.Segment.{Segment}
 use Rattle.elf_loading.specs.LoadCheck.{load_end, load_start}
 use Rattle.elf_loading.specs.Pages.{down}
 use Rattle.elf_loading.specs.declared.error.LoadError.{LoadError}
 use Rattle.elf_loading.specs.declared.span.Span.{Span}
 
 -- the end of the pages of the last load, or `before` if there is none
-abbrev pub last_end : ℕ → ℕ → List ProgramHeader64 → ℕ
+abbrev pub last_end : ℕ → ℕ → List Segment → ℕ
 last_end page before [] = before
 last_end page before (load ∷ loads) = last_end page (load_end page load) loads
 
 -- the start of the pages of the first load
-abbrev pub first_start : ℕ → List ProgramHeader64 → ℕ
+abbrev pub first_start : ℕ → List Segment → ℕ
 first_start page [] = 0
 first_start page (load ∷ loads) = load_start page load
 
 -- the addresses from the first page of the first load to the last of the last
-abbrev pub span_of : ℕ → List ProgramHeader64 → Span
+abbrev pub span_of : ℕ → List Segment → Span
 span_of page loads = record { start = first_start page loads; end = last_end page 0 loads }
 
 -- the pages of what is read-only after relocation: both ends are rounded down
-abbrev pub relro_span : ℕ → ProgramHeader64 → Span
+abbrev pub relro_span : ℕ → Segment → Span
 relro_span page relro = record {
-  start = down page relro.virtual_addr;
-  end = down page (relro.virtual_addr + relro.mem_size);
+  start = down page relro.address;
+  end = down page (relro.address + relro.mem_size);
 }
 
 -- whether an address is in a range, if there is one
@@ -34,17 +34,17 @@ is_in (Some span) address = nat_le span.start address && nat_lt address span.end
 is_in None address = false
 
 -- an address is in the pages of one of these loads
-abbrev pub IsInLoad : ℕ → List ProgramHeader64 → ℕ → Type 0
+abbrev pub IsInLoad : ℕ → List Segment → ℕ → Type 0
 IsInLoad page loads address =
-    (load : ProgramHeader64) × Contains loads load × (load_start page load ≤ address) × (address < load_end page load)
+    (load : Segment) × Contains loads load × (load_start page load ≤ address) × (address < load_end page load)
 
 -- each address of a range is in a load
-abbrev pub IsCovered : ℕ → List ProgramHeader64 → Span → Type 0
+abbrev pub IsCovered : ℕ → List Segment → Span → Type 0
 IsCovered page loads span =
     (address : ℕ) → span.start ≤ address → address < span.end → IsInLoad page loads address
 
 -- an address of a range is in no load
-pub record HasUncovered (page : ℕ) (loads : List ProgramHeader64) (span : Span) : Type 0 where
+pub record HasUncovered (page : ℕ) (loads : List Segment) (span : Span) : Type 0 where
   pub address : ℕ
   pub begins : span.start ≤ address
   pub ends : address < span.end

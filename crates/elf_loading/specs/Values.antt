@@ -2,8 +2,8 @@
 -- V ABI, "Relocation Types"; the values without a symbol, and of indirect functions, as glibc 2.36 has them).
 use Rattle.std.specs.Prelude.{ℕ, ◌+◌, ◌-◌, ◌*◌, ◌%◌, ◌^◌, ◌==◌, ◌&&◌, not, min, Bool, Option, None, Some, if◌then◌else◌}
 use Rattle.elf_linking.specs.declared.scope.Bound.{Bound}
-use Rattle.elf_loading.specs.declared.formulas.Formula.{Formula}
-use Rattle.elf_loading.specs.declared.formulas.Formula.TheVariants as formulas
+use Rattle.elf_linking.specs.declared.references.types.Formula.{Formula}
+use Rattle.elf_linking.specs.declared.references.types.Formula.TheVariants as formulas
 use Rattle.elf_loading.specs.declared.value.Origin.{Origin}
 use Rattle.elf_loading.specs.declared.value.Origin.TheVariants.{Base, Call, Zero}
 use Rattle.elf_loading.specs.declared.value.Target.{Target}

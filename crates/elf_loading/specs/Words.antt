@@ -1,26 +1,27 @@
 -- The words that relocations write when a file is loaded (the processor supplements of the System V ABI; which symbol
 -- a relocation gets, as `bind` of elf_linking says; what jump slots hold before they are called, as glibc 2.36 has it).
-use Rattle.std.specs.Prelude.{◌≡◌, ℕ, ◌+◌, ◌/◌, ◌%◌, ◌^◌, ◌==◌, ◌&&◌, ◌||◌, not, nat_le, is_some, Bool, true, false, List, slice_get, Option, None, Some, Result, Ok, Err, if◌then◌else◌}
+use Rattle.std.specs.Prelude.{◌≡◌, ℕ, ◌+◌, ◌%◌, ◌^◌, ◌==◌, ◌&&◌, ◌||◌, not, nat_le, is_some, Bool, true, false, List, slice_get, Option, None, Some, Result, Ok, Err, if◌then◌else◌}
 use Rattle.std.specs.List.{list_any}
 use Rattle.elf_base.specs.FileHeader.{file_class}
 use Rattle.elf_base.specs.Table.{table_items}
 use Rattle.elf_linking.specs.DynamicObject.{object_records}
-use Rattle.elf_linking.specs.DynamicView.{number_with}
+use Rattle.elf_linking.specs.DynamicView.{flag_in, number_with}
 use Rattle.elf_linking.specs.Loaded.{word_at_of}
 use Rattle.elf_linking.specs.References.{file_machine}
 use Rattle.elf_linking.specs.Scope.{IsReferenceBound}
 use Rattle.elf_linking.specs.declared.error.LinkError.{LinkError}
 use Rattle.elf_linking.specs.declared.object.DynamicObject.{DynamicObject}
 use Rattle.elf_linking.specs.declared.references.Reference.{Reference}
+use Rattle.elf_linking.specs.declared.references.types.Row.{Row}
 use Rattle.elf_linking.specs.declared.scope.Bound.{Bound}
 use Rattle.elf_linking.specs.declared.view.tags.TheConstants.{DT_BIND_NOW, DT_FLAGS, DT_FLAGS_1}
-use Rattle.elf_loading.specs.Formulas.{formula_of, width_of}
+use Rattle.elf_linking.specs.RelocationTypes.{row_of}
 use Rattle.elf_loading.specs.Segments.{loads_of}
 use Rattle.elf_loading.specs.Values.{bytes_of, value_of}
 use Rattle.elf_loading.specs.declared.error.LoadError.{LoadError}
 use Rattle.elf_loading.specs.declared.error.LoadError.TheVariants.{Link, WordType}
-use Rattle.elf_loading.specs.declared.formulas.Formula.{Formula}
-use Rattle.elf_loading.specs.declared.formulas.Formula.TheVariants as formulas
+use Rattle.elf_linking.specs.declared.references.types.Formula.{Formula}
+use Rattle.elf_linking.specs.declared.references.types.Formula.TheVariants as formulas
 use Rattle.elf_loading.specs.declared.in_order.Relocation.{Relocation}
 use Rattle.elf_loading.specs.declared.value.Terms.{Terms}
 use Rattle.elf_loading.specs.declared.words.Binding.{Binding}
@@ -29,15 +30,10 @@ use Rattle.elf_loading.specs.declared.words.Relocated.{Relocated}
 use Rattle.elf_loading.specs.declared.words.Word.{Word}
 use Rattle.elf_records.specs.declared.dynamic.Dynamic.{Dynamic}
 use Rattle.xmas_elf.specs.Symbol.{SymbolFields}
-use Rattle.xmas_elf.specs.Types.{ProgramHeader64}
+use Rattle.elf_linking.specs.declared.segments.Segment.{Segment}
 use Rattle.xmas_elf.specs.declared.ElfFile.{ElfFile}
 
 -- Jump slots that get their symbols when they are called first.
-
--- a number of flags, if there is one, has a flag
-abbrev pub flag_in : Option ℕ → ℕ → Bool
-flag_in None flag = false
-flag_in (Some flags) flag = flags / flag % 2 == 1
 
 -- this is asked for, and the file doesn't ask for the contrary: by an entry DT_BIND_NOW, by the flag DF_BIND_NOW (8) in
 -- DT_FLAGS, or by the flag DF_1_NOW (1) in DT_FLAGS_1
@@ -46,25 +42,19 @@ binds_lazily entries Now = false
 binds_lazily entries Lazy = not (is_some (number_with DT_BIND_NOW entries))
     && (not (flag_in (number_with DT_FLAGS entries) 8) && not (flag_in (number_with DT_FLAGS_1 entries) 1))
 
--- R_X86_64_JUMP_SLOT, R_386_JMP_SLOT, R_AARCH64_JUMP_SLOT
-abbrev pub is_jump_slot : ℕ → ℕ → Bool
-is_jump_slot machine kind = if machine == 62 then kind == 7 else (if machine == 3 then kind == 7
-    else (machine == 183 && kind == 1026))
-
--- such a slot, which is of the procedure linkage table
-abbrev pub is_lazy : ℕ → Bool → Relocation → Bool
-is_lazy machine lazy relocation = lazy && (relocation.slot && is_jump_slot machine relocation.reference.kind)
+-- a relocation of the procedure linkage table is such a slot, by the row of its type
+abbrev pub is_lazy : Row → Bool → Relocation → Bool
+is_lazy row lazy relocation = lazy && (relocation.slot && row.slot)
 
 -- The formula of a relocation, and what it is made of.
 
 -- a jump slot that gets its symbol later holds the word in place, moved with the file
-abbrev pub formula_when : ℕ → Bool → Relocation → Option Formula
-formula_when machine lazy relocation =
-    if is_lazy machine lazy relocation then Some formulas.Base else formula_of machine relocation.reference.kind
+abbrev pub formula_when : Row → Bool → Relocation → Option Formula
+formula_when row lazy relocation = if is_lazy row lazy relocation then Some formulas.Base else row.formula
 
 -- the addend is the word in place
-abbrev pub in_place_when : ℕ → Bool → Relocation → Bool
-in_place_when machine lazy relocation = relocation.in_place || is_lazy machine lazy relocation
+abbrev pub in_place_when : Row → Bool → Relocation → Bool
+in_place_when row lazy relocation = relocation.in_place || is_lazy row lazy relocation
 
 -- a formula has a symbol
 abbrev pub takes_symbol : Formula → Bool
@@ -89,7 +79,8 @@ symbol_in (Some formula) = takes_symbol formula
 
 -- the word of a relocation depends on a symbol
 abbrev pub needs_symbol : ℕ → Bool → Relocation → Bool
-needs_symbol machine lazy relocation = symbol_in (formula_when machine lazy relocation)
+needs_symbol machine lazy relocation =
+    symbol_in (formula_when (row_of machine relocation.reference.kind) lazy relocation)
 
 -- the address of the word in place that is the addend: the second word of a descriptor (on 386, of 4 bytes); otherwise
 -- the word itself
@@ -98,9 +89,9 @@ addend_place formulas.Descriptor address = (address + 4) % 2 ^ 64
 addend_place _ address = address
 
 -- the bytes of a word at an address are zeros after the bytes that a load has in the file
-abbrev pub has_zeros : ℕ → ℕ → ProgramHeader64 → Bool
-has_zeros address width load = nat_le (load.virtual_addr + load.file_size) address
-    && nat_le (address + width) (load.virtual_addr + load.mem_size)
+abbrev pub has_zeros : ℕ → ℕ → Segment → Bool
+has_zeros address width load = nat_le (load.address + load.file_size) address
+    && nat_le (address + width) (load.address + load.mem_size)
 
 -- the size of an address in bytes, by the class
 abbrev pub address_size : ElfFile → ℕ
@@ -151,14 +142,14 @@ formula_word fields file own of in_place reference bound (Some formula) =
       address = reference.offset;
       addend = addend;
       size = own_size fields own reference.symbol;
-      width = width_of (file_machine file) reference.kind;
+      width = (row_of (file_machine file) reference.kind).width;
     }) symbol formula)))
 
 -- the word of a relocation of the object at index `of`, by the symbol that it gets
 abbrev pub word_of : {E : Type 0} → {r : _} → (E → SymbolFields) → ElfFile → DynamicObject E r → ℕ → Bool → Relocation → Result (Option (Bound E)) LinkError → Result Word LoadError
-word_of fields file own of lazy relocation bound = let machine = file_machine file in
-    formula_word fields file own of (in_place_when machine lazy relocation) relocation.reference bound
-    (formula_when machine lazy relocation)
+word_of fields file own of lazy relocation bound = let row = row_of (file_machine file) relocation.reference.kind in
+    formula_word fields file own of (in_place_when row lazy relocation) relocation.reference bound
+    (formula_when row lazy relocation)
 
 -- the symbol that a relocation gets, if its word depends on one
 abbrev pub IsBoundIf : {E : Type 0} → {r : _} → Bool → (E → SymbolFields) → List (DynamicObject E r) → ℕ → Reference → Result (Option (Bound E)) LinkError → Type 0

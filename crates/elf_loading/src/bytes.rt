@@ -10,7 +10,7 @@ use crate::load_check::{holds_address, load_end};
 use crate::mapping::{Loader, mapped_end};
 use crate::pages::down;
 use crate::plan::LoadPlan;
-use xmas_elf::program::ProgramHeader64;
+use elf_linking::Segment;
 
 /// The byte that is at an address.
 #[derive(Clone, Copy, Debug, PartialEq, Eq)]
@@ -23,14 +23,14 @@ pub enum Byte {
 
 // Whether a loader writes a zero at an address after the bytes of a load.
 #[inline(always)]
-fn is_zeroed(by: Loader, address: u64, load: &ProgramHeader64) -> bool
+fn is_zeroed(by: Loader, address: u64, load: &Segment) -> bool
     ensures { result ≡ is_zeroed by address load.now }
 {
-    let after = address >= load.virtual_addr && address - load.virtual_addr >= load.file_size;
+    let after = address >= load.address && address - load.address >= load.file_size;
     match by {
         Loader::Kernel => load.file_size < load.mem_size && after,
         Loader::Glibc => {
-            after && u128::from(address) < u128::from(load.virtual_addr) + u128::from(load.mem_size)
+            after && u128::from(address) < u128::from(load.address) + u128::from(load.mem_size)
         }
     }
 }
@@ -38,7 +38,7 @@ fn is_zeroed(by: Loader, address: u64, load: &ProgramHeader64) -> bool
 // The end of the zeros that a loader writes after the bytes of a load.
 #[tactic(auto, using(crate::proofs::Fits::fits_facts))]
 #[inline(always)]
-fn zeroed_end(page: u64, limit: u64, by: Loader, load: &ProgramHeader64) -> u64
+fn zeroed_end(page: u64, limit: u64, by: Loader, load: &Segment) -> u64
     requires page { 0 < page }
     requires fits { fits_below page limit load.now ≡ true }
     ensures { result ≡ zeroed_end page by load.now }
@@ -48,12 +48,12 @@ fn zeroed_end(page: u64, limit: u64, by: Loader, load: &ProgramHeader64) -> u64
     if by == Loader::Kernel && load.file_size < load.mem_size {
         return load_end(page, limit, load);
     }
-    load.virtual_addr + load.mem_size
+    load.address + load.mem_size
 }
 
 // Whether the byte at an address is one of the file, if the file has it.
 #[inline(always)]
-fn is_of_file(page: u64, limit: u64, by: Loader, address: u64, load: &ProgramHeader64) -> bool
+fn is_of_file(page: u64, limit: u64, by: Loader, address: u64, load: &Segment) -> bool
     requires page { 0 < page }
     requires fits { fits_below page limit load.now ≡ true }
     ensures { result ≡ is_of_file page by address load.now }
@@ -63,20 +63,13 @@ fn is_of_file(page: u64, limit: u64, by: Loader, address: u64, load: &ProgramHea
 
 // The byte at an address in the pages of a load, of a file with `len` bytes.
 #[inline(always)]
-fn load_byte(
-    page: u64,
-    limit: u64,
-    by: Loader,
-    len: u64,
-    address: u64,
-    load: &ProgramHeader64,
-) -> Byte
+fn load_byte(page: u64, limit: u64, by: Loader, len: u64, address: u64, load: &Segment) -> Byte
     requires page { 0 < page }
     requires fits { fits_below page limit load.now ≡ true }
     requires held { holds_address page address load.now ≡ true }
     ensures { result ≡ load_byte page by len address load.now }
 {
-    let skipped = address - down(page, load.virtual_addr);
+    let skipped = address - down(page, load.address);
     let offset = down(page, load.offset);
     if is_of_file(page, limit, by, address, load) && offset < len && skipped < len - offset {
         return Byte::File(offset + skipped);
@@ -118,7 +111,7 @@ impl<'a> LoadPlan<'a> {
     ghost use Rattle.std.specs.Prelude.{◌+◌, ◌-◌, ◌↔◌, ◌≤◌, IfErr, IfOk, IsOk, None, Some, length, ℕ};
     ghost use Rattle.std.specs.List.{AllByRecursion, Contains};
     ghost use Rattle.elf_loading.specs.declared.bytes.Byte.TheVariants.{File, Zero};
-    ghost use Rattle.xmas_elf.specs.Types.{ProgramHeader64};
+    ghost use Rattle.elf_linking.specs.declared.segments.Segment.{Segment};
     ghost use Rattle.elf_loading.specs.Bytes.{IsByteOf, byte_number, byte_of};
     ghost use Rattle.elf_loading.specs.Mappings.{IsMapped, mappings_of};
     ghost use Rattle.elf_loading.specs.Plan.{plan_loads};
@@ -128,10 +121,10 @@ impl<'a> LoadPlan<'a> {
     // The byte at an address: that of the load whose pages contain it.
     #[tactic(auto, using(crate::proofs::Lists::held_first, crate::proofs::Lists::held_rest, crate::proofs::Lists::held_end, crate::proofs::Lists::fits_first, crate::proofs::Lists::fits_rest, crate::proofs::FileChecks::passes_fit))]
     fn find_byte(&self, address: u64, by: Loader) -> Option<Byte>
-        ensures { result ≡ byte_of self.now.page by (length self.now.file.input.now) address
+        ensures { result ≡ byte_of self.now.page by (length self.now.input.now) address
             (plan_loads self.now) }
     {
-        let len = self.file.input.len() as u64;
+        let len = self.input.len() as u64;
         for load in self.loads() {
             if holds_address(self.page, self.limit, address, &load) {
                 return Some(load_byte(self.page, self.limit, by, len, address, &load));
@@ -143,14 +136,14 @@ impl<'a> LoadPlan<'a> {
     /// The byte at an address once a loader has mapped the file, before relocation. `None` if no load
     /// segment has a page there, and for the pages that glibc maps without access.
     pub fn byte_at(&self, address: u64, by: Loader) -> Option<Byte>
-        ensures exact { result ≡ byte_of self.now.page by (length self.now.file.input.now) address
+        ensures exact { result ≡ byte_of self.now.page by (length self.now.input.now) address
             (plan_loads self.now) }
-        ensures file { (load : ProgramHeader64) → Contains (plan_loads self.now) load
-            → load.virtual_addr ≤ address → address < load.virtual_addr + load.file_size
-            → result ≡ Some (File (load.offset + (address - load.virtual_addr))) }
-        ensures zeros { (load : ProgramHeader64) → Contains (plan_loads self.now) load
-            → load.virtual_addr + load.file_size ≤ address
-            → address < load.virtual_addr + load.mem_size → result ≡ Some Zero }
+        ensures file { (load : Segment) → Contains (plan_loads self.now) load
+            → load.address ≤ address → address < load.address + load.file_size
+            → result ≡ Some (File (load.offset + (address - load.address))) }
+        ensures zeros { (load : Segment) → Contains (plan_loads self.now) load
+            → load.address + load.file_size ≤ address
+            → address < load.address + load.mem_size → result ≡ Some Zero }
         ensures mapped { AllByRecursion (λ mapping. IsMapped address mapping
             → IsByteOf mapping address result)
             (mappings_of self.now.page by None (plan_loads self.now)) }
@@ -160,7 +153,7 @@ impl<'a> LoadPlan<'a> {
 
     // Writes the bytes of a load to its pages in an image, which begins at `base`, and where they are
     // zero.
-    fn fill_load(&self, by: Loader, base: u64, load: &ProgramHeader64, image: &mut [u8])
+    fn fill_load(&self, by: Loader, base: u64, load: &Segment, image: &mut [u8])
         requires fits { fits_below self.now.page self.now.limit load.now ≡ true }
         requires begins { base ≤ load_start self.now.page load.now }
         requires ends { load_end self.now.page load.now ≤ base + length image.old }
@@ -169,21 +162,15 @@ impl<'a> LoadPlan<'a> {
         ensures len { length image.new ≡ length image.old }
         ensures bytes { (i : ℕ) → slice_index image.new i
             ≡ (if holds_address self.now.page (base + i) load.now
-            then byte_number self.now.file.input.now (Some (load_byte self.now.page by
-            (length self.now.file.input.now) (base + i) load.now)) else slice_index image.old i) }
+            then byte_number self.now.input.now (Some (load_byte self.now.page by
+            (length self.now.input.now) (base + i) load.now)) else slice_index image.old i) }
     {
         let (page, limit) = (self.page, self.limit);
-        let start = down(page, load.virtual_addr) - base;
+        let start = down(page, load.address) - base;
         let mapped = mapped_end(page, limit, by, load) - base;
         let offset = down(page, load.offset);
-        copy_file(
-            self.file.input,
-            offset,
-            image,
-            start as usize,
-            mapped as usize,
-        );
-        let zeros = load.virtual_addr + load.file_size - base;
+        copy_file(self.input, offset, image, start as usize, mapped as usize);
+        let zeros = load.address + load.file_size - base;
         let end = zeroed_end(page, limit, by, load) - base;
         clear(image, zeros as usize, end as usize);
     }
@@ -199,8 +186,8 @@ impl<'a> LoadPlan<'a> {
             - (span_of self.now.page (plan_loads self.now)).start) }
         ensures error { IfErr result (λ error. (error ≡ ImageSize) × (image.new ≡ image.old)) }
         ensures bytes { IfOk result (λ done. (i : ℕ) → i < length image.new
-            → slice_index image.new i ≡ byte_number self.now.file.input.now
-            (byte_of self.now.page by (length self.now.file.input.now)
+            → slice_index image.new i ≡ byte_number self.now.input.now
+            (byte_of self.now.page by (length self.now.input.now)
             ((span_of self.now.page (plan_loads self.now)).start + i) (plan_loads self.now))) }
     {
         let span = self.span();

@@ -1,32 +1,28 @@
 //! Whether a file can be loaded.
 
 ghost use Rattle.std.specs.Prelude.{◌≡◌, ◌≤◌, ◌<◌, ◌+◌, nat_lt, length};
-ghost use Rattle.std.specs.Prelude.{Err, IfOk, MatchResult, Ok};
+ghost use Rattle.std.specs.Prelude.{Err, IfOk, MatchResult, Ok, true, ◌==◌};
 ghost use Rattle.elf_base.specs.FileHeader.{file_class};
 ghost use Rattle.elf_base.specs.Refusal.{unless};
 ghost use Rattle.elf_loading.specs.FileCheck.{check_file, header_rows, kind_of, segment_rows};
-ghost use Rattle.elf_loading.specs.FileCheck.{table_size};
 ghost use Rattle.elf_loading.specs.LoadPass.{IsPassOf, is_elsewhere, is_past_covered};
 ghost use Rattle.elf_loading.specs.LoadPass.{is_wrong_path, is_wrong_template, wanted_of};
-ghost use Rattle.elf_loading.specs.Loads.{loads_rest};
+ghost use Rattle.elf_loading.specs.Loads.{loads_left};
 ghost use Rattle.elf_loading.specs.Others.{AreOthersOf};
-ghost use Rattle.elf_loading.specs.Programs.{segments_left};
-ghost use Rattle.elf_loading.specs.Segments.{loads_of, segments_in};
+ghost use Rattle.elf_linking.specs.Segments.{segment_size, table_size};
+ghost use Rattle.elf_loading.specs.Segments.{loads_of};
 ghost use Rattle.elf_loading.specs.Spans.{first_start};
-ghost use Rattle.xmas_elf.specs.ProgramHeader.{program_header_size, program_list};
 
 use crate::LoadError;
 use crate::load_pass::{Pass, Wanted, pass_loads};
 use crate::loads::Loads;
 use crate::pages::end_down;
 use crate::plan::Tls;
-use crate::programs::Programs;
 use crate::segments::{Extent, Others, Sorted, sort};
 use crate::span::Span;
+use elf_linking::{Segment, Segments};
 use xmas_elf::ElfFile;
-use xmas_elf::bytes::Record;
 use xmas_elf::header::Header;
-use xmas_elf::program::{ProgramHeader32, ProgramHeader64};
 
 // The type of a file, as a number.
 #[inline(always)]
@@ -39,13 +35,13 @@ fn kind_of(header: &Header) -> u16
 // The size of a program header, by the class.
 #[inline(always)]
 fn entry_size(header: &Header) -> u64
-    ensures value { result ≡ program_header_size (file_class header.now) }
+    ensures value { result ≡ segment_size (file_class header.now == 1) }
     ensures bound { result ≤ 56 }
 {
     if header.pt1.class.raw() == 1 {
-        return ProgramHeader32::SIZE as u64;
+        return 32;
     }
-    ProgramHeader64::SIZE as u64
+    56
 }
 
 // The size of the program header table.
@@ -181,26 +177,21 @@ pub(crate) struct Checked<'a> {
     pub(crate) span: Span,
 }
 
-// What is found by these program headers, or the first reason why the file can't be loaded.
+// What is found of a file whose program header table can be used, or the first reason why it can't be
+// loaded.
 #[tactic(auto, unfolding(crate::specs::FileCheck::check_file), using(crate::proofs::LoadPasses::passed_in, crate::proofs::Others::others_in))]
 #[inline(always)]
-fn check_programs<'a>(
-    page: u64,
-    limit: u64,
-    file: &ElfFile<'a>,
-    programs: Programs<'a>,
-) -> Result<Checked<'a>, LoadError>
+fn check_table<'a>(page: u64, limit: u64, file: &ElfFile<'a>) -> Result<Checked<'a>, LoadError>
     requires page { 0 < page }
     requires header { unless (header_rows file.now page) (tt {0}) ≡ Ok (tt {0}) }
-    requires programs { segments_left programs ≡ segments_in (program_list file.now) }
     ensures checked { MatchResult result
         (λ found. check_file file.now page limit ≡ Ok found.span.end)
         (λ error. check_file file.now page limit ≡ Err error) }
     ensures start { IfOk result (λ found. found.span.start ≡ first_start page (loads_of file.now)) }
     ensures others { IfOk result (λ found. AreOthersOf file.now found.others) }
-    ensures loads { IfOk result (λ found. loads_rest found.loads ≡ loads_of file.now) }
+    ensures loads { IfOk result (λ found. loads_left found.loads ≡ loads_of file.now) }
 {
-    let Sorted { others, loads } = sort(programs);
+    let Sorted { others, loads } = sort(Segments::of(file));
     let wanted = Wanted::of(page, file, &others);
     let pass = pass_loads(page, limit, &wanted, file.input.len() as u64, loads)?;
     let Some(end) = pass.end else {
@@ -218,7 +209,7 @@ fn check_programs<'a>(
 }
 
 // What is found of a file, or the first reason why it can't be loaded.
-#[tactic(auto, unfolding(crate::specs::FileCheck::check_file), using(crate::proofs::FileChecks::whole_by))]
+#[tactic(auto, unfolding(crate::specs::FileCheck::check_file))]
 pub(crate) fn check_file<'a>(
     page: u64,
     limit: u64,
@@ -230,8 +221,8 @@ pub(crate) fn check_file<'a>(
         (λ error. check_file file.now page limit ≡ Err error) }
     ensures start { IfOk result (λ found. found.span.start ≡ first_start page (loads_of file.now)) }
     ensures others { IfOk result (λ found. AreOthersOf file.now found.others) }
-    ensures loads { IfOk result (λ found. loads_rest found.loads ≡ loads_of file.now) }
+    ensures loads { IfOk result (λ found. loads_left found.loads ≡ loads_of file.now) }
 {
     check_header(page, file)?;
-    check_programs(page, limit, file, Programs::of(file))
+    check_table(page, limit, file)
 }

@@ -9,42 +9,33 @@ ghost use Rattle.elf_loading.specs.ImageTables.{check_tables, has_flag, hash_siz
 ghost use Rattle.elf_loading.specs.ImageTables.{holds_dynamic, is_dynamic_lost, is_no_multiple};
 ghost use Rattle.elf_loading.specs.ImageTables.{is_other_machine, is_readable, is_unreadable};
 ghost use Rattle.elf_loading.specs.ImageTables.{relocation_rows, segment_extent, slot_rows};
-ghost use Rattle.elf_loading.specs.ImageTables.{symbol_number, table_by, table_of_size, tables_of};
-ghost use Rattle.xmas_elf.specs.ProgramHeader.{program_fields};
+ghost use Rattle.elf_loading.specs.ImageTables.{symbol_number, table_of_size, tables_of};
 
 use crate::LoadError;
-use crate::file_loads::fields;
 use crate::in_order::{is_kind, record_size};
 use crate::words::{address_size, flag_in};
 use elf_linking::references::types::{EM_386, EM_AARCH64, EM_X86_64};
 use elf_linking::view::{
     DT_FLAGS, DT_GNU_HASH, DT_HASH, DT_JMPREL, DT_PLTREL, DT_PLTRELSZ, DT_REL, DT_RELA, DT_RELAENT,
     DT_RELASZ, DT_RELENT, DT_RELR, DT_RELRENT, DT_RELRSZ, DT_RELSZ, DT_STRSZ, DT_STRTAB, DT_SYMTAB,
-    DT_TEXTREL, DT_VERSYM, DynamicView, LinkedSymbol, dynamic_segment, segment_at,
+    DT_TEXTREL, DT_VERSYM, DynamicView, LinkedSymbol, TableLocation, dynamic_segment, segment_at,
 };
-use elf_linking::{AnyTable, DynamicObject};
+use elf_linking::{AnyTable, DynamicObject, Segment};
 use xmas_elf::ElfFile;
-use xmas_elf::program::{FLAG_R, FLAG_W, ProgramHeader, ProgramHeader64};
-
-// Where a table is: its address, if it has one, and its size in bytes, if it is known.
-#[derive(Clone, Copy, Debug)]
-pub(crate) struct TableLocation {
-    pub(crate) start: Option<u64>,
-    pub(crate) size: Option<u64>,
-}
+use xmas_elf::program::{FLAG_R, FLAG_W};
 
 // Whether a segment is readable.
-fn is_readable(program: &Option<ProgramHeader>) -> bool
-    ensures { result ≡ is_readable program.now }
+fn is_readable(segment: &Option<Segment>) -> bool
+    ensures { result ≡ is_readable segment.now }
 {
-    match program {
-        Some(program) => fields(program).flags.0 & FLAG_R == FLAG_R,
+    match segment {
+        Some(segment) => segment.flags.0 & FLAG_R == FLAG_R,
         None => false,
     }
 }
 
 // Whether a segment is writable.
-pub(crate) fn is_writable(segment: &ProgramHeader64) -> bool
+pub(crate) fn is_writable(segment: &Segment) -> bool
     ensures { result ≡ has_flag 2 segment.now }
 {
     segment.flags.0 & FLAG_W == FLAG_W
@@ -60,16 +51,6 @@ fn is_unreadable(file: &ElfFile<'_>, table: &TableLocation) -> bool
     match table.size {
         Some(size) => !is_readable(&segment_at(file, start, size)),
         None => true,
-    }
-}
-
-// A table by the entries with its address and its size.
-fn table_by(view: &DynamicView<'_>, start: u64, size: u64) -> TableLocation
-    ensures { result ≡ table_by (view_entries view.now) start size }
-{
-    TableLocation {
-        start: view.entry(start),
-        size: view.entry(size),
     }
 }
 
@@ -131,7 +112,7 @@ fn check_slots(
     if is_there && !with_addends && !is_kind(DT_REL, kind) {
         return Err(LoadError::SlotKind);
     }
-    let each = record_size(file, if with_addends { DT_RELA } else { DT_REL });
+    let each = record_size(file, with_addends);
     if is_there && is_no_multiple(each, table.size) {
         return Err(LoadError::NotMultiple);
     }
@@ -143,33 +124,30 @@ fn check_slots(
 
 // Whether a load has the bytes of the dynamic segment, from the same offset of the file, and their
 // permissions.
-fn holds_dynamic(dynamic: &ProgramHeader64, holder: &Option<ProgramHeader>) -> bool
-    requires { IfSome holder.now (λ program.
-        (program_fields program).virtual_addr ≤ dynamic.now.virtual_addr) }
+fn holds_dynamic(dynamic: &Segment, holder: &Option<Segment>) -> bool
+    requires { IfSome holder.now (λ load. load.address ≤ dynamic.now.address) }
     ensures { result ≡ holds_dynamic dynamic.now holder.now }
 {
-    let Some(program) = holder else {
+    let Some(load) = holder else {
         return false;
     };
-    let load = fields(program);
-    let offset = u128::from(load.offset) + u128::from(dynamic.virtual_addr - load.virtual_addr);
+    let offset = u128::from(load.offset) + u128::from(dynamic.address - load.address);
     load.flags.0 & FLAG_R == FLAG_R
-        && (!is_writable(dynamic) || is_writable(&load))
+        && (!is_writable(dynamic) || is_writable(load))
         && offset == u128::from(dynamic.offset)
 }
 
 // Whether no load has the dynamic segment.
 #[tactic(auto, using(crate::proofs::ImageTables::holder_begins))]
-fn is_dynamic_lost(file: &ElfFile<'_>, dynamic: &Option<ProgramHeader>) -> bool
+fn is_dynamic_lost(file: &ElfFile<'_>, dynamic: &Option<Segment>) -> bool
     ensures { result ≡ is_dynamic_lost file.now dynamic.now }
 {
-    let Some(program) = dynamic else {
+    let Some(dynamic) = dynamic else {
         return true;
     };
-    let dynamic = fields(program);
     let size = dynamic.mem_size.max(dynamic.file_size);
-    let holder = segment_at(file, dynamic.virtual_addr, size);
-    !holds_dynamic(&dynamic, &holder)
+    let holder = segment_at(file, dynamic.address, size);
+    !holds_dynamic(dynamic, &holder)
 }
 
 // Whether the machine and the class are not supported.
@@ -220,17 +198,14 @@ fn hash_tag(table: &AnyTable<'_>) -> u64
 }
 
 // The bytes of a segment, as many as it has in memory or in the file: entries are read in the file.
-fn segment_extent(program: &Option<ProgramHeader>) -> TableLocation
-    ensures { result ≡ segment_extent program.now }
+fn segment_extent(segment: &Option<Segment>) -> TableLocation
+    ensures { result ≡ segment_extent segment.now }
 {
-    match program {
-        Some(program) => {
-            let segment = fields(program);
-            TableLocation {
-                start: Some(segment.virtual_addr),
-                size: Some(segment.mem_size.max(segment.file_size)),
-            }
-        }
+    match segment {
+        Some(segment) => TableLocation {
+            start: Some(segment.address),
+            size: Some(segment.mem_size.max(segment.file_size)),
+        },
         None => TableLocation {
             start: None,
             size: None,
@@ -254,11 +229,11 @@ pub(crate) fn tables_of<E: LinkedSymbol>(object: &DynamicObject<'_, E>) -> [Tabl
     let (view, file, table) = (object.view(), object.file(), object.table());
     let count = symbol_number(object);
     [
-        table_by(&view, DT_RELA, DT_RELASZ),
-        table_by(&view, DT_REL, DT_RELSZ),
-        table_by(&view, DT_RELR, DT_RELRSZ),
-        table_by(&view, DT_JMPREL, DT_PLTRELSZ),
-        table_by(&view, DT_STRTAB, DT_STRSZ),
+        view.table_by(DT_RELA, DT_RELASZ),
+        view.table_by(DT_REL, DT_RELSZ),
+        view.table_by(DT_RELR, DT_RELRSZ),
+        view.table_by(DT_JMPREL, DT_PLTRELSZ),
+        view.table_by(DT_STRTAB, DT_STRSZ),
         table_of_size(&view, DT_SYMTAB, symbols_size::<E>(count)),
         table_of_size(&view, hash_tag(&table), hash_size(&file, &table, count)),
         table_of_size(&view, DT_VERSYM, 2 * count),
@@ -271,18 +246,13 @@ pub(crate) fn tables_of<E: LinkedSymbol>(object: &DynamicObject<'_, E>) -> [Tabl
 fn check_all_relocations(file: &ElfFile<'_>, view: &DynamicView<'_>) -> Result<(), LoadError>
     ensures { result ≡ check_all_relocations file.now (view_entries view.now) }
 {
-    let rela = table_by(view, DT_RELA, DT_RELASZ);
-    check_relocations(
-        file,
-        record_size(file, DT_RELA),
-        view.entry(DT_RELAENT),
-        &rela,
-    )?;
-    let rel = table_by(view, DT_REL, DT_RELSZ);
-    check_relocations(file, record_size(file, DT_REL), view.entry(DT_RELENT), &rel)?;
-    let packed = table_by(view, DT_RELR, DT_RELRSZ);
+    let rela = view.table_by(DT_RELA, DT_RELASZ);
+    check_relocations(file, record_size(file, true), view.entry(DT_RELAENT), &rela)?;
+    let rel = view.table_by(DT_REL, DT_RELSZ);
+    check_relocations(file, record_size(file, false), view.entry(DT_RELENT), &rel)?;
+    let packed = view.table_by(DT_RELR, DT_RELRSZ);
     check_relocations(file, address_size(file), view.entry(DT_RELRENT), &packed)?;
-    let slots = table_by(view, DT_JMPREL, DT_PLTRELSZ);
+    let slots = view.table_by(DT_JMPREL, DT_PLTRELSZ);
     check_slots(file, view.entry(DT_PLTREL), &slots)
 }
 

@@ -5,29 +5,26 @@ ghost use Rattle.std.specs.Prelude.{MatchResult, Ok, Some, length, nat_le, nat_l
 ghost use Rattle.std.specs.List.{find, list_any};
 ghost use Rattle.elf_linking.specs.Scope.{scope_objects};
 ghost use Rattle.elf_loading.specs.ImageTables.{has_flag, tables_of};
-ghost use Rattle.elf_loading.specs.ImageWords.{AreMarksOf, AreWordsFrom, HasRoom, IsBegun};
-ghost use Rattle.elf_loading.specs.ImageWords.{IsImageCheck, check_word, checked_relocations};
-ghost use Rattle.elf_loading.specs.ImageWords.{holds_word, is_marked, marks_count, marks_start, meet};
-ghost use Rattle.elf_loading.specs.ImageWords.{some_marked, touches};
-ghost use Rattle.elf_loading.specs.Segments.{loads_of};
+ghost use Rattle.elf_loading.specs.ImageWords.{AreMarksOf, AreWordsFrom, IsBegun};
+ghost use Rattle.elf_loading.specs.ImageWords.{IsImageCheck, IsOwnCheck, check_word, checked_relocations};
+ghost use Rattle.elf_loading.specs.ImageWords.{holds_word, is_marked, meet, some_marked, touches};
+ghost use Rattle.elf_loading.specs.Plan.{plan_loads, plan_size, plan_span};
 ghost use Rattle.elf_loading.specs.declared.words.Word.{Word};
-ghost use Rattle.xmas_elf.specs.ProgramTable.{program_table_file};
 
 use crate::LoadError;
-use crate::file_loads::file_loads;
-use crate::image_tables::{TableLocation, asks_for_text, check_tables, is_writable, tables_of};
+use crate::image_tables::{asks_for_text, check_tables, is_writable, tables_of};
+use crate::plan::LoadPlan;
 use crate::words::{Binding, Word, Words};
 use elf_linking::scope::Scope;
-use elf_linking::view::LinkedSymbol;
-use elf_linking::{DynamicObject, LinkError};
-use xmas_elf::program::{ProgramHeader64, ProgramTable};
+use elf_linking::view::{LinkedSymbol, TableLocation};
+use elf_linking::{DynamicObject, LinkError, Segment};
 
 // What the check of a word asks of its object.
 #[derive(Drop)]
 struct Room<'b, 'a> {
-    // The program headers.
-    table: ProgramTable<'b, 'a>,
-    // The address of the first mark.
+    // The plan.
+    plan: &'b LoadPlan<'a>,
+    // The first address of its span, which has the first mark.
     start: u64,
     // Whether the file asks for writes to loads that are not writable.
     text: bool,
@@ -61,42 +58,24 @@ fn is_in_table(word: &Word, tables: &[TableLocation]) -> bool
 }
 
 // Whether the memory of a load has all bytes of a word.
-fn holds_word(word: &Word, load: &ProgramHeader64) -> bool
+fn holds_word(word: &Word, load: &Segment) -> bool
     ensures { result ≡ holds_word word.now load.now }
 {
     let end = u128::from(word.address) + u128::from(word.width);
-    load.virtual_addr <= word.address
-        && end <= u128::from(load.virtual_addr) + u128::from(load.mem_size)
+    load.address <= word.address && end <= u128::from(load.address) + u128::from(load.mem_size)
 }
 
 // The first load whose memory has all bytes of a word.
 #[tactic(auto, using(crate::proofs::ImageLoads::holder_first, crate::proofs::ImageLoads::holder_rest, crate::proofs::ImageLoads::holder_end))]
-fn holder_of(word: &Word, table: ProgramTable<'_, '_>) -> Option<ProgramHeader64>
-    ensures { result ≡ find (holds_word word.now) (loads_of (program_table_file table.entry)) }
+fn holder_of(word: &Word, plan: &LoadPlan<'_>) -> Option<Segment>
+    ensures { result ≡ find (holds_word word.now) (plan_loads plan.now) }
 {
-    for load in file_loads(table) {
+    for load in plan.loads() {
         if holds_word(word, &load) {
             return Some(load);
         }
     }
     None
-}
-
-// The least address of the memory of the loads, and the number of addresses up to the greatest end.
-#[tactic(auto, using(crate::proofs::ImageLoads::memory_first, crate::proofs::ImageLoads::memory_end))]
-fn memory_of(table: ProgramTable<'_, '_>) -> (u64, u128)
-    ensures start { result.0 ≡ marks_start (loads_of (program_table_file table.entry)) }
-    ensures count { result.1 ≡ marks_count (loads_of (program_table_file table.entry)) }
-{
-    let (mut start, mut end) = (u64::MAX, 0);
-    for load in file_loads(table) {
-        start = start.min(load.virtual_addr);
-        end = u128::max(
-            end,
-            u128::from(load.virtual_addr) + u128::from(load.mem_size),
-        );
-    }
-    (start, end.saturating_sub(u128::from(start)))
 }
 
 // Sets a mark, and returns whether it was set.
@@ -128,7 +107,7 @@ fn mark_all(marks: &mut [u8], start: u64, count: u64) -> bool
 }
 
 // Whether a load is not writable, and the file doesn't ask for writes to such a load.
-fn is_shut(room: &Room<'_, '_>, load: &ProgramHeader64) -> bool
+fn is_shut(room: &Room<'_, '_>, load: &Segment) -> bool
     ensures { result ≡ (not room.now.text && not (has_flag 2 load.now)) }
 {
     !room.text && !is_writable(load)
@@ -136,11 +115,11 @@ fn is_shut(room: &Room<'_, '_>, load: &ProgramHeader64) -> bool
 
 // Whether a word can be written after those that have marks; the word gets marks.
 fn check_word(room: &Room<'_, '_>, word: &Word, marks: &mut [u8]) -> Result<(), LoadError>
-    requires { HasRoom (loads_of (program_table_file room.now.table)) room.now.start
-        (length marks.old) }
+    requires start { room.now.start ≡ (plan_span room.now.plan.now).start }
+    requires marks { plan_size room.now.plan.now ≤ 8 * length marks.old }
     ensures len { length marks.new ≡ length marks.old }
     ensures exact { (before : List Word) → AreMarksOf room.now.start before marks.old
-        → let answer = check_word (loads_of (program_table_file room.now.table)) room.now.text
+        → let answer = check_word (plan_loads room.now.plan.now) room.now.text
         room.now.tables before (Ok word.now) in MatchResult result
         (λ done. (after : List Word) × (answer ≡ Ok after) × AreMarksOf room.now.start after marks.new)
         (λ error. answer ≡ Err error) }
@@ -148,7 +127,7 @@ fn check_word(room: &Room<'_, '_>, word: &Word, marks: &mut [u8]) -> Result<(), 
     if word.width == 0 {
         return Ok(());
     }
-    let Some(load) = holder_of(word, room.table) else {
+    let Some(load) = holder_of(word, room.plan) else {
         return Err(LoadError::WordAddress);
     };
     if is_shut(room, &load) {
@@ -177,10 +156,10 @@ fn check_words<E: LinkedSymbol>(
     words: Words<'_, '_, E>,
     marks: &mut [u8],
 ) -> Result<(), LoadError>
-    requires room { HasRoom (loads_of (program_table_file room.now.table)) room.now.start
-        (length marks.old) }
+    requires start { room.now.start ≡ (plan_span room.now.plan.now).start }
+    requires room { plan_size room.now.plan.now ≤ 8 * length marks.old }
     requires clear { AreMarksOf room.now.start [] marks.old }
-    ensures { AreWordsFrom E.fields (loads_of (program_table_file room.now.table)) room.now.text
+    ensures { AreWordsFrom E.fields (plan_loads room.now.plan.now) room.now.text
         room.now.tables words.entry result }
 {
     for item in words {
@@ -196,57 +175,76 @@ fn check_words<E: LinkedSymbol>(
     Ok(())
 }
 
-// The words of an object whose tables can be used, and the address of the first of its marks, which
-// have this many bits.
+// The words of an object whose tables can be used, where this many marks are enough for its plan.
 fn begin<'s, 'a, E: LinkedSymbol>(
     scope: Scope<'s, 'a, E>,
     of: usize,
     own: &DynamicObject<'a, E>,
+    plan: &LoadPlan<'_>,
     tables: &[TableLocation; 9],
     bits: u128,
-) -> Result<(Words<'s, 'a, E>, u64), LoadError>
+) -> Result<Words<'s, 'a, E>, LoadError>
     requires own { slice_get (scope_objects scope).now of ≡ Some own.now }
     requires tables { tables.now ≡ tables_of E.SIZE own.now }
     ensures { MatchResult result
-        (λ begun. IsBegun E.SIZE (scope_objects scope.entry) of own.now bits begun.0 begun.1)
-        (λ error. checked_relocations E.SIZE own.now bits ≡ Err error) }
+        (IsBegun E.SIZE (scope_objects scope.entry) of own.now plan.now bits)
+        (λ error. checked_relocations E.SIZE own.now plan.now bits ≡ Err error) }
 {
     check_tables(own, tables)?;
     let words = match Words::new(scope, of, Binding::Now) {
         Ok(words) => words,
         Err(error) => return Err(LoadError::Link(error)),
     };
-    let (start, count) = memory_of(own.file().program_table());
-    if bits < count {
+    let span = plan.span();
+    if bits < u128::from(span.end - span.start) {
         return Err(LoadError::FewMarks);
     }
-    Ok((words, start))
+    Ok(words)
 }
 
-// Whether the words of the object at an index of a scope can be written.
+// Whether the words of an object with this plan, which is at an index of a scope, can be written.
+fn check_own<'a, E: LinkedSymbol>(
+    scope: Scope<'_, 'a, E>,
+    of: usize,
+    own: &DynamicObject<'a, E>,
+    plan: &LoadPlan<'_>,
+    marks: &mut [u8],
+) -> Result<(), LoadError>
+    requires { slice_get (scope_objects scope).now of ≡ Some own.now }
+    ensures { IsOwnCheck E.SIZE E.fields (scope_objects scope.entry).now of own.now plan.now
+        (8 * length marks.old) result }
+{
+    let tables = tables_of(own);
+    let words = match begin(scope, of, own, plan, &tables, 8 * marks.len() as u128) {
+        Ok(words) => words,
+        Err(error) => return Err(error),
+    };
+    clear(marks);
+    let room = Room {
+        plan,
+        start: plan.span().start,
+        text: asks_for_text(&own.view()),
+        tables,
+    };
+    check_words(&room, words, marks)
+}
+
+// Whether the words of the object at an index of a scope with these plans can be written.
+#[tactic(auto, using(crate::proofs::ImageChecks::no_object, crate::proofs::ImageChecks::no_plan))]
 pub(crate) fn check_image<E: LinkedSymbol>(
     scope: Scope<'_, '_, E>,
+    plans: &[LoadPlan<'_>],
     of: usize,
     marks: &mut [u8],
 ) -> Result<(), LoadError>
-    ensures exact { IsImageCheck E.SIZE E.fields (scope_objects scope.entry).now of
+    ensures exact { IsImageCheck E.SIZE E.fields (scope_objects scope.entry).now plans.now of
         (8 * length marks.old) result }
 {
     let Some(own) = scope.objects().get(of) else {
         return Err(LoadError::Link(LinkError::ObjectIndex));
     };
-    let tables = tables_of(own);
-    let (words, start) = match begin(scope, of, own, &tables, 8 * marks.len() as u128) {
-        Ok(begun) => begun,
-        Err(error) => return Err(error),
+    let Some(plan) = plans.get(of) else {
+        return Err(LoadError::Link(LinkError::ObjectIndex));
     };
-    clear(marks);
-    let file = own.file();
-    let room = Room {
-        table: file.program_table(),
-        start,
-        text: asks_for_text(&own.view()),
-        tables,
-    };
-    check_words(&room, words, marks)
+    check_own(scope, of, own, plan, marks)
 }

@@ -5,19 +5,21 @@
 ghost use Rattle.std.specs.Prelude.{◌≡◌, ◌<◌, Err, MatchResult, Ok};
 ghost use Rattle.std.specs.Iterator.{YieldsFirst, item_count};
 ghost use Rattle.elf_linking.specs.DynamicView.{view_entries};
-ghost use Rattle.elf_linking.specs.References.{table_left};
-ghost use Rattle.elf_loading.specs.InOrder.{address_of_slots, is_kind, is_of_kind, kept_bytes};
-ghost use Rattle.elf_loading.specs.InOrder.{kept_records, order_left, packed_left, part_left};
-ghost use Rattle.elf_loading.specs.InOrder.{record_size, relative_type, relocations_in_order};
-ghost use Rattle.elf_loading.specs.InOrder.{relr_addresses, relr_left, size_in, take_most};
+ghost use Rattle.elf_linking.specs.References.{record_size, table_left};
+ghost use Rattle.elf_loading.specs.InOrder.{ends_with, is_kind, kept_records, order_left};
+ghost use Rattle.elf_loading.specs.InOrder.{packed_left, part_left, relative_type};
+ghost use Rattle.elf_loading.specs.InOrder.{relocations_in_order, relr_addresses, relr_left};
+ghost use Rattle.elf_loading.specs.InOrder.{take_most};
+ghost use Rattle.elf_loading.specs.Words.{address_size};
 
-use elf_base::header::Class;
+use crate::words::address_size;
 use elf_linking::LinkError;
-use elf_linking::references::types::{EM_AARCH64, R_AARCH64_RELATIVE, R_X86_64_RELATIVE};
-use elf_linking::references::{Reference, TableRelocations};
+use elf_linking::references::types::R_X86_64_RELATIVE;
+use elf_linking::references::{Reference, TableRelocations, relative_of};
 use elf_linking::relr::Relr;
 use elf_linking::view::{
     DT_JMPREL, DT_PLTREL, DT_PLTRELSZ, DT_REL, DT_RELA, DT_RELASZ, DT_RELSZ, DynamicView,
+    TableLocation,
 };
 use xmas_elf::ElfFile;
 
@@ -32,10 +34,10 @@ pub struct Relocation {
     pub slot: bool,
 }
 
-// The packed relocations that are left, in a file for a machine.
+// The packed relocations that are left, and their type.
 #[derive(Clone, Debug, Drop)]
 struct Packed<'a> {
-    machine: u16,
+    kind: u32,
     rest: Option<Relr<'a>>,
 }
 
@@ -65,9 +67,9 @@ pub struct InOrder<'a> {
 fn relative_type(machine: u16) -> u32
     ensures { result ≡ relative_type machine }
 {
-    match machine {
-        EM_AARCH64 => R_AARCH64_RELATIVE,
-        _ => R_X86_64_RELATIVE,
+    match relative_of(machine) {
+        Some(row) => row.kind,
+        None => R_X86_64_RELATIVE,
     }
 }
 
@@ -75,7 +77,7 @@ impl Packed<'_> {
     #[inline(always)]
     fn next_address(&mut self) -> Option<u64>
         ensures first { YieldsFirst (λ packed. relr_left packed.rest) self.old result self.new }
-        ensures machine { self.new.machine ≡ self.old.machine }
+        ensures kind { self.new.kind ≡ self.old.kind }
     {
         match &mut self.rest {
             Some(rest) => rest.next(),
@@ -88,12 +90,12 @@ impl Packed<'_> {
     fn next(&mut self) -> Option<Relocation>
         ensures { YieldsFirst packed_left self.old result self.new }
     {
-        let machine = self.machine;
+        let kind = self.kind;
         let offset = self.next_address()?;
         Some(Relocation {
             reference: Reference {
                 offset,
-                kind: relative_type(machine),
+                kind,
                 symbol: 0,
                 addend: 0,
             },
@@ -135,17 +137,13 @@ impl Part<'_> {
     }
 }
 
-// The size of a record of a table of this kind.
-pub(crate) fn record_size(file: &ElfFile<'_>, kind: u64) -> u64
-    ensures exact { result ≡ record_size file.now kind }
+// The size of a record of a table, with addends or without.
+pub(crate) fn record_size(file: &ElfFile<'_>, addends: bool) -> u64
+    ensures exact { result ≡ record_size (address_size file.now) addends }
     ensures above { 0 < result }
 {
-    match (file.header.pt1.class(), kind == DT_RELA) {
-        (Class::ThirtyTwo, true) => 12,
-        (Class::ThirtyTwo, false) => 8,
-        (_, true) => 24,
-        (_, false) => 16,
-    }
+    let width = address_size(file);
+    if addends { 3 * width } else { 2 * width }
 }
 
 // Whether there is a number, and it is this one.
@@ -158,60 +156,26 @@ pub(crate) fn is_kind(kind: u64, number: Option<u64>) -> bool
     }
 }
 
-// Whether the procedure linkage table has relocations of this kind.
-fn is_of_kind(view: &DynamicView<'_>, kind: u64) -> bool
-    ensures { result ≡ is_of_kind (view_entries view.now) kind }
+// Whether a table ends with another: both end at one address, and the other isn't longer.
+fn ends_with(table: &TableLocation, other: &TableLocation) -> bool
+    ensures { result ≡ ends_with table.now other.now }
 {
-    is_kind(kind, view.entry(DT_PLTREL))
-}
-
-// The address of the procedure linkage table's relocations, if they are of this kind.
-fn address_of_slots(view: &DynamicView<'_>, kind: u64) -> Option<u64>
-    ensures { result ≡ address_of_slots (view_entries view.now) kind }
-{
-    if is_of_kind(view, kind) {
-        view.entry(DT_JMPREL)
-    } else {
-        None
-    }
-}
-
-// The size of a table without those bytes at its end that are the procedure linkage table again.
-fn kept_bytes(start: u64, size: u64, slots: Option<u64>, slots_size: u64) -> u64
-    ensures { result ≡ kept_bytes start size slots slots_size }
-{
-    let Some(slots) = slots else {
-        return size;
-    };
+    let (start, size) = (table.start.unwrap_or(0), table.size.unwrap_or(0));
+    let (other_start, other_size) = (other.start.unwrap_or(0), other.size.unwrap_or(0));
     let end = u128::from(start) + u128::from(size);
-    let slots_end = u128::from(slots) + u128::from(slots_size);
-    if slots_size <= size && end == slots_end {
-        size - slots_size
-    } else {
-        size
-    }
-}
-
-// The number in an entry; 0 if there is none.
-fn size_in(entry: Option<u64>) -> u64
-    ensures { result ≡ size_in entry }
-{
-    match entry {
-        Some(size) => size,
-        None => 0,
-    }
+    let other_end = u128::from(other_start) + u128::from(other_size);
+    other.start.is_some() && other_size <= size && end == other_end
 }
 
 // The number of records of a table that are not those of the procedure linkage table again.
 fn kept_records(view: &DynamicView<'_>, file: &ElfFile<'_>, kind: u64, size: u64) -> u64
     ensures { result ≡ kept_records file.now (view_entries view.now) kind size }
 {
-    let Some(start) = view.entry(kind) else {
-        return 0;
-    };
-    let size = size_in(view.entry(size));
-    let slots_size = size_in(view.entry(DT_PLTRELSZ));
-    kept_bytes(start, size, address_of_slots(view, kind), slots_size) / record_size(file, kind)
+    let table = view.table_by(kind, size);
+    let slots = view.table_by(DT_JMPREL, DT_PLTRELSZ);
+    let is_again = is_kind(kind, view.entry(DT_PLTREL)) && ends_with(&table, &slots);
+    let again = if is_again { slots.size.unwrap_or(0) } else { 0 };
+    table.size.unwrap_or(0).saturating_sub(again) / record_size(file, kind == DT_RELA)
 }
 
 // The packed relocations of a file.
@@ -240,7 +204,10 @@ impl<'a> InOrder<'a> {
         let rest = packed_of(view, file)?;
         let tables = view.relocation_tables(file)?;
         Ok(InOrder {
-            packed: Packed { machine, rest },
+            packed: Packed {
+                kind: relative_type(machine),
+                rest,
+            },
             rela: Part {
                 rest: tables.rela,
                 most: Some(kept_records(view, file, DT_RELA, DT_RELASZ)),
@@ -256,7 +223,7 @@ impl<'a> InOrder<'a> {
             slots: Part {
                 rest: tables.plt,
                 most: None,
-                in_place: is_of_kind(view, DT_REL),
+                in_place: is_kind(DT_REL, view.entry(DT_PLTREL)),
                 slot: true,
             },
         })

@@ -7,10 +7,9 @@
 #![tactic(auto)]
 
 mod bytes;
+mod checked;
 mod error;
 mod file_check;
-mod file_loads;
-mod formulas;
 mod image_tables;
 mod image_words;
 mod in_order;
@@ -22,7 +21,6 @@ mod mapping;
 mod mappings;
 mod pages;
 mod plan;
-mod programs;
 mod relocate;
 mod segments;
 mod span;
@@ -30,8 +28,8 @@ mod value;
 mod words;
 
 pub use crate::bytes::Byte;
+pub use crate::checked::{CheckedImage, CheckedLoadScope, ImageError};
 pub use crate::error::LoadError;
-pub use crate::formulas::{Formula, formula_of, width_of};
 pub use crate::in_order::{InOrder, Relocation};
 pub use crate::load_scope::LoadScope;
 pub use crate::mapping::{Contents, Loader, Mapping};
@@ -41,3 +39,4 @@ pub use crate::relocate::Place;
 pub use crate::span::Span;
 pub use crate::value::{Origin, Value};
 pub use crate::words::{Binding, Relocated, Word, Words};
+pub use elf_linking::references::{Formula, formula_of, width_of};

@@ -7,12 +7,13 @@ ghost use Rattle.elf_loading.specs.LoadCheck.{is_inside_page, is_past_data, load
 
 use crate::LoadError;
 use crate::pages::{down, inside, is_past, up};
-use xmas_elf::program::{FLAG_R, FLAG_W, ProgramHeader64};
+use elf_linking::Segment;
+use xmas_elf::program::{FLAG_R, FLAG_W};
 
 // The end of the pages of a load that fits below a limit.
 #[tactic(auto, using(crate::proofs::Fits::fits_facts))]
 #[inline(always)]
-pub(crate) fn load_end(page: u64, limit: u64, load: &ProgramHeader64) -> u64
+pub(crate) fn load_end(page: u64, limit: u64, load: &Segment) -> u64
     requires page { 0 < page }
     requires fits { fits_below page limit load.now ≡ true }
     ensures value { result ≡ load_end page load.now }
@@ -20,13 +21,13 @@ pub(crate) fn load_end(page: u64, limit: u64, load: &ProgramHeader64) -> u64
 {
     // This tells the proof that the sums are numbers of 64 bits.
     let _limit = limit;
-    up(page, load.virtual_addr + load.mem_size)
+    up(page, load.address + load.mem_size)
 }
 
 // The end of the pages with bytes of the file, of a load that fits below a limit.
 #[tactic(auto, using(crate::proofs::Fits::fits_facts))]
 #[inline(always)]
-pub(crate) fn file_end(page: u64, limit: u64, load: &ProgramHeader64) -> u64
+pub(crate) fn file_end(page: u64, limit: u64, load: &Segment) -> u64
     requires page { 0 < page }
     requires fits { fits_below page limit load.now ≡ true }
     ensures value { result ≡ file_end page load.now }
@@ -34,32 +35,32 @@ pub(crate) fn file_end(page: u64, limit: u64, load: &ProgramHeader64) -> u64
 {
     // This tells the proof that the sums are numbers of 64 bits.
     let _limit = limit;
-    up(page, load.virtual_addr + load.file_size)
+    up(page, load.address + load.file_size)
 }
 
 // Whether an address is in the pages of a load that fits below a limit.
 #[inline(always)]
-pub(crate) fn holds_address(page: u64, limit: u64, address: u64, load: &ProgramHeader64) -> bool
+pub(crate) fn holds_address(page: u64, limit: u64, address: u64, load: &Segment) -> bool
     requires page { 0 < page }
     requires fits { fits_below page limit load.now ≡ true }
     ensures { result ≡ holds_address page address load.now }
 {
-    down(page, load.virtual_addr) <= address && address < load_end(page, limit, load)
+    down(page, load.address) <= address && address < load_end(page, limit, load)
 }
 
 // Whether the address of a segment is not that of a page's first byte.
 #[inline(always)]
-fn is_inside_page(page: u64, load: &ProgramHeader64) -> bool
+fn is_inside_page(page: u64, load: &Segment) -> bool
     requires { 0 < page }
     ensures { result ≡ is_inside_page page load.now }
 {
-    inside(page, load.virtual_addr) != 0
+    inside(page, load.address) != 0
 }
 
 // Whether the first load has no bytes in the file, or a load has none in memory and begins inside a
 // page.
 #[inline(always)]
-fn is_empty(page: u64, is_first: bool, load: &ProgramHeader64) -> bool
+fn is_empty(page: u64, is_first: bool, load: &Segment) -> bool
     requires { 0 < page }
     ensures { result ≡ is_empty_load page is_first load.now }
 {
@@ -77,7 +78,7 @@ fn is_alignment(align: u64) -> bool
 // Whether the bytes extend past the end of a file of `len` bytes, or a load without bytes begins
 // inside a page that the file has no byte of.
 #[inline(always)]
-fn is_past_data(page: u64, len: u64, load: &ProgramHeader64) -> bool
+fn is_past_data(page: u64, len: u64, load: &Segment) -> bool
     requires { 0 < page }
     ensures { result ≡ is_past_data page len load.now }
 {
@@ -89,7 +90,7 @@ fn is_past_data(page: u64, len: u64, load: &ProgramHeader64) -> bool
 
 // Whether there are zeros after the bytes of a load that is not both readable and writable.
 #[inline(always)]
-fn has_shut_zeros(load: &ProgramHeader64) -> bool
+fn has_shut_zeros(load: &Segment) -> bool
     ensures { result ≡ has_shut_zeros load.now }
 {
     let both = FLAG_R | FLAG_W;
@@ -104,13 +105,13 @@ pub(crate) fn check_load(
     limit: u64,
     len: u64,
     before: Option<u64>,
-    load: &ProgramHeader64,
+    load: &Segment,
 ) -> Result<u64, LoadError>
     requires { 0 < page }
     ensures value { result ≡ check_load page limit len before load.now }
     ensures end { IfOk result (λ end. end ≡ load_end page load.now) }
 {
-    let (address, size) = (load.virtual_addr, load.mem_size);
+    let (address, size) = (load.address, load.mem_size);
     if load.file_size > size {
         return Err(LoadError::FileSize);
     }

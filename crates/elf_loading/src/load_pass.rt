@@ -5,7 +5,7 @@ ghost use Rattle.elf_loading.specs.FileCheck.{holds_offset};
 ghost use Rattle.elf_loading.specs.LoadCheck.{check_loads, load_end};
 ghost use Rattle.elf_loading.specs.LoadPass.{IsPassOf, covered_with, first_of, holds_some};
 ghost use Rattle.elf_loading.specs.LoadPass.{pass_with, wanted_of};
-ghost use Rattle.elf_loading.specs.Loads.{loads_rest};
+ghost use Rattle.elf_loading.specs.Loads.{loads_left};
 
 use crate::LoadError;
 use crate::load_check::check_load;
@@ -13,8 +13,8 @@ use crate::loads::Loads;
 use crate::pages::down;
 use crate::plan::Tls;
 use crate::segments::{Extent, Others};
+use elf_linking::Segment;
 use xmas_elf::ElfFile;
-use xmas_elf::program::ProgramHeader64;
 
 // What the checks of the other segments ask of the loads.
 #[derive(Clone, Copy, Debug)]
@@ -76,7 +76,7 @@ fn first_of(page: u64, relro: Option<Extent>) -> u64
 
 // Whether the bytes that a load has in the file contain the byte at an offset.
 #[inline(always)]
-fn holds_offset(offset: u64, load: &ProgramHeader64) -> bool
+fn holds_offset(offset: u64, load: &Segment) -> bool
     ensures { result ≡ holds_offset offset load.now }
 {
     load.offset <= offset && offset - load.offset < load.file_size
@@ -84,28 +84,28 @@ fn holds_offset(offset: u64, load: &ProgramHeader64) -> bool
 
 // Whether a load puts the byte at an offset, which it has, at an address.
 #[inline(always)]
-fn is_put_at(offset: u64, address: u64, load: &ProgramHeader64) -> bool
-    ensures { result ≡ (load.now.virtual_addr + (offset - load.now.offset) == address) }
+fn is_put_at(offset: u64, address: u64, load: &Segment) -> bool
+    ensures { result ≡ (load.now.address + (offset - load.now.offset) == address) }
 {
-    let start = load.virtual_addr;
+    let start = load.address;
     start <= address && address - start == offset.saturating_sub(load.offset)
 }
 
 // Whether the bytes of a template are in the memory of a load.
 #[inline(always)]
-fn holds_template(tls: &Tls, load: &ProgramHeader64) -> bool
+fn holds_template(tls: &Tls, load: &Segment) -> bool
     ensures { result ≡ holds_some (Some tls.now) load.now }
 {
-    if tls.address < load.virtual_addr {
+    if tls.address < load.address {
         return false;
     }
-    let before = tls.address - load.virtual_addr;
+    let before = tls.address - load.address;
     before <= load.mem_size && tls.file_size <= load.mem_size - before
 }
 
 // Whether the bytes of a template, if there is one, are in the memory of a load.
 #[inline(always)]
-fn holds_some(tls: &Option<Tls>, load: &ProgramHeader64) -> bool
+fn holds_some(tls: &Option<Tls>, load: &Segment) -> bool
     ensures { result ≡ holds_some tls.now load.now }
 {
     match tls {
@@ -116,12 +116,12 @@ fn holds_some(tls: &Option<Tls>, load: &ProgramHeader64) -> bool
 
 // The first page that is in no load, once a load follows, which ends at `end`.
 #[inline(always)]
-fn covered_with(page: u64, end: u64, covered: u64, load: &ProgramHeader64) -> u64
+fn covered_with(page: u64, end: u64, covered: u64, load: &Segment) -> u64
     requires page { 0 < page }
     requires end { end ≡ load_end page load.now }
     ensures { result ≡ covered_with page covered load.now }
 {
-    if down(page, load.virtual_addr) <= covered && covered < end {
+    if down(page, load.address) <= covered && covered < end {
         return end;
     }
     covered
@@ -130,13 +130,13 @@ fn covered_with(page: u64, end: u64, covered: u64, load: &ProgramHeader64) -> u6
 impl Pass {
     // Keeps what is asked of the next load, which ends at `end`.
     #[inline(always)]
-    fn keep(&mut self, page: u64, end: u64, wanted: &Wanted, load: &ProgramHeader64)
+    fn keep(&mut self, page: u64, end: u64, wanted: &Wanted, load: &Segment)
         requires page { 0 < page }
         requires end { end ≡ load_end page load.now }
         ensures { self.new ≡ pass_with page wanted.now self.old load.now }
     {
         if self.end.is_none() {
-            self.start = down(page, load.virtual_addr);
+            self.start = down(page, load.address);
         }
         self.end = Some(end);
         if holds_offset(wanted.offset, load) {
@@ -159,10 +159,10 @@ pub(crate) fn pass_loads(
     loads: Loads<'_>,
 ) -> Result<Pass, LoadError>
     requires { 0 < page }
-    ensures checked { let list = loads_rest loads.entry in MatchResult result
+    ensures checked { let list = loads_left loads.entry in MatchResult result
         (λ pass. check_loads page limit len None list ≡ Ok pass.end)
         (λ error. check_loads page limit len None list ≡ Err error) }
-    ensures found { IfOk result (IsPassOf page wanted.now (loads_rest loads.entry)) }
+    ensures found { IfOk result (IsPassOf page wanted.now (loads_left loads.entry)) }
 {
     let mut pass = Pass {
         start: 0,

@@ -1,58 +1,66 @@
 //! The loads of a file, one after the other.
 
 ghost use Rattle.std.specs.Prelude.{◌≡◌, length};
-ghost use Rattle.elf_loading.specs.Programs.{loads_left};
+ghost use Rattle.elf_loading.specs.LoadsAmong.{loads_among};
 
-use crate::programs::Programs;
-use crate::segments::PT_LOAD;
-use xmas_elf::program::ProgramHeader64;
+use crate::segments::{PT_LOAD, sort};
+use elf_linking::{Segment, Segments};
+use xmas_elf::ElfFile;
 
 // The loads of a file, in the order of its program headers.
 #[derive(Clone, Copy, Debug)]
 pub(crate) struct Loads<'a> {
-    pub(crate) programs: Programs<'a>,
+    pub(crate) segments: Segments<'a>,
     // The number of loads that are left. After the last no program header is read.
     pub(crate) left: u16,
-    ghost counted: { left ≡ length (loads_left programs) },
+    ghost counted: { left ≡ length (loads_among segments) },
 }
 
-impl Loads<'_> {
+impl<'a> Loads<'a> {
     ghost use Rattle.std.specs.Iterator.{YieldsFirst};
-    ghost use Rattle.elf_loading.specs.Loads.{loads_rest};
+    ghost use Rattle.elf_loading.specs.Loads.{loads_left};
+    ghost use Rattle.elf_loading.specs.Segments.{loads_of};
+
+    // All loads of a file.
+    pub(crate) fn of(file: &ElfFile<'a>) -> Loads<'a>
+        ensures { loads_left result ≡ loads_of file.now }
+    {
+        sort(Segments::of(file)).loads
+    }
 
     // The next load.
     #[tactic(auto, using(crate::proofs::Lists::load_kept, crate::proofs::Lists::load_skipped, crate::proofs::Lists::some_more, crate::proofs::Lists::none_left, crate::proofs::Lists::count_kept))]
     #[inline(always)]
-    pub(crate) fn step(&mut self) -> Option<ProgramHeader64>
-        ensures { YieldsFirst loads_rest self.old result self.new }
+    pub(crate) fn step(&mut self) -> Option<Segment>
+        ensures { YieldsFirst loads_left self.old result self.new }
     {
         if self.left == 0 {
             return None;
         }
-        let mut programs = self.programs;
-        while programs.kind() != PT_LOAD {
-            programs = programs.rest();
+        let mut segments = self.segments;
+        while segments.kind() != PT_LOAD {
+            segments = segments.rest();
         }
         *self = Loads {
-            programs: programs.rest(),
+            segments: segments.rest(),
             left: self.left - 1,
         };
-        Some(programs.segment())
+        Some(segments.segment())
     }
 }
 
 impl Iterator for Loads<'_> {
     ghost use Rattle.std.specs.Iterator.{YieldsFirst, item_count};
-    ghost use Rattle.elf_loading.specs.Loads.{loads_rest};
+    ghost use Rattle.elf_loading.specs.Loads.{loads_left};
 
-    type Item = ProgramHeader64;
+    type Item = Segment;
 
-    ghost next_gives = { YieldsFirst loads_rest };
+    ghost next_gives = { YieldsFirst loads_left };
 
-    ghost remaining = { item_count loads_rest };
+    ghost remaining = { item_count loads_left };
 
     #[inline(always)]
-    fn next(&mut self) -> Option<ProgramHeader64> {
+    fn next(&mut self) -> Option<Segment> {
         self.step()
     }
 }

@@ -8,7 +8,8 @@ ghost use Rattle.elf_loading.specs.Mappings.{mapped_end, maps_file};
 
 use crate::load_check::{file_end, load_end};
 use crate::pages::down;
-use xmas_elf::program::{Flags, ProgramHeader64};
+use elf_linking::Segment;
+use xmas_elf::program::Flags;
 
 /// Whose way of mapping: they differ in what they leave in the rest of a page.
 #[derive(Clone, Copy, Debug, PartialEq, Eq)]
@@ -48,7 +49,7 @@ pub struct Mapping {
 
 // The end of the pages of the file that a loader maps for a load.
 #[inline(always)]
-pub(crate) fn mapped_end(page: u64, limit: u64, by: Loader, load: &ProgramHeader64) -> u64
+pub(crate) fn mapped_end(page: u64, limit: u64, by: Loader, load: &Segment) -> u64
     requires page { 0 < page }
     requires fits { fits_below page limit load.now ≡ true }
     ensures { result ≡ mapped_end page by load.now }
@@ -60,7 +61,7 @@ pub(crate) fn mapped_end(page: u64, limit: u64, by: Loader, load: &ProgramHeader
     if mapped {
         return file_end(page, limit, load);
     }
-    down(page, load.virtual_addr)
+    down(page, load.address)
 }
 
 // The mappings of a load that are still to be returned: those from the address `at` on. What is
@@ -85,13 +86,13 @@ impl Parts {
         limit: u64,
         by: Loader,
         before: Option<u64>,
-        load: &ProgramHeader64,
+        load: &Segment,
     ) -> Parts
         requires page { 0 < page }
         requires fits { fits_below page limit load.now ≡ true }
         ensures { result ≡ parts_of page by before load.now }
     {
-        let start = down(page, load.virtual_addr);
+        let start = down(page, load.address);
         let at = match (by, before) {
             (Loader::Glibc, Some(before)) => before.min(start),
             _ => start,

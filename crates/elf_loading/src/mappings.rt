@@ -3,7 +3,7 @@
 ghost use Rattle.std.specs.Prelude.{◌≡◌, ◌<◌, true};
 ghost use Rattle.std.specs.List.{list_all};
 ghost use Rattle.elf_loading.specs.LoadCheck.{fits_below};
-ghost use Rattle.elf_loading.specs.Loads.{loads_rest};
+ghost use Rattle.elf_loading.specs.Loads.{loads_left};
 
 use crate::load_check::load_end;
 use crate::loads::Loads;
@@ -22,7 +22,7 @@ pub struct Mappings<'a> {
     pub(crate) before: Option<u64>,
     pub(crate) parts: Parts,
     ghost paged: { 0 < page },
-    ghost fit: { list_all (fits_below page limit) (loads_rest loads) ≡ true },
+    ghost fit: { list_all (fits_below page limit) (loads_left loads) ≡ true },
 }
 
 impl<'a> LoadPlan<'a> {
@@ -33,7 +33,7 @@ impl<'a> LoadPlan<'a> {
     ghost use Rattle.elf_loading.specs.Spans.{span_of};
 
     /// What a loader maps before relocation, in the order of addresses.
-    #[tactic(auto, unfolding(crate::specs::MappingsLeft::mappings_left), using(crate::proofs::FileChecks::passes_fit, crate::proofs::FileChecks::passes_follow, crate::proofs::PartsLeft::nothing_left))]
+    #[tactic(auto, unfolding(crate::specs::MappingsLeft::mappings_left), using(crate::proofs::FileChecks::passes_fit, crate::proofs::PartsLeft::nothing_left))]
     pub fn mappings(&self, by: Loader) -> Mappings<'a>
         ensures all { mappings_left result
             ≡ mappings_of self.now.page by None (plan_loads self.now) }

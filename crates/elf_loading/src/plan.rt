@@ -2,7 +2,7 @@
 
 ghost use Rattle.std.specs.Prelude.{◌<◌, ◌≡◌, true};
 ghost use Rattle.elf_loading.specs.FileCheck.{check_file};
-ghost use Rattle.elf_loading.specs.Loads.{loads_rest};
+ghost use Rattle.elf_loading.specs.Loads.{loads_left};
 ghost use Rattle.elf_loading.specs.Others.{AreOthersOf};
 ghost use Rattle.elf_loading.specs.Segments.{loads_of};
 ghost use Rattle.elf_loading.specs.Spans.{ends_at, first_start};
@@ -15,6 +15,7 @@ use crate::segments::{Extent, Others};
 use crate::span::Span;
 use xmas_elf::ElfFile;
 use xmas_elf::bytes::bytes_up_to_zero;
+use xmas_elf::header::Header;
 use xmas_elf::program::Flags;
 
 /// What a loader puts into memory for a file that Linux and glibc load.
@@ -22,9 +23,11 @@ use xmas_elf::program::Flags;
 /// Addresses are relative to the base: the addresses of the file for a file of type 2 (ET_EXEC); for
 /// type 3 (ET_DYN) a loader adds a number of its choice to each, such that the start of the span is
 /// a multiple of the greatest alignment of the load segments.
-#[derive(Debug, Drop)]
+#[derive(Clone, Copy, Debug)]
 pub struct LoadPlan<'a> {
-    pub(crate) file: ElfFile<'a>,
+    // The file, whose type can't be copied.
+    pub(crate) input: &'a [u8],
+    pub(crate) header: Header,
     pub(crate) page: u64,
     pub(crate) limit: u64,
     pub(crate) start: u64,
@@ -32,10 +35,11 @@ pub struct LoadPlan<'a> {
     pub(crate) loads: Loads<'a>,
     pub(crate) others: Others,
     ghost paged: { 0 < page },
-    ghost checked: { ends_at (check_file file page limit) end ≡ true },
-    ghost begins: { first_start page (loads_of file) ≡ start },
-    ghost found: { AreOthersOf file others },
-    ghost read: { loads_rest loads ≡ loads_of file },
+    ghost checked: { ends_at (check_file (record { input = input; header = header }) page limit) end
+        ≡ true },
+    ghost begins: { first_start page (loads_of (record { input = input; header = header })) ≡ start },
+    ghost found: { AreOthersOf (record { input = input; header = header }) others },
+    ghost read: { loads_left loads ≡ loads_of (record { input = input; header = header }) },
 }
 
 /// The template of thread-local storage (gABI, "Thread-Local Storage").
@@ -59,9 +63,9 @@ impl<'a> LoadPlan<'a> {
     ghost use Rattle.elf_base.specs.Text.{EndsInZero};
     ghost use Rattle.elf_base.specs.Lent.{LiesAt};
     ghost use Rattle.elf_loading.specs.Others.{data_of, memory_of};
-    ghost use Rattle.elf_loading.specs.Plan.{IsPlanOf, plan_loads, plan_relro};
+    ghost use Rattle.elf_loading.specs.Plan.{IsPlanOf, plan_file, plan_loads, plan_relro, plan_span};
     ghost use Rattle.elf_loading.specs.Segments.{interpreter_of, relro_of, stack_of, tls_of};
-    ghost use Rattle.elf_loading.specs.Spans.{HasUncovered, IsCovered, relro_span, span_of};
+    ghost use Rattle.elf_loading.specs.Spans.{HasUncovered, IsCovered, relro_span};
     ghost use Rattle.elf_loading.specs.declared.error.LoadError.TheVariants.{Relro};
 
     /// The plan for a file.
@@ -80,10 +84,8 @@ impl<'a> LoadPlan<'a> {
     {
         let found = check_file(page, limit, file)?;
         Ok(LoadPlan {
-            file: ElfFile {
-                input: file.input,
-                header: file.header,
-            },
+            input: file.input,
+            header: file.header,
             page,
             limit,
             start: found.span.start,
@@ -96,7 +98,7 @@ impl<'a> LoadPlan<'a> {
     /// The addresses from the first page of the first load segment to the last of the last one.
     #[tactic(auto, using(crate::proofs::FileChecks::passes_end, crate::proofs::FileChecks::passes_order))]
     pub fn span(&self) -> Span
-        ensures value { result ≡ span_of self.now.page (plan_loads self.now) }
+        ensures value { result ≡ plan_span self.now }
         ensures order { result.start ≤ result.end }
     {
         Span {
@@ -107,15 +109,15 @@ impl<'a> LoadPlan<'a> {
 
     /// The address of the entry point (e_entry).
     pub fn entry(&self) -> u64
-        ensures { result ≡ (header_fields self.now.file.header.pt2).entry_point }
+        ensures { result ≡ (header_fields (plan_file self.now).header.pt2).entry_point }
     {
-        self.file.header.pt2.entry_point()
+        self.header.pt2.entry_point()
     }
 
     // The load segments, in the order of the program headers.
     #[inline(always)]
     pub(crate) fn loads(&self) -> Loads<'a>
-        ensures { loads_rest result ≡ plan_loads self.now }
+        ensures { loads_left result ≡ plan_loads self.now }
     {
         self.loads
     }
@@ -123,7 +125,7 @@ impl<'a> LoadPlan<'a> {
     // The memory of the last PT_GNU_RELRO.
     #[inline(always)]
     fn last_relro(&self) -> Option<Extent>
-        ensures { result ≡ option_map memory_of (relro_of self.now.file) }
+        ensures { result ≡ option_map memory_of (relro_of (plan_file self.now)) }
     {
         self.others.relro
     }
@@ -131,7 +133,7 @@ impl<'a> LoadPlan<'a> {
     // The bytes in the file of the first PT_INTERP.
     #[inline(always)]
     fn first_interpreter(&self) -> Option<Extent>
-        ensures { result ≡ option_map data_of (interpreter_of self.now.file) }
+        ensures { result ≡ option_map data_of (interpreter_of (plan_file self.now)) }
     {
         self.others.interpreter
     }
@@ -155,11 +157,11 @@ impl<'a> LoadPlan<'a> {
     /// The template of thread-local storage: the last PT_TLS that is not empty.
     pub fn tls(&self) -> Option<Tls>
         ensures { result ≡ option_map (λ tls. record {
-          address = tls.virtual_addr;
+          address = tls.address;
           file_size = tls.file_size;
           mem_size = tls.mem_size;
           align = tls.align;
-        }) (tls_of self.now.file) }
+        }) (tls_of (plan_file self.now)) }
     {
         self.others.tls
     }
@@ -169,14 +171,14 @@ impl<'a> LoadPlan<'a> {
     /// Without one the machine's default holds. In a program for 386 all that is readable is then
     /// executable, in its libraries too.
     pub fn stack(&self) -> Option<Flags>
-        ensures { result ≡ option_map (λ stack. stack.flags) (stack_of self.now.file) }
+        ensures { result ≡ option_map (λ stack. stack.flags) (stack_of (plan_file self.now)) }
     {
         self.others.stack
     }
 
     /// The offset in the file of the path of the program interpreter: that of the first PT_INTERP.
     pub fn interpreter_offset(&self) -> Option<u64>
-        ensures { result ≡ option_map (λ segment. segment.offset) (interpreter_of self.now.file) }
+        ensures { result ≡ option_map (λ segment. segment.offset) (interpreter_of (plan_file self.now)) }
     {
         self.first_interpreter().map(|path| path.start)
     }
@@ -185,13 +187,13 @@ impl<'a> LoadPlan<'a> {
     /// PT_INTERP up to the first zero.
     #[tactic(auto, using(crate::proofs::FileChecks::passes_path, crate::proofs::FileChecks::path_none))]
     pub fn interpreter(&self) -> Option<&'a [u8]>
-        ensures missing { IfNone result (interpreter_of self.now.file ≡ None) }
-        ensures found { IfSome result (λ path. MatchOption (interpreter_of self.now.file) ⊥
-            (λ segment. EndsInZero self.now.file.input.now segment.offset path.now
-            × LiesAt self.now.file.input segment.offset path)) }
+        ensures missing { IfNone result (interpreter_of (plan_file self.now) ≡ None) }
+        ensures found { IfSome result (λ path. MatchOption (interpreter_of (plan_file self.now)) ⊥
+            (λ segment. EndsInZero (plan_file self.now).input.now segment.offset path.now
+            × LiesAt (plan_file self.now).input segment.offset path)) }
     {
         let place = self.first_interpreter()?;
-        match bytes_up_to_zero(self.file.input, place.start as usize) {
+        match bytes_up_to_zero(self.input, place.start as usize) {
             Ok(path) => Some(path),
             Err(_) => unreachable!(),
         }

@@ -7,38 +7,32 @@ ghost use Rattle.elf_base.specs.Table.{table_items};
 ghost use Rattle.elf_linking.specs.DynamicObject.{object_records, object_view};
 ghost use Rattle.elf_linking.specs.DynamicView.{view_entries};
 ghost use Rattle.elf_linking.specs.References.{file_machine};
+ghost use Rattle.elf_linking.specs.RelocationTypes.{relative_of};
 ghost use Rattle.elf_linking.specs.Scope.{scope_objects};
-ghost use Rattle.elf_loading.specs.Pages.{up};
-ghost use Rattle.elf_loading.specs.RelativeWords.{IsItemWritten, relative_of, relative_word};
+ghost use Rattle.elf_loading.specs.RelativeWords.{IsItemWritten, relative_word};
 ghost use Rattle.elf_loading.specs.Relocate.{AreWordsFor, IsRelocation, IsRelocationIn, IsWriting};
 ghost use Rattle.elf_loading.specs.Relocate.{byte_of_number, has_no_number, image_at};
 ghost use Rattle.elf_loading.specs.Relocate.{is_copy_outside, is_outside, is_unresolved, is_weak};
 ghost use Rattle.elf_loading.specs.Relocate.{is_wrong_size};
 ghost use Rattle.elf_loading.specs.Relocate.{origin_sum, place_at, start_at, value_byte};
 ghost use Rattle.elf_loading.specs.Relocate.{value_number, word_byte, write_item, write_word};
-ghost use Rattle.elf_loading.specs.Segments.{loads_of};
-ghost use Rattle.elf_loading.specs.Spans.{first_start, last_end};
 ghost use Rattle.elf_loading.specs.Words.{HasWord, binds_lazily};
 ghost use Rattle.elf_loading.specs.WordsLeft.{words_file, words_index, words_lazy, words_left};
 ghost use Rattle.elf_loading.specs.WordsLeft.{words_objects, words_own};
 ghost use Rattle.elf_loading.specs.declared.error.LoadError.TheVariants.{CopySource};
-ghost use Rattle.xmas_elf.specs.ProgramTable.{program_table_file};
 
 use crate::LoadError;
-use crate::file_loads::file_loads;
 use crate::in_order::Relocation;
-use crate::pages::{down, end_down};
+use crate::plan::LoadPlan;
 use crate::value::{Origin, Value, low};
 use crate::words::{Binding, Relocated, Word, Words, binds_lazily, needs_symbol};
 use elf_base::bytes::Record;
-use elf_linking::references::types::{
-    EM_386, EM_AARCH64, EM_X86_64, R_386_RELATIVE, R_AARCH64_RELATIVE, R_X86_64_RELATIVE,
-};
+use elf_linking::references::relative_of;
+use elf_linking::references::types::Row;
 use elf_linking::scope::Scope;
 use elf_linking::view::LinkedSymbol;
 use elf_linking::{DynamicObject, LinkError};
 use xmas_elf::bytes::Order;
-use xmas_elf::program::ProgramTable;
 
 /// Where an object is loaded.
 #[derive(Clone, Copy, Debug, PartialEq, Eq)]
@@ -51,18 +45,11 @@ pub struct Place {
     pub thread: u64,
 }
 
-// The type of the relative relocations of a machine, and the number of bytes that they write.
-#[derive(Clone, Copy, Debug)]
-pub(crate) struct Relative {
-    kind: u32,
-    width: u32,
-}
-
 // What the words of an object are written by.
 #[derive(Drop)]
 pub(crate) struct Sources<'b, 's, 'a, E: Record> {
     objects: &'s [DynamicObject<'a, E>],
-    page: u64,
+    plans: &'s [LoadPlan<'a>],
     // The index of the own object.
     of: usize,
     // The byte order of the own object.
@@ -185,30 +172,9 @@ fn write_bytes(image: &mut [u8], index: usize, bytes: &[u8])
     image[index..index + bytes.len()].copy_from_slice(bytes);
 }
 
-// The relative relocations of a machine, if it is supported.
-fn relative_of(machine: u16) -> Option<Relative>
-    ensures { result ≡ relative_of machine }
-{
-    match machine {
-        EM_X86_64 => Some(Relative {
-            kind: R_X86_64_RELATIVE,
-            width: 8,
-        }),
-        EM_386 => Some(Relative {
-            kind: R_386_RELATIVE,
-            width: 4,
-        }),
-        EM_AARCH64 => Some(Relative {
-            kind: R_AARCH64_RELATIVE,
-            width: 8,
-        }),
-        _ => None,
-    }
-}
-
 // The word of a relative relocation whose addend is in its record, for the object at index `of`.
 #[inline(always)]
-fn relative_word(of: usize, relative: &Option<Relative>, relocation: &Relocation) -> Option<Word>
+fn relative_word(of: usize, relative: &Option<Row>, relocation: &Relocation) -> Option<Word>
     ensures { result ≡ relative_word of relative.now relocation.now }
 {
     let Some(relative) = relative else {
@@ -263,43 +229,6 @@ fn counted(count: u64, lacks: bool) -> u64
     }
 }
 
-// The first address of the pages of the first load, or 0 if there is none.
-fn first_start(page: u64, table: ProgramTable<'_, '_>) -> u64
-    requires { 0 < page }
-    ensures { result ≡ first_start page (loads_of (program_table_file table.entry)) }
-{
-    match file_loads(table).next() {
-        Some(load) => down(page, load.virtual_addr),
-        None => 0,
-    }
-}
-
-// The first address from `start + size` on at which a page begins.
-#[tactic(auto, using(crate::proofs::NumberBytes::up_all, crate::proofs::NumberBytes::up_over, crate::proofs::Rounded::down_le))]
-fn end_up(page: u64, start: u64, size: u64) -> u128
-    requires { 0 < page }
-    ensures value { result ≡ up page (start + size) }
-{
-    let end = end_down(page, start, size);
-    let sum = u128::from(start) + u128::from(size);
-    if end == sum {
-        return end;
-    }
-    end + u128::from(page)
-}
-
-// The end of the pages of the last load, or 0 if there is none.
-fn last_end(page: u64, table: ProgramTable<'_, '_>) -> u128
-    requires { 0 < page }
-    ensures { result ≡ last_end page 0 (loads_of (program_table_file table.entry)) }
-{
-    let mut end = 0;
-    for load in file_loads(table) {
-        end = end_up(page, load.virtual_addr, load.mem_size);
-    }
-    end
-}
-
 // The index of the first of some bytes in an image of `len` bytes that begins at `start`, if they are
 // all in it.
 #[inline(always)]
@@ -322,11 +251,10 @@ fn index_in(start: u64, len: usize, address: u64, width: u64) -> Option<usize>
 impl<'b, 's, 'a, E: LinkedSymbol> Sources<'b, 's, 'a, E> {
     // The first address of the image of an object.
     fn start_at(&self, object: usize) -> u64
-        requires { 0 < self.now.page }
         ensures { result ≡ start_at self.now object }
     {
-        match self.objects.get(object) {
-            Some(object) => first_start(self.page, object.file().program_table()),
+        match self.plans.get(object) {
+            Some(plan) => plan.span().start,
             None => 0,
         }
     }
@@ -350,7 +278,6 @@ impl<'b, 's, 'a, E: LinkedSymbol> Sources<'b, 's, 'a, E> {
         object: usize,
         offset: u64,
     ) -> Result<(), LoadError>
-        requires page { 0 < self.now.page }
         requires some { 0 < width }
         requires within { index + width ≤ length image.old }
         ensures len { length image.new ≡ length image.old }
@@ -379,7 +306,6 @@ impl<'b, 's, 'a, E: LinkedSymbol> Sources<'b, 's, 'a, E> {
         width: usize,
         value: &Value,
     ) -> Result<(), LoadError>
-        requires page { 0 < self.now.page }
         requires some { 0 < width }
         requires within { index + width ≤ length image.old }
         ensures len { length image.new ≡ length image.old }
@@ -403,7 +329,6 @@ impl<'b, 's, 'a, E: LinkedSymbol> Sources<'b, 's, 'a, E> {
     // Writes a word to an image that begins at `start`, and returns whether it has no number.
     #[inline(always)]
     fn write_word(&self, start: u64, image: &mut [u8], word: &Word) -> Result<bool, LoadError>
-        requires page { 0 < self.now.page }
         requires start { start ≡ start_at self.now self.now.of }
         ensures len { length image.new ≡ length image.old }
         ensures result { result ≡ write_word self.now (length image.old) word.now }
@@ -432,7 +357,6 @@ impl<'b, 's, 'a, E: LinkedSymbol> Sources<'b, 's, 'a, E> {
         image: &mut [u8],
         item: &Relocated<E>,
     ) -> Result<bool, LoadError>
-        requires page { 0 < self.now.page }
         requires start { start ≡ start_at self.now self.now.of }
         ensures len { length image.new ≡ length image.old }
         ensures result { result ≡ write_item E.fields self.now own.now lazy (length image.old) item.now }
@@ -457,7 +381,6 @@ impl<'b, 's, 'a, E: LinkedSymbol> Sources<'b, 's, 'a, E> {
         last: &mut Option<Relocated<E>>,
         image: &mut [u8],
     ) -> Result<bool, LoadError>
-        requires page { 0 < self.now.page }
         requires start { start ≡ start_at self.now self.now.of }
         requires words { AreWordsFor self.now.objects.now (words_own words.now) self.now.of
             (words_lazy words.now) words.now }
@@ -480,13 +403,12 @@ impl<'b, 's, 'a, E: LinkedSymbol> Sources<'b, 's, 'a, E> {
     fn write_next(
         &self,
         words: &Words<'s, 'a, E>,
-        relative: &Option<Relative>,
+        relative: &Option<Row>,
         start: u64,
         relocation: Relocation,
         last: &mut Option<Relocated<E>>,
         image: &mut [u8],
     ) -> Result<bool, LoadError>
-        requires page { 0 < self.now.page }
         requires start { start ≡ start_at self.now self.now.of }
         requires words { AreWordsFor self.now.objects.now (words_own words.now) self.now.of
             (words_lazy words.now) words.now }
@@ -513,7 +435,6 @@ impl<'b, 's, 'a, E: LinkedSymbol> Sources<'b, 's, 'a, E> {
         words: Words<'s, 'a, E>,
         image: &mut [u8],
     ) -> Result<u64, LoadError>
-        requires page { 0 < self.now.page }
         requires words { AreWordsFor self.now.objects.now own.now self.now.of lazy words }
         ensures { IsWriting E.fields self.now own.now lazy (words_left words.entry) image.old
             image.new result }
@@ -530,35 +451,34 @@ impl<'b, 's, 'a, E: LinkedSymbol> Sources<'b, 's, 'a, E> {
         Ok(count)
     }
 
-    // Whether an image of this size is not that of an object, or there are not as many places or
+    // Whether an image of this size is not that of a plan, or there are not as many plans, places or
     // images as objects.
-    fn is_wrong_size(&self, own: &DynamicObject<'a, E>, len: usize) -> bool
-        requires { 0 < self.now.page }
-        ensures { result ≡ is_wrong_size self.now own.now len }
+    fn is_wrong_size(&self, plan: &LoadPlan<'_>, len: usize) -> bool
+        ensures { result ≡ is_wrong_size self.now plan.now len }
     {
-        let file = own.file();
-        let table = file.program_table();
-        let start = u128::from(first_start(self.page, table));
-        let size = last_end(self.page, table).saturating_sub(start);
+        let span = plan.span();
         let count = self.objects.len();
-        len as u128 != size || self.places.len() != count || self.images.len() != count
+        len as u64 != span.end - span.start
+            || self.plans.len() != count
+            || self.places.len() != count
+            || self.images.len() != count
     }
 
-    // Writes the words of the own object to its image.
+    // Writes the words of the own object to its image, which has this plan.
     fn relocate(
         &self,
         scope: Scope<'s, 'a, E>,
         own: &DynamicObject<'a, E>,
+        plan: &LoadPlan<'_>,
         when: Binding,
         image: &mut [u8],
     ) -> Result<u64, LoadError>
-        requires page { 0 < self.now.page }
         requires scope { scope_objects scope ≡ self.now.objects }
         requires own { slice_get self.now.objects.now self.now.of ≡ Some own.now }
-        ensures { IsRelocation E.fields self.now own.now
+        ensures { IsRelocation E.fields self.now own.now plan.now
             (binds_lazily (view_entries (object_view own.now)) when) image.old image.new result }
     {
-        if self.is_wrong_size(own, image.len()) {
+        if self.is_wrong_size(plan, image.len()) {
             return Err(LoadError::ImageSize);
         }
         match Words::new(scope, self.of, when) {
@@ -577,36 +497,39 @@ fn is_unresolved<E: LinkedSymbol>(
     ensures { result ≡ is_unresolved E.fields own.now lazy item.now }
 {
     let machine = own.file().header.pt2.machine().raw();
-    needs_symbol(machine, lazy, &item.relocation)
-        && matches!(item.bound, Ok(None))
+    matches!(item.bound, Ok(None))
+        && needs_symbol(machine, lazy, &item.relocation)
         && !is_weak(own, item.relocation.reference.symbol)
 }
 
-// Writes the words of the object at an index of a scope to its image.
-pub(crate) fn relocate<E: LinkedSymbol>(
-    scope: Scope<'_, '_, E>,
+// Writes the words of the object at an index of a scope with these plans to its image.
+#[tactic(auto, using(crate::proofs::ImageChecks::no_object, crate::proofs::ImageChecks::no_plan))]
+pub(crate) fn relocate<'s, 'a, E: LinkedSymbol>(
+    scope: Scope<'s, 'a, E>,
+    plans: &'s [LoadPlan<'a>],
     of: usize,
     when: Binding,
-    page: u64,
     places: &[Place],
     others: &[&[u8]],
     image: &mut [u8],
 ) -> Result<u64, LoadError>
-    requires { 0 < page }
-    ensures { IsRelocationIn E.fields (scope_objects scope.entry) of when page places.entry others.entry
-        image.old image.new result }
+    ensures { IsRelocationIn E.fields (scope_objects scope.entry) plans.entry of when places.entry
+        others.entry image.old image.new result }
 {
     let objects = scope.objects();
     let Some(own) = objects.get(of) else {
         return Err(LoadError::Link(LinkError::ObjectIndex));
     };
+    let Some(plan) = plans.get(of) else {
+        return Err(LoadError::Link(LinkError::ObjectIndex));
+    };
     let sources = Sources {
         objects,
-        page,
+        plans,
         of,
         order: own.file().byte_order(),
         places,
         images: others,
     };
-    sources.relocate(scope, own, when, image)
+    sources.relocate(scope, own, plan, when, image)
 }

@@ -1,15 +1,16 @@
 //! The segments that a loader asks for, by their type (gABI, "Program Header", p_type).
 
 ghost use Rattle.std.specs.Prelude.{◌≡◌};
-ghost use Rattle.elf_loading.specs.Loads.{loads_rest};
+ghost use Rattle.elf_loading.specs.Loads.{loads_left};
 ghost use Rattle.elf_loading.specs.Others.{AreOthersIn, data_of, is_kept, memory_of, others_with};
 ghost use Rattle.elf_loading.specs.Others.{template_of};
-ghost use Rattle.elf_loading.specs.Programs.{loads_left, segments_left};
+ghost use Rattle.elf_loading.specs.LoadsAmong.{loads_among};
+ghost use Rattle.elf_linking.specs.SegmentsLeft.{segments_left};
 
 use crate::loads::Loads;
 use crate::plan::Tls;
-use crate::programs::Programs;
-use xmas_elf::program::{Flags, ProgramHeader64, TYPE_GNU_RELRO};
+use elf_linking::{Segment, Segments};
+use xmas_elf::program::{Flags, TYPE_GNU_RELRO};
 
 pub(crate) const PT_LOAD: u32 = 1;
 
@@ -46,18 +47,18 @@ pub(crate) struct Others {
 
 // The memory of a segment.
 #[inline(always)]
-fn memory_of(segment: &ProgramHeader64) -> Extent
+fn memory_of(segment: &Segment) -> Extent
     ensures { result ≡ memory_of segment.now }
 {
     Extent {
-        start: segment.virtual_addr,
+        start: segment.address,
         size: segment.mem_size,
     }
 }
 
 // The bytes that a segment has in the file.
 #[inline(always)]
-fn data_of(segment: &ProgramHeader64) -> Extent
+fn data_of(segment: &Segment) -> Extent
     ensures { result ≡ data_of segment.now }
 {
     Extent {
@@ -68,11 +69,11 @@ fn data_of(segment: &ProgramHeader64) -> Extent
 
 // The template that a segment describes.
 #[inline(always)]
-fn template_of(segment: &ProgramHeader64) -> Tls
+fn template_of(segment: &Segment) -> Tls
     ensures { result ≡ template_of segment.now }
 {
     Tls {
-        address: segment.virtual_addr,
+        address: segment.address,
         file_size: segment.file_size,
         mem_size: segment.mem_size,
         align: segment.align,
@@ -93,11 +94,11 @@ fn is_kept(kind: u32) -> bool
 impl Others {
     // Keeps a segment that a loader asks for.
     #[inline(always)]
-    fn keep(&mut self, segment: &ProgramHeader64)
+    fn keep(&mut self, segment: &Segment)
         ensures { self.new ≡ others_with self.old segment.now }
     {
-        match segment.type_.raw() {
-            PT_PHDR => self.phdr = Some(segment.virtual_addr),
+        match segment.kind {
+            PT_PHDR => self.phdr = Some(segment.address),
             TYPE_GNU_RELRO => self.relro = Some(memory_of(segment)),
             PT_GNU_STACK => self.stack = Some(segment.flags),
             PT_TLS => {
@@ -125,9 +126,9 @@ pub(crate) struct Sorted<'a> {
 // The segments that a loader asks for, in one pass over the program headers.
 #[tactic(auto, using(crate::proofs::Others::all_left, crate::proofs::Others::rest_left, crate::proofs::Others::rest_same, crate::proofs::Others::load_same, crate::proofs::Lists::count_load, crate::proofs::Lists::count_other, crate::proofs::Lists::count_all))]
 #[inline(always)]
-pub(crate) fn sort(programs: Programs<'_>) -> Sorted<'_>
-    ensures others { AreOthersIn (segments_left programs.entry) result.others }
-    ensures loads { loads_rest result.loads ≡ loads_left programs.entry }
+pub(crate) fn sort(segments: Segments<'_>) -> Sorted<'_>
+    ensures others { AreOthersIn (segments_left segments.entry) result.others }
+    ensures loads { loads_left result.loads ≡ loads_among segments.entry }
 {
     let mut others = Others {
         phdr: None,
@@ -137,8 +138,8 @@ pub(crate) fn sort(programs: Programs<'_>) -> Sorted<'_>
         interpreter: None,
     };
     let mut count = 0;
-    let mut left = programs;
-    while left.left > 0 {
+    let mut left = segments;
+    while left.count_left() > 0 {
         let kind = left.kind();
         if kind == PT_LOAD {
             count += 1;
@@ -150,7 +151,7 @@ pub(crate) fn sort(programs: Programs<'_>) -> Sorted<'_>
     Sorted {
         others,
         loads: Loads {
-            programs,
+            segments,
             left: count,
         },
     }

@@ -7,7 +7,7 @@ ghost use Rattle.elf_loading.specs.Values.{absent_value, bound_value, bytes_of, 
 ghost use Rattle.elf_loading.specs.Values.{is_indirect, low, module_value, object_of};
 ghost use Rattle.elf_loading.specs.Values.{origin_of, size_of, target_of, value_of};
 
-use crate::formulas::Formula;
+use elf_linking::references::Formula;
 use elf_linking::scope::Bound;
 use elf_linking::view::LinkedSymbol;
 

@@ -3,7 +3,7 @@
 ghost use Rattle.std.specs.Prelude.{◌≡◌, ◌<◌, ◌≤◌, ◌^◌, Err, IfOk, IfSome, MatchResult, Ok, Some, slice_get};
 ghost use Rattle.std.specs.Iterator.{YieldsFirst, YieldsFirstBy, item_count};
 ghost use Rattle.elf_linking.specs.DynamicObject.{object_view};
-ghost use Rattle.elf_linking.specs.DynamicView.{view_entries};
+ghost use Rattle.elf_linking.specs.DynamicView.{flag_in, view_entries};
 ghost use Rattle.elf_linking.specs.References.{file_machine};
 ghost use Rattle.elf_linking.specs.Scope.{scope_objects};
 ghost use Rattle.std.specs.List.{list_any};
@@ -11,7 +11,7 @@ ghost use Rattle.elf_loading.specs.Segments.{loads_of};
 ghost use Rattle.elf_loading.specs.RelativeWords.{asks_as};
 ghost use Rattle.elf_loading.specs.Words.{HasWord, IsBoundIf, addend_of, addend_place};
 ghost use Rattle.elf_loading.specs.Words.{address_size, has_zeros, word_in_memory};
-ghost use Rattle.elf_loading.specs.Words.{binds_lazily, flag_in, formula_when, in_place_when, is_jump_slot};
+ghost use Rattle.elf_loading.specs.Words.{binds_lazily, formula_when, in_place_when};
 ghost use Rattle.elf_loading.specs.Words.{is_lazy, needs_symbol, own_size, takes_addend, takes_symbol};
 ghost use Rattle.elf_loading.specs.Words.{value_word, word_of};
 ghost use Rattle.elf_loading.specs.WordsLeft.{AreWordsOf, IsSame, relocation_of, words_file};
@@ -19,20 +19,16 @@ ghost use Rattle.elf_loading.specs.WordsLeft.{words_index, words_lazy, words_lef
 ghost use Rattle.elf_loading.specs.WordsLeft.{words_of, words_own};
 
 use crate::LoadError;
-use crate::file_loads::file_loads;
-use crate::formulas::{Formula, formula_of, width_of};
 use crate::in_order::{InOrder, Relocation};
+use crate::loads::Loads;
 use crate::value::{Terms, Value, bytes_of, value_of};
 use elf_base::bytes::Record;
-use elf_linking::references::Reference;
-use elf_linking::references::types::{
-    EM_386, EM_AARCH64, EM_X86_64, R_386_JMP_SLOT, R_AARCH64_JUMP_SLOT, R_X86_64_JUMP_SLOT,
-};
+use elf_linking::references::types::Row;
+use elf_linking::references::{Formula, Reference, row_of};
 use elf_linking::scope::{Bound, Scope};
 use elf_linking::view::{DT_BIND_NOW, DT_FLAGS, DT_FLAGS_1, DynamicView, LinkedSymbol, word_at};
-use elf_linking::{DynamicObject, LinkError};
+use elf_linking::{DynamicObject, LinkError, Segment};
 use xmas_elf::ElfFile;
-use xmas_elf::program::ProgramHeader64;
 
 /// When jump slots get their symbols.
 #[derive(Clone, Copy, Debug, PartialEq, Eq)]
@@ -109,23 +105,11 @@ pub(crate) fn binds_lazily(view: &DynamicView<'_>, when: Binding) -> bool
     }
 }
 
-// Whether relocations of this type are jump slots.
-fn is_jump_slot(machine: u16, kind: u32) -> bool
-    ensures { result ≡ is_jump_slot machine kind }
-{
-    match machine {
-        EM_X86_64 => kind == R_X86_64_JUMP_SLOT,
-        EM_386 => kind == R_386_JMP_SLOT,
-        EM_AARCH64 => kind == R_AARCH64_JUMP_SLOT,
-        _ => false,
-    }
-}
-
 // Whether a relocation is a jump slot that gets its symbol when it is called first.
-fn is_lazy(machine: u16, lazy: bool, relocation: &Relocation) -> bool
-    ensures { result ≡ is_lazy machine lazy relocation.now }
+fn is_lazy(row: &Row, lazy: bool, relocation: &Relocation) -> bool
+    ensures { result ≡ is_lazy row.now lazy relocation.now }
 {
-    lazy && relocation.slot && is_jump_slot(machine, relocation.reference.kind)
+    lazy && relocation.slot && row.slot
 }
 
 // Whether a formula has a symbol.
@@ -151,27 +135,28 @@ fn takes_addend(formula: Formula) -> bool
 
 // The formula of a relocation. A jump slot that gets its symbol later holds the word in place, moved
 // with the file.
-fn formula_when(machine: u16, lazy: bool, relocation: &Relocation) -> Option<Formula>
-    ensures { result ≡ formula_when machine lazy relocation.now }
+fn formula_when(row: &Row, lazy: bool, relocation: &Relocation) -> Option<Formula>
+    ensures { result ≡ formula_when row.now lazy relocation.now }
 {
-    if is_lazy(machine, lazy, relocation) {
+    if is_lazy(row, lazy, relocation) {
         return Some(Formula::Base);
     }
-    formula_of(machine, relocation.reference.kind)
+    row.formula
 }
 
 // Whether the addend is the word in place.
-fn in_place_when(machine: u16, lazy: bool, relocation: &Relocation) -> bool
-    ensures { result ≡ in_place_when machine lazy relocation.now }
+fn in_place_when(row: &Row, lazy: bool, relocation: &Relocation) -> bool
+    ensures { result ≡ in_place_when row.now lazy relocation.now }
 {
-    relocation.in_place || is_lazy(machine, lazy, relocation)
+    relocation.in_place || is_lazy(row, lazy, relocation)
 }
 
 // Whether the word of a relocation depends on a symbol.
 pub(crate) fn needs_symbol(machine: u16, lazy: bool, relocation: &Relocation) -> bool
     ensures { result ≡ needs_symbol machine lazy relocation.now }
 {
-    match formula_when(machine, lazy, relocation) {
+    let row = row_of(machine, relocation.reference.kind);
+    match formula_when(&row, lazy, relocation) {
         Some(formula) => takes_symbol(formula),
         None => false,
     }
@@ -202,10 +187,10 @@ pub(crate) fn address_size(file: &ElfFile<'_>) -> u64
 }
 
 // Whether the bytes of a word at an address are zeros after the bytes that a load has in the file.
-fn has_zeros(address: u64, width: u64, load: &ProgramHeader64) -> bool
+fn has_zeros(address: u64, width: u64, load: &Segment) -> bool
     ensures { result ≡ has_zeros address width load.now }
 {
-    let start = u128::from(load.virtual_addr);
+    let start = u128::from(load.address);
     start + u128::from(load.file_size) <= u128::from(address)
         && u128::from(address) + u128::from(width) <= start + u128::from(load.mem_size)
 }
@@ -215,7 +200,7 @@ fn has_zeros(address: u64, width: u64, load: &ProgramHeader64) -> bool
 fn is_in_zeros(file: &ElfFile<'_>, address: u64, width: u64) -> bool
     ensures { result ≡ list_any (has_zeros address width) (loads_of file.now) }
 {
-    for load in file_loads(file.program_table()) {
+    for load in Loads::of(file) {
         if has_zeros(address, width, &load) {
             return true;
         }
@@ -295,11 +280,11 @@ fn word_of<E: LinkedSymbol>(
     ensures { result ≡ word_of E.fields file.now own.now of lazy relocation.now bound.now }
 {
     let reference = &relocation.reference;
-    let machine = file.header.pt2.machine().raw();
-    let Some(formula) = formula_when(machine, lazy, relocation) else {
+    let row = row_of(file.header.pt2.machine().raw(), reference.kind);
+    let Some(formula) = formula_when(&row, lazy, relocation) else {
         return Err(LoadError::WordType);
     };
-    let in_place = in_place_when(machine, lazy, relocation);
+    let in_place = in_place_when(&row, lazy, relocation);
     let addend = match addend_of(file, in_place, formula, reference) {
         Ok(addend) => addend,
         Err(error) => return Err(LoadError::Link(error)),
@@ -309,7 +294,7 @@ fn word_of<E: LinkedSymbol>(
         address: reference.offset,
         addend,
         size: own_size(own, reference.symbol),
-        width: width_of(machine, reference.kind),
+        width: row.width,
     };
     match bound {
         Ok(bound) => Ok(value_word(&terms, bound, formula)),
@@ -318,8 +303,11 @@ fn word_of<E: LinkedSymbol>(
 }
 
 impl<'s, 'a, E: LinkedSymbol> Words<'s, 'a, E> {
-    // The words of the object at index `of` of a scope.
-    pub(crate) fn new(scope: Scope<'s, 'a, E>, of: usize, when: Binding) -> Result<Self, LinkError>
+    /// The words that the relocations of the object at index `of` of a scope write.
+    ///
+    /// Errors: `ObjectIndex` if there is no object at `of`; those of `DynamicView::relr`; those of
+    /// `DynamicView::relocations`.
+    pub fn new(scope: Scope<'s, 'a, E>, of: usize, when: Binding) -> Result<Self, LinkError>
         ensures exact { let answer = words_of (slice_get (scope_objects scope.entry).now of) in
             MatchResult result (λ words. answer ≡ Ok (words_left words))
             (λ error. answer ≡ Err error) }

@@ -1,12 +1,14 @@
 -- The symbols that name addresses by their parts.
-use Rattle.std.proofs.Common.{◌≡◌, ℕ, None, ap, length, refl}
+use Rattle.std.proofs.Common.{◌≡◌, ℕ, None, Some, ap, length, refl}
 use Rattle.elf_addresses.specs.SymbolClaims.{claim_of_symbols, has_claim}
 use Rattle.elf_addresses.specs.declared.symbols.AddressSymbols.{AddressSymbols}
 use Rattle.elf_base.proofs.lemmas.RecordLemmas.{records-none}
+use Rattle.elf_base.specs.FileHeader.{file_order}
 use Rattle.elf_base.specs.Number.{number}
 use Rattle.elf_base.specs.Table.{records, table_data, table_items, table_order}
 use Rattle.elf_linking.proofs.lemmas.Objects.{symbols_of_object}
-use Rattle.elf_linking.specs.DynamicObject.{object_dynamic_symbols}
+use Rattle.elf_linking.specs.DynamicObject.{IsObjectFor, object_dynamic_symbols, object_records}
+use Rattle.elf_linking.specs.declared.object.DynamicObject.{DynamicObject}
 use Rattle.elfaddr.specs.Asked.{AreDynamicParts, ArePartsAt, claims_of, kind, parts_in}
 use Rattle.elf_addresses.specs.Symtab.{IsSymtab}
 use Rattle.elfaddr.specs.Tables.{AreDynamic}
@@ -27,6 +29,9 @@ parts_at {E} {r} fields file index symbols is = record {
   words_are = ap (λ order. records 4 (number order 4 0) (table_data symbols.indices)) is.index_order;
   machine_is = is.machine;
 }
+
+pub object_items : {E : Type 0} {r : _} (object : DynamicObject E r) (count class : ℕ) (file : ElfFile) → IsObjectFor (Some count) class r.SIZE file object → table_items (object_records object) ≡ records r.SIZE (r.value (file_order file.header)) (table_data (object_records object))
+object_items {E} {r} object count class file is = ap (λ order. records r.SIZE (r.value order) (table_data (object_records object))) is.order_is
 
 pub dynamic_parts : {E : Type 0} {r : _} (class : ℕ) (fields : E → SymbolFields) (file : ElfFile) (symbols : AddressSymbols E r) → AreDynamic class r.SIZE file symbols → AreDynamicParts class (kind r.SIZE r.value fields) file (parts_in symbols)
 dynamic_parts {E} {r} class fields file symbols are = record {

@@ -1,3 +1,2 @@
 mod AskedParts
-mod LineLists
 mod Printed

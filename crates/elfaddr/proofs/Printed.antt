@@ -1,30 +1,23 @@
 -- What is said of how lines are written, where that implies more.
-use Rattle.std.proofs.Common.{◌≡◌, ℕ, List, Option, Result, Ok, Err, sym, subst}
+use Rattle.std.proofs.Common.{◌≡◌, ℕ, List, Option, Result, Ok, Err}
 use Rattle.std.specs.Borrow.{Bor}
-use Rattle.std.specs.Prelude.{IsOkAnd, MatchResult, ⊤}
+use Rattle.std.specs.Prelude.{MatchResult, ⊤}
 use Rattle.elf_addresses.specs.declared.claim.Claim.{Claim}
 use Rattle.elf_base.specs.FileHeader.{header_of}
 use Rattle.elf_linking.specs.declared.error.LinkError.{LinkError}
 use Rattle.elfaddr.specs.Asked.{AreLinesBy, AreOfFile, AreRefusedOfFile, AreThere}
-use Rattle.elfaddr.specs.Ends.{AreInputLines, AreInputRefused, AreInputThere, IsFault, OfHeader, fault_of, no_symbols}
+use Rattle.elfaddr.specs.Ends.{AreInputLines, AreInputRefused, AreInputThere, no_symbols}
 use Rattle.elfaddr.specs.Lines.{AreLines}
-use Rattle.elfaddr.specs.declared.Fault as faults
-use Rattle.elfaddr.specs.declared.Fault.TheVariants as faults_are
 use Rattle.elfaddr.specs.declared.Source.{Source}
+use Rattle.linking_programs.proofs.Objects.{of_header}
+use Rattle.program_ends.proofs.Ends.{fault_so}
 use Rattle.program_ends.specs.Appended.{AppendsSome}
+use Rattle.program_ends.specs.Ends.{IsFault, fault_of}
 use Rattle.program_ends.specs.Stops.{IsStop}
+use Rattle.program_ends.specs.declared.Fault.{Fault}
 use Rattle.program_ends.specs.declared.Stop as stops
 use Rattle.program_ends.specs.declared.Stop.TheVariants as stops_are
-use Rattle.xmas_elf.specs.Types.{ElfError, ElfFile, Header}
-
--- the fault of a file at a path, where its parts imply others
-pub fault_so : (path : Bor (List ℕ)) (Was Is : LinkError → Type 0) (WasWritten IsWritten : Type 0) (fault : faults.Fault) → ((error : LinkError) → Was error → Is error) → (WasWritten → IsWritten) → IsFault path Was WasWritten fault → IsFault path Is IsWritten fault
-fault_so path Was Is WasWritten IsWritten faults_are.Arguments refused written why = why
-fault_so path Was Is WasWritten IsWritten faults_are.Usage refused written why = why
-fault_so path Was Is WasWritten IsWritten (faults_are.Read at) refused written why = why
-fault_so path Was Is WasWritten IsWritten (faults_are.Refused at error) refused written (same, was) = (same, refused error was)
-fault_so path Was Is WasWritten IsWritten faults_are.Write refused written why = written why
-fault_so path Was Is WasWritten IsWritten faults_are.Memory refused written why = why
+use Rattle.xmas_elf.specs.Types.{ElfFile}
 
 -- lines have no error of their own
 pub lines_fault : (path : Bor (List ℕ)) (Written : Type 0) (stop : stops.Stop LinkError) → IsStop (λ error. ⊥) Written ⊤ stop → IsFault path (λ error. ⊥) ⊤ (fault_of path stop)
@@ -34,26 +27,21 @@ lines_fault path Written stops_are.Memory why = tt
 
 module _ {W : Type 0} (contents : W → Option (List ℕ)) (path : Bor (List ℕ)) (addresses : List ℕ) (old : Option (List ℕ)) where
   -- lines by symbols that are asked for
-  pub printed_by : (file : ElfFile) (Asked : (ℕ → Option Claim) → (ℕ → List ℕ) → Type 0) (Is : LinkError → Type 0) (claim_of : ℕ → Option Claim) (name_of : ℕ → List ℕ) (result : Result W faults.Fault) → Asked claim_of name_of
+  pub printed_by : (file : ElfFile) (Asked : (ℕ → Option Claim) → (ℕ → List ℕ) → Type 0) (Is : LinkError → Type 0) (claim_of : ℕ → Option Claim) (name_of : ℕ → List ℕ) (result : Result W (Fault LinkError)) → Asked claim_of name_of
       → MatchResult result (λ back. AppendsSome (AreLines claim_of name_of file addresses) old (contents back)) (IsFault path (λ error. ⊥) ⊤)
       → MatchResult result (λ back. AppendsSome (AreLinesBy Asked file addresses) old (contents back)) (IsFault path Is (AreThere Asked))
   printed_by file Asked Is claim_of name_of (Ok back) asked (text, lines, grown) = (text, record { claim_of = claim_of; name_of = name_of; asked = asked; lines = lines }, grown)
   printed_by file Asked Is claim_of name_of (Err fault) asked why = fault_so path (λ error. ⊥) Is ⊤ (AreThere Asked) fault (λ error never. absurd never) (λ done. record { claim_of = claim_of; name_of = name_of; asked = asked }) why
 
   -- lines by symbols that are asked for in another way too
-  pub printed_so : (file : ElfFile) (Asked Wanted : (ℕ → Option Claim) → (ℕ → List ℕ) → Type 0) (Was Is : LinkError → Type 0) (result : Result W faults.Fault) → ((claim_of : ℕ → Option Claim) (name_of : ℕ → List ℕ) → Asked claim_of name_of → Wanted claim_of name_of) → ((error : LinkError) → Was error → Is error)
+  pub printed_so : (file : ElfFile) (Asked Wanted : (ℕ → Option Claim) → (ℕ → List ℕ) → Type 0) (Was Is : LinkError → Type 0) (result : Result W (Fault LinkError)) → ((claim_of : ℕ → Option Claim) (name_of : ℕ → List ℕ) → Asked claim_of name_of → Wanted claim_of name_of) → ((error : LinkError) → Was error → Is error)
       → MatchResult result (λ back. AppendsSome (AreLinesBy Asked file addresses) old (contents back)) (IsFault path Was (AreThere Asked))
       → MatchResult result (λ back. AppendsSome (AreLinesBy Wanted file addresses) old (contents back)) (IsFault path Is (AreThere Wanted))
   printed_so file Asked Wanted Was Is (Ok back) so refused (text, are, grown) = (text, record { claim_of = are.claim_of; name_of = are.name_of; asked = so are.claim_of are.name_of are.asked; lines = are.lines }, grown)
   printed_so file Asked Wanted Was Is (Err fault) so refused why = fault_so path Was Is (AreThere Asked) (AreThere Wanted) fault refused (λ there. record { claim_of = there.claim_of; name_of = there.name_of; asked = so there.claim_of there.name_of there.asked }) why
 
-  of_header : (P : ElfFile → Type 0) (input : Bor (List ℕ)) (file : ElfFile) → file.input ≡ input → header_of input.now ≡ Ok file.header → P file → OfHeader input P
-  of_header P input file same header holds =
-      subst (λ (r : Result Header ElfError). IsOkAnd r (λ h. P (record { input = input; header = h }))) (sym header)
-      (subst (λ (i : Bor (List ℕ)). P (record { input = i; header = file.header })) same holds)
-
   -- lines by a file are those by its input
-  pub printed_input : (source : Source) (input : Bor (List ℕ)) (file : ElfFile) (result : Result W faults.Fault) → file.input ≡ input → header_of input.now ≡ Ok file.header
+  pub printed_input : (source : Source) (input : Bor (List ℕ)) (file : ElfFile) (result : Result W (Fault LinkError)) → file.input ≡ input → header_of input.now ≡ Ok file.header
       → MatchResult result (λ back. AppendsSome (AreLinesBy (AreOfFile file source) file addresses) old (contents back)) (IsFault path (AreRefusedOfFile file source) (AreThere (AreOfFile file source)))
       → MatchResult result (λ back. AppendsSome (AreInputLines source addresses input) old (contents back)) (IsFault path (AreInputRefused source input) (AreInputThere source input))
   printed_input source input file (Ok back) same header (text, are, grown) = (text, of_header (λ f. AreLinesBy (AreOfFile f source) f addresses text) input file same header are, grown)

@@ -12,20 +12,22 @@ use Rattle.elf_base.specs.FileHeader.{file_class, file_order}
 use Rattle.elf_base.specs.Number.{number}
 use Rattle.elf_base.specs.Table.{records, table_items}
 use Rattle.elf_base.specs.declared.bytes.Order.{Order}
-use Rattle.elf_linking.specs.DynamicObject.{AreDynamicSymbols}
-use Rattle.elf_linking.specs.DynamicView.{dynamic_strings_of}
+use Rattle.elf_linking.specs.AnyTable.{IsLinkedTable}
+use Rattle.elf_linking.specs.DynamicObject.{AreDynamicSymbols, AreOfClassFor}
+use Rattle.elf_linking.specs.DynamicView.{dynamic_entries_of, dynamic_strings_of}
 use Rattle.elf_linking.specs.Find.{DynamicSymbols}
 use Rattle.elf_linking.specs.References.{file_machine}
+use Rattle.elf_linking.specs.declared.any_table.AnyTable.{AnyTable}
 use Rattle.elf_linking.specs.declared.error.LinkError.{LinkError}
 use Rattle.elf_linking.specs.declared.error.LinkError.TheVariants.{Elf}
 use Rattle.elfaddr.specs.Lines.{AreLines, name_in}
-use Rattle.elfaddr.specs.Tables.{IsDynamicRefused, IsReach}
+use Rattle.elfaddr.specs.Tables.{IsDladdrRefused, IsDynamicRefused, IsReach, IsTableCount}
 use Rattle.elfaddr.specs.declared.Source.{Source}
 use Rattle.elfaddr.specs.declared.Source.TheVariants.{Dladdr, Dynamic, Symtab}
 use Rattle.xmas_elf.specs.First.{FindsFirstAt}
 use Rattle.xmas_elf.specs.SectionHeader.{section_list}
 use Rattle.xmas_elf.specs.Symbol.{SymbolFields, dyn_entry_32, dyn_entry_32_fields, dyn_entry_64, dyn_entry_64_fields, entry_32, entry_32_fields, entry_64, entry_64_fields}
-use Rattle.xmas_elf.specs.Types.{ElfFile}
+use Rattle.xmas_elf.specs.Types.{Dynamic as Entry, ElfFile}
 
 -- how the symbols of a type are read: the size of one, the symbol that bytes are in a byte order, and its fields
 pub record Kind (E : Type 0) : Type 0 where
@@ -93,13 +95,19 @@ pub record AreDynamicParts {E : Type 0} (class : ℕ) (kind : Kind E) (file : El
   pub words_are : parts.words ≡ []
   pub machine_is : parts.machine ≡ file_machine file
 
--- the same with what the hash table reaches
+-- the symbols of the dynamic segment of a file of a class, as many as its hash table counts, and what this table reaches
 pub record AreReachedParts {E : Type 0} (class : ℕ) (kind : Kind E) (file : ElfFile) (items : List E) (strings : List ℕ) (reach : Reach) : Type 0 where
-  pub all : DynamicSymbols E
-  pub all_are : AreDynamicSymbols class kind.size kind.entry kind.fields file all
-  pub items_are : items ≡ all.symbols.items
+  pub entries : List (Entry ℕ)
+  pub table : AnyTable
+  pub count : ℕ
+  pub bytes : List ℕ
+  pub entries_are : dynamic_entries_of file ≡ Ok entries
+  pub table_is : IsLinkedTable file entries (Ok table)
+  pub counted : IsTableCount file (Ok count)
+  pub bytes_are : AreOfClassFor (Some count) class kind.size file entries (Ok bytes)
+  pub items_are : items ≡ records kind.size (kind.entry (file_order file.header)) bytes
   pub strings_are : dynamic_strings_of file ≡ Ok strings
-  pub reach_is : IsReach all.table (length items) reach
+  pub reach_is : IsReach table (length items) reach
 
 -- the claims and the names are those of the symbols of the section at an index
 pub data FromSymtab {E : Type 0} (kind : Kind E) (file : ElfFile) (index : ℕ) : (ℕ → Option Claim) → (ℕ → List ℕ) → Type 0 where
@@ -168,7 +176,7 @@ pub data AreRefused (class symtab_size dynamic_size : ℕ) (file : ElfFile) : So
       → IsDynamicRefused class dynamic_size file error → AreRefused class symtab_size dynamic_size file Symtab error
   by_dynamic : (error : LinkError) → IsDynamicRefused class dynamic_size file error
       → AreRefused class symtab_size dynamic_size file Dynamic error
-  by_dladdr : (error : LinkError) → IsDynamicRefused class dynamic_size file error
+  by_dladdr : (error : LinkError) → IsDladdrRefused class dynamic_size file error
       → AreRefused class symtab_size dynamic_size file Dladdr error
 
 -- the same of a file, of either class

@@ -9,7 +9,7 @@ use Rattle.elf_addresses.specs.declared.claim.Claim.{Claim}
 use Rattle.elf_base.specs.Text.{bytes_up_to_zero_of}
 use Rattle.program_ends.specs.Names.{escaped}
 use Rattle.xmas_elf.specs.First.{IsFirstAt, NoneBelow}
-use Rattle.xmas_elf.specs.NameTable.{name_bytes_of}
+use Rattle.xmas_elf.specs.NameTable.{shstr_bytes_of}
 use Rattle.xmas_elf.specs.SectionHeader.{section_fields, section_list}
 use Rattle.xmas_elf.specs.Symbol.{SymbolFields}
 use Rattle.xmas_elf.specs.Types.{ElfError, ElfFile, SectionHeader}
@@ -41,7 +41,7 @@ pub data IsSectionLine (file : ElfFile) (address : ℕ) : List ℕ → Type 0 wh
   in_section : (index : ℕ) (section : SectionHeader)
       → IsFirstAt (λ one. HoldsAddress (section_fields one) address) (section_list file) index
       → slice_get (section_list file) index ≡ Some section
-      → IsSectionLine file address (place_text (or_mark (name_bytes_of file section)) (address - (section_fields section).address))
+      → IsSectionLine file address (place_text (or_mark (shstr_bytes_of file (section_fields section).name)) (address - (section_fields section).address))
   nowhere : NoneBelow (λ one. HoldsAddress (section_fields one) address) (section_list file) (length (section_list file))
       → IsSectionLine file address (codes "?\n")
 

@@ -136,7 +136,7 @@ fn write_section<W: Write>(file: &ElfFile<'_>, address: u64, out: &mut W) -> io:
 {
     match section_at(file, address) {
         Some((_index, section)) => {
-            let name = or_mark(section.name_bytes(file));
+            let name = or_mark(file.section_name(&section));
             let offset = offset_from(address, section.address());
             write_place(name, offset, out)
         }

@@ -10,43 +10,30 @@
 ghost use Rattle.std.specs.Prelude.{◌≡◌, ◌≤◌, IfErr, IfOk, IfSome, IsOk, IsSomeAnd, MatchResult};
 ghost use Rattle.std.specs.Prelude.{OnOk, Result};
 ghost use Rattle.elf_base.specs.FileHeader.{header_of};
-ghost use Rattle.elfaddr.specs.Ends.{AreInputLines, AreInputRefused, AreInputThere, IsEnd, IsFault};
-ghost use Rattle.elfaddr.specs.Ends.{OfFile, fault_of, status_of};
-ghost use Rattle.elfaddr.specs.declared.Fault.{Fault};
+ghost use Rattle.elf_linking.specs.declared.error.LinkError.{LinkError};
+ghost use Rattle.elfaddr.specs.Ends.{AreInputLines, AreInputRefused, AreInputThere, IsEnd};
 ghost use Rattle.program_ends.specs.Appended.{AppendsSome};
+ghost use Rattle.program_ends.specs.Ends.{IsFault, OfFile, status_of};
+ghost use Rattle.program_ends.specs.declared.Fault.{Fault};
 
 use crate::print::print_file;
 use elf_linking::LinkError;
-use program_ends::{Stop, read_whole, say};
+use program_ends::{Fault, arguments, exit_code, read_whole, say, status_of};
 use std::alloc::Global;
 use std::convert::AsStr;
 use std::fs::File;
+use std::io;
 use std::io::{Read, Write};
 use std::process::ExitCode;
-use std::{env, io};
-use thiserror::Error;
 use xmas_elf::ElfFile;
 
 mod lines;
 mod names;
 mod print;
 
-/// Why the program ends with status 1, and what it says then.
-#[derive(Debug, Drop, Error)]
-enum Fault<'a> {
-    #[error("elfaddr: cannot read the arguments")]
-    Arguments,
-    #[error("usage: elfaddr [--dynamic | --dladdr] <binary_path> (<address>.. | -)")]
-    Usage,
-    #[error("elfaddr: cannot read {path}")]
-    Read { path: &'a str },
-    #[error("elfaddr: {path}: {error}")]
-    Refused { path: &'a str, error: LinkError },
-    #[error("elfaddr: cannot write")]
-    Write,
-    #[error("elfaddr: not enough memory")]
-    Memory,
-}
+const NAME: &str = "elfaddr";
+
+const USAGE: &str = "elfaddr [--dynamic | --dladdr] <binary_path> (<address>.. | -)";
 
 /// The symbols that name addresses.
 #[derive(Clone, Copy, Debug)]
@@ -78,13 +65,11 @@ pub fn run<R: Read + Drop, W: Write, E: Write>(
     ensures bound { result ≤ 1 }
     ensures accepted { result ≡ 0 → IsSomeAnd file (λ reader.
         IfSome (R.remaining reader) (λ bytes. IsOk (header_of bytes))) }
-    ensures ends { (end : Result (Unit {0}) Fault)
+    ensures ends { (end : Result (Unit {0}) (Fault LinkError))
         × IsEnd path.entry source addresses.now R.remaining file end × (result ≡ status_of end) }
 {
-    match answer(alloc, path, source, addresses, file, out) {
-        Ok(()) => 0,
-        Err(fault) => say(&fault, err),
-    }
+    let ended = answer(alloc, path, source, addresses, file, out);
+    status_of(NAME, ended, err)
 }
 
 // Reads the file whole, and writes a line for each address.
@@ -95,7 +80,7 @@ fn answer<'a, R: Read + Drop, W: Write>(
     addresses: &[u64],
     file: Option<R>,
     out: &mut W,
-) -> Result<(), Fault<'a>>
+) -> Result<(), Fault<'a, LinkError>>
     ensures accepted { OnOk result (IsSomeAnd file (λ reader.
         IfSome (R.remaining reader) (λ bytes. IsOk (header_of bytes)))) }
     ensures end { IsEnd path.entry source addresses.now R.remaining file result }
@@ -115,7 +100,7 @@ fn print_addresses<'a, R: Read + Drop, W: Write + Drop>(
     addresses: &[u64],
     file: Option<R>,
     out: W,
-) -> Result<W, Fault<'a>>
+) -> Result<W, Fault<'a, LinkError>>
     ensures written { IfOk result (λ back. OfFile R.remaining file (λ input.
         AppendsSome (AreInputLines source addresses.now input)
         (W.contents out) (W.contents back))) }
@@ -140,7 +125,7 @@ fn print_input<'a, W: Write + Drop>(
     source: Source,
     addresses: &[u64],
     out: W,
-) -> Result<W, Fault<'a>>
+) -> Result<W, Fault<'a, LinkError>>
     ensures { MatchResult result
         (λ back. AppendsSome (AreInputLines source addresses.now input.entry)
         (W.contents out) (W.contents back))
@@ -156,33 +141,13 @@ fn print_input<'a, W: Write + Drop>(
     }
 }
 
-// What the program says where an output isn't written to its end.
-fn fault_of(stop: Stop<LinkError>, path: &str) -> Fault<'_>
-    ensures { result ≡ fault_of path.entry stop }
-{
-    match stop {
-        Stop::Refused(error) => Fault::Refused { path, error },
-        Stop::Write => Fault::Write,
-        Stop::Memory => Fault::Memory,
-    }
-}
-
 fn main(rt: HostRuntime) -> ExitCode {
-    let status = match run_on_arguments(&rt) {
-        Ok(status) => status,
-        Err(_) => say(&Fault::Arguments, &mut rt.stderr()),
-    };
-    ExitCode::from(status)
+    exit_code(NAME, run_on_arguments(&rt), &mut rt.stderr())
 }
 
 // The status, or why the arguments can't be read: for want of memory, or since one is not UTF-8.
 fn run_on_arguments(rt: &HostRuntime) -> io::Result<u8> {
-    let mut arguments = env::args(rt)?;
-    let _program = arguments.next();
-    let mut words = Vec::new(rt.alloc());
-    for argument in arguments {
-        words.push(argument)?;
-    }
+    let words = arguments(rt)?;
     let (source, words) = source_of(&words);
     match words.split_first() {
         Some((path, [word])) if word.as_str() == "-" => {
@@ -194,12 +159,12 @@ fn run_on_arguments(rt: &HostRuntime) -> io::Result<u8> {
             for word in words {
                 match address_of(word.as_str()) {
                     Some(address) => addresses.push(address)?,
-                    None => return Ok(say(&Fault::Usage, &mut rt.stdout())),
+                    None => return Ok(say("usage", &USAGE, &mut rt.stdout())),
                 }
             }
             Ok(run_on_file(rt, path.as_str(), source, &addresses))
         }
-        _ => Ok(say(&Fault::Usage, &mut rt.stdout())),
+        _ => Ok(say("usage", &USAGE, &mut rt.stdout())),
     }
 }
 
@@ -209,7 +174,7 @@ fn run_on_lines(rt: &HostRuntime, path: &str, source: Source, text: &str) -> io:
     for line in text.lines() {
         match address_of(line) {
             Some(address) => addresses.push(address)?,
-            None => return Ok(say(&Fault::Usage, &mut rt.stdout())),
+            None => return Ok(say("usage", &USAGE, &mut rt.stdout())),
         }
     }
     Ok(run_on_file(rt, path, source, &addresses))

@@ -2,24 +2,24 @@
 
 ghost use Rattle.std.specs.Prelude.{◌≡◌, MatchResult, Ok, length, ⊤};
 ghost use Rattle.elf_addresses.specs.SymbolClaims.{symbol_items};
-ghost use Rattle.elf_linking.specs.DynamicObject.{IsObject};
 ghost use Rattle.elf_linking.specs.DynamicView.{dynamic_strings_of};
 ghost use Rattle.elfaddr.specs.Asked.{AreAsked, AreLinesBy, AreOfFile, AreRefused, AreRefusedOfFile};
 ghost use Rattle.elfaddr.specs.Asked.{AreThere, FromDladdr, FromDynamic, FromSymtab, IsSymtabError};
 ghost use Rattle.elfaddr.specs.Asked.{claims_of, kind, parts_in};
-ghost use Rattle.elfaddr.specs.Ends.{IsFault};
 ghost use Rattle.elfaddr.specs.Lines.{AreLines, name_in};
-ghost use Rattle.elfaddr.specs.Tables.{AreDynamic, IsDynamicRefused, IsReach};
+ghost use Rattle.elfaddr.specs.Tables.{AreDynamic, IsDladdrObject, IsDladdrRefused};
+ghost use Rattle.elfaddr.specs.Tables.{IsDynamicRefused, IsReach, IsTableCount};
 ghost use Rattle.program_ends.specs.Appended.{AppendsSome};
+ghost use Rattle.program_ends.specs.Ends.{IsFault};
 
+use crate::Source;
 use crate::lines::Lines;
 use crate::names::Named;
-use crate::{Fault, Source, fault_of};
 use elf_addresses::dladdr::{DladdrSymbols, Reach, fill_reached};
 use elf_addresses::{AddressSymbols, SymbolClaims, symtab_at, symtab_index};
-use elf_linking::view::{LinkedSymbol, strings};
+use elf_linking::view::{DynamicView, LinkedSymbol, strings};
 use elf_linking::{AnyTable, DynamicObject, LinkError};
-use program_ends::write_buffered;
+use program_ends::{Fault, fault_of, write_buffered};
 use std::alloc::Global;
 use std::io::Write;
 use xmas_elf::ElfFile;
@@ -34,7 +34,7 @@ pub(crate) fn print_file<'a, W: Write + Drop>(
     source: Source,
     addresses: &[u64],
     out: W,
-) -> Result<W, Fault<'a>>
+) -> Result<W, Fault<'a, LinkError>>
     ensures { let asked = AreOfFile file.now source in
         MatchResult result (λ back. AppendsSome (AreLinesBy asked file.now addresses.now)
         (W.contents out) (W.contents back))
@@ -55,7 +55,7 @@ fn print_by<'a, S: Entry + Record, D: LinkedSymbol, W: Write + Drop>(
     source: Source,
     addresses: &[u64],
     out: W,
-) -> Result<W, Fault<'a>>
+) -> Result<W, Fault<'a, LinkError>>
     ensures { let asked = AreAsked D.CLASS (kind S.SIZE S.value S.fields)
         (kind D.SIZE D.value D.fields) file.now source in
         MatchResult result (λ back. AppendsSome (AreLinesBy asked file.now addresses.now)
@@ -80,7 +80,7 @@ fn print_symtab<'a, S: Entry + Record, W: Write + Drop>(
     index: usize,
     addresses: &[u64],
     out: W,
-) -> Result<W, Fault<'a>>
+) -> Result<W, Fault<'a, LinkError>>
     ensures { let asked = FromSymtab (kind S.SIZE S.value S.fields) file.now index in
         MatchResult result (λ back. AppendsSome (AreLinesBy asked file.now addresses.now)
         (W.contents out) (W.contents back))
@@ -102,7 +102,7 @@ fn print_dynamic<'a, D: LinkedSymbol, W: Write + Drop>(
     file: &ElfFile<'_>,
     addresses: &[u64],
     out: W,
-) -> Result<W, Fault<'a>>
+) -> Result<W, Fault<'a, LinkError>>
     ensures { let asked = FromDynamic D.CLASS (kind D.SIZE D.value D.fields) file.now in
         MatchResult result (λ back. AppendsSome (AreLinesBy asked file.now addresses.now)
         (W.contents out) (W.contents back))
@@ -122,7 +122,7 @@ fn print_symbols<'a, E: Entry + Record, W: Write + Drop>(
     symbols: &AddressSymbols<'_, E>,
     addresses: &[u64],
     out: W,
-) -> Result<W, Fault<'a>>
+) -> Result<W, Fault<'a, LinkError>>
     ensures { MatchResult result
         (λ back. AppendsSome (AreLines (claims_of E.fields (parts_in symbols.now))
         (name_in E.fields (symbol_items symbols.now) symbols.now.strings.now) file.now
@@ -163,11 +163,11 @@ fn print_dladdr<'a, D: LinkedSymbol, W: Write + Drop>(
     file: &ElfFile<'_>,
     addresses: &[u64],
     out: W,
-) -> Result<W, Fault<'a>>
+) -> Result<W, Fault<'a, LinkError>>
     ensures { let asked = FromDladdr D.CLASS (kind D.SIZE D.value D.fields) file.now in
         MatchResult result (λ back. AppendsSome (AreLinesBy asked file.now addresses.now)
         (W.contents out) (W.contents back))
-        (IsFault path.entry (IsDynamicRefused D.CLASS D.SIZE file.now) (AreThere asked)) }
+        (IsFault path.entry (IsDladdrRefused D.CLASS D.SIZE file.now) (AreThere asked)) }
 {
     match object_with_strings::<D>(file) {
         Ok((object, strings)) => {
@@ -177,16 +177,31 @@ fn print_dladdr<'a, D: LinkedSymbol, W: Write + Drop>(
     }
 }
 
-// A file as an object with dynamic symbols, and the string table of its dynamic segment.
+// The number of symbols by the hash table that `dladdr` reads: GNU's if there is one, whatever the
+// chains of the other.
+fn table_count(file: &ElfFile<'_>) -> Result<u64, LinkError>
+    ensures { IsTableCount file.now result }
+{
+    let view = DynamicView::read(file)?;
+    let table = AnyTable::read(&view, file)?;
+    match table {
+        AnyTable::Gnu(table) => table.symbol_count(),
+        AnyTable::Sysv(table) => Ok(u64::from(table.chain_count())),
+    }
+}
+
+// A file as an object with as many dynamic symbols as this table counts, and the string table of its
+// dynamic segment.
 fn object_with_strings<'a, D: LinkedSymbol>(
     file: &ElfFile<'a>,
 ) -> Result<(DynamicObject<'a, D>, &'a [u8]), LinkError>
     ensures { MatchResult result
-        (λ parts. IsObject D.CLASS D.SIZE file.now parts.0
+        (λ parts. IsDladdrObject D.CLASS D.SIZE file.now parts.0
         × (dynamic_strings_of file.now ≡ Ok parts.1.now))
-        (IsDynamicRefused D.CLASS D.SIZE file.now) }
+        (IsDladdrRefused D.CLASS D.SIZE file.now) }
 {
-    let object = DynamicObject::<D>::read(file)?;
+    let count = table_count(file)?;
+    let object = DynamicObject::<D>::read_counted(file, count)?;
     let strings = strings(file)?;
     Ok((object, strings))
 }
@@ -200,13 +215,13 @@ fn print_reached<'a, 'f, D: LinkedSymbol, W: Write + Drop>(
     strings: &'f [u8],
     addresses: &[u64],
     out: W,
-) -> Result<W, Fault<'a>>
-    requires object { IsObject D.CLASS D.SIZE file.now object.now }
+) -> Result<W, Fault<'a, LinkError>>
+    requires object { IsDladdrObject D.CLASS D.SIZE file.now object.now }
     requires strings { dynamic_strings_of file.now ≡ Ok strings.now }
     ensures { let asked = FromDladdr D.CLASS (kind D.SIZE D.value D.fields) file.now in
         MatchResult result (λ back. AppendsSome (AreLinesBy asked file.now addresses.now)
         (W.contents out) (W.contents back))
-        (IsFault path.entry (IsDynamicRefused D.CLASS D.SIZE file.now) (AreThere asked)) }
+        (IsFault path.entry (IsDladdrRefused D.CLASS D.SIZE file.now) (AreThere asked)) }
 {
     let table = object.symbols().table();
     let count = table.len();
@@ -244,7 +259,7 @@ fn print_lines<'a, C: Named, W: Write + Drop>(
     claims: &C,
     addresses: &[u64],
     out: W,
-) -> Result<W, Fault<'a>>
+) -> Result<W, Fault<'a, LinkError>>
     ensures { MatchResult result
         (λ back. AppendsSome (AreLines (C.claim_of claims.now) (C.name_of claims.now) file.now
         addresses.now) (W.contents out) (W.contents back))

@@ -8,8 +8,8 @@ use Rattle.elf_linking.specs.declared.references.Reference.{Reference}
 use Rattle.elf_linking.specs.declared.scope.bindings.Binding.{Binding}
 use Rattle.elfbind.specs.Bindings.{AreBindingsBegun, AreBindingsRefused, AreBindingsWritten, IsAtItem, IsErrorOf, IsLine, line_of}
 use Rattle.elfbind.specs.Files.{AreWritten}
-use Rattle.elfbind.specs.declared.files.Input.{Input}
-use Rattle.elfbind.specs.declared.files.Refused as reasons
+use Rattle.linking_programs.specs.declared.Input.{Input}
+use Rattle.linking_programs.specs.declared.Refused as reasons
 use Rattle.elfbind.proofs.Steps.{AreWrittenSoFar, next_more, none_so_far}
 use Rattle.program_ends.proofs.Ends.{stop_so}
 use Rattle.program_ends.specs.Appended.{AppendsSome}
@@ -79,7 +79,7 @@ module _ {E : Type 0} {r : _} (fields : E → SymbolFields) (inputs : List Input
             here = (item, refl, subst (λ o. IsItemOf fields o item) so_far.same is, holds);
           }
 
-      pub lines_stop : (stop : Stop reasons.Refused) → IsStop (IsErrorOf inputs (line_of fields inputs objects item)) (IsOk (line_of fields inputs objects item)) ⊥ stop → IsStop (AreBindingsRefused fields inputs objects) (AreBindingsBegun fields inputs objects) ⊥ stop
+      pub lines_stop : (stop : Stop (reasons.Refused LinkError)) → IsStop (IsErrorOf inputs (line_of fields inputs objects item)) (IsOk (line_of fields inputs objects item)) ⊥ stop → IsStop (AreBindingsRefused fields inputs objects) (AreBindingsBegun fields inputs objects) ⊥ stop
       lines_stop stop why = stop_so _ _ _ _ _ _ stop (λ refused error. at_item (λ one. IsErrorOf inputs (line_of fields inputs objects one) refused) error)
           (λ ok. at_item (λ one. IsOk (line_of fields inputs objects one)) ok) (λ never. never) why
 

@@ -1,20 +1,20 @@
 -- What the program writes of its files (this project's own), by what is asked.
 use Rattle.std.specs.Prelude.{◌≡◌, ℕ, Bool, true, false, cond, List, Result, Ok, Err, ⊤}
 use Rattle.elf_linking.specs.Scope.{AreGood}
+use Rattle.elf_linking.specs.declared.error.LinkError.{LinkError}
 use Rattle.elf_linking.specs.declared.object.DynamicObject.{DynamicObject}
 use Rattle.elfbind.specs.Bindings.{AreBindingsBegun, AreBindingsRefused, AreBindingsWritten}
 use Rattle.elfbind.specs.Checks.{IsCheckLine, IsCheckRefused}
-use Rattle.elfbind.specs.Files.{AreObjectsOf, AreWritten, IsInputRefused, is_first_narrow}
-use Rattle.elfbind.specs.declared.Fault as faults
-use Rattle.elfbind.specs.declared.Fault.TheVariants as faults_are
+use Rattle.elfbind.specs.Files.{AreWritten}
+use Rattle.linking_programs.specs.Files.{AreObjectsOf, IsInputRefused, is_first_narrow, refused_fault_of}
 use Rattle.elfbind.specs.declared.Question as questions
 use Rattle.elfbind.specs.declared.Question.TheVariants.{Bindings, Checks}
-use Rattle.elfbind.specs.declared.files.Input.{Input}
-use Rattle.elfbind.specs.declared.files.Refused.{Refused}
+use Rattle.linking_programs.specs.declared.Input.{Input}
+use Rattle.linking_programs.specs.declared.Refused.{Refused}
 use Rattle.program_ends.specs.Appended.{AppendsSome}
 use Rattle.program_ends.specs.Stops.{HasBegun, IsStop}
+use Rattle.program_ends.specs.declared.Fault.{Fault}
 use Rattle.program_ends.specs.declared.Stop as stops
-use Rattle.program_ends.specs.declared.Stop.TheVariants as stops_are
 use Rattle.xmas_elf.specs.Symbol.{SymbolFields, dyn_entry_32_fields, dyn_entry_64_fields}
 use Rattle.xmas_elf.specs.Types.{DynEntry32, DynEntry64}
 
@@ -28,7 +28,7 @@ pub data IsAnswer {E : Type 0} {r : _} (fields : E → SymbolFields) (inputs : L
       → IsAnswer fields inputs objects question wrong text
 
 -- why there is no output: a check fails, or an error of a reference; the lines of checks always have one
-pub data IsAnswerRefused {E : Type 0} {r : _} (fields : E → SymbolFields) (inputs : List Input) (objects : List (DynamicObject E r)) (question : questions.Question) (refused : Refused) : Type 0 where
+pub data IsAnswerRefused {E : Type 0} {r : _} (fields : E → SymbolFields) (inputs : List Input) (objects : List (DynamicObject E r)) (question : questions.Question) (refused : Refused LinkError) : Type 0 where
   by_check : question ≡ Bindings → IsCheckRefused fields inputs objects refused
       → IsAnswerRefused fields inputs objects question refused
   by_binding : question ≡ Bindings → AreGood fields objects → AreBindingsRefused fields inputs objects refused
@@ -55,7 +55,7 @@ pub record IsAnswerOf {E : Type 0} (r : _) (fields : E → SymbolFields) (class 
   pub answer : IsAnswer fields inputs objects question wrong text
 
 -- the error of the files: one of them is no file of the class, or there is no output
-pub data AreFilesRefused {E : Type 0} (r : _) (fields : E → SymbolFields) (class size : ℕ) (inputs : List Input) (question : questions.Question) (refused : Refused) : Type 0 where
+pub data AreFilesRefused {E : Type 0} (r : _) (fields : E → SymbolFields) (class size : ℕ) (inputs : List Input) (question : questions.Question) (refused : Refused LinkError) : Type 0 where
   by_input : IsInputRefused {E = E} r class size inputs refused
       → AreFilesRefused r fields class size inputs question refused
   by_answer : (objects : List (DynamicObject E r)) → AreObjectsOf class size inputs objects
@@ -68,23 +68,17 @@ pub record AreFilesWritten {E : Type 0} (r : _) (fields : E → SymbolFields) (c
   pub objects_are : AreObjectsOf class size inputs objects
   pub written : IsAnswerWritten fields inputs objects question
 
--- what the program writes if the output isn't written to its end
-abbrev pub fault_of : stops.Stop Refused → faults.Fault
-fault_of (stops_are.Refused refused) = faults_are.Refused refused.path refused.error
-fault_of stops_are.Write = faults_are.Write
-fault_of stops_are.Memory = faults_are.Memory
-
 -- the result of the program for such files: whether something is wrong, or what it says of why it can't tell
-pub data IsEndOf {E : Type 0} (r : _) (fields : E → SymbolFields) (class size : ℕ) (inputs : List Input) (question : questions.Question) : Result Bool faults.Fault → Type 0 where
+pub data IsEndOf {E : Type 0} (r : _) (fields : E → SymbolFields) (class size : ℕ) (inputs : List Input) (question : questions.Question) : Result Bool (Fault LinkError) → Type 0 where
   answered : (wrong : Bool) → IsAnswerOf r fields class size inputs question wrong
       → IsEndOf r fields class size inputs question (Ok wrong)
-  stopped : (stop : stops.Stop Refused) → IsStop (AreFilesRefused r fields class size inputs question)
+  stopped : (stop : stops.Stop (Refused LinkError)) → IsStop (AreFilesRefused r fields class size inputs question)
       (AreFilesWritten r fields class size inputs question) ⊤ stop
-      → IsEndOf r fields class size inputs question (Err (fault_of stop))
+      → IsEndOf r fields class size inputs question (Err (refused_fault_of stop))
 
 -- The same of files of the class of the first. The first two arguments say how the record of a symbol of each class is
 -- read.
-pub data IsEnd (narrow_record wide_record : _) (inputs : List Input) (question : questions.Question) (end : Result Bool faults.Fault) : Type 0 where
+pub data IsEnd (narrow_record wide_record : _) (inputs : List Input) (question : questions.Question) (end : Result Bool (Fault LinkError)) : Type 0 where
   narrow : is_first_narrow inputs ≡ true
       → IsEndOf {E = DynEntry32} narrow_record dyn_entry_32_fields 1 16 inputs question end
       → IsEnd narrow_record wide_record inputs question end
@@ -93,6 +87,6 @@ pub data IsEnd (narrow_record wide_record : _) (inputs : List Input) (question :
       → IsEnd narrow_record wide_record inputs question end
 
 -- the exit status: 0 if nothing is wrong, otherwise 1
-abbrev pub status_of : Result Bool faults.Fault → ℕ
+abbrev pub status_of : Result Bool (Fault LinkError) → ℕ
 status_of (Ok wrong) = cond wrong 1 0
 status_of (Err fault) = 1

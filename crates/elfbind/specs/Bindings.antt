@@ -15,9 +15,10 @@ use Rattle.elf_linking.specs.declared.scope.Bound.{Bound}
 use Rattle.elf_linking.specs.declared.scope.asking.Asked.{Asked}
 use Rattle.elf_linking.specs.declared.scope.asking.Asked.TheVariants.{Look, Own}
 use Rattle.elf_linking.specs.declared.scope.bindings.Binding.{Binding}
-use Rattle.elfbind.specs.Files.{AreWritten, IsOfInput}
-use Rattle.elfbind.specs.declared.files.Input.{Input}
-use Rattle.elfbind.specs.declared.files.Refused.{Refused}
+use Rattle.elfbind.specs.Files.{AreWritten}
+use Rattle.linking_programs.specs.Files.{IsOfInput}
+use Rattle.linking_programs.specs.declared.Input.{Input}
+use Rattle.linking_programs.specs.declared.Refused.{Refused}
 use Rattle.xmas_elf.specs.Symbol.{SymbolFields}
 
 -- The text of a line.
@@ -85,7 +86,7 @@ line_of fields inputs objects (Ok binding) = line_by fields inputs binding.from
     (symbol_of objects binding.from binding.reference.symbol) binding.bound binding.asked
 
 -- an error is that of an item, with the path of the file that asks
-abbrev pub IsErrorOf : List Input → Result (Bool × List ℕ) (ℕ × LinkError) → Refused → Type 0
+abbrev pub IsErrorOf : List Input → Result (Bool × List ℕ) (ℕ × LinkError) → Refused LinkError → Type 0
 IsErrorOf inputs line refused = IsErrAnd line (λ at. IsOfInput inputs at.0 refused × (refused.error ≡ at.1))
 
 -- The lines of all items, by their references.
@@ -116,7 +117,7 @@ pub record IsAtItem {E : Type 0} {r : _} (fields : E → SymbolFields) (inputs :
   pub here : HasItem fields objects P reference
 
 -- why the lines end before the last: the first item that has an error
-abbrev pub AreBindingsRefused : {E : Type 0} → {r : _} → (E → SymbolFields) → List Input → List (DynamicObject E r) → Refused → Type 0
+abbrev pub AreBindingsRefused : {E : Type 0} → {r : _} → (E → SymbolFields) → List Input → List (DynamicObject E r) → Refused LinkError → Type 0
 AreBindingsRefused fields inputs objects refused =
     IsAtItem fields inputs objects (λ item. IsErrorOf inputs (line_of fields inputs objects item) refused)
 

@@ -1,24 +1,16 @@
 -- What the program writes of the checks of some files (this project's own): a line for each.
-use Rattle.std.specs.Prelude.{◌≡◌, ◌<◌, ℕ, ◌++◌, Bool, List, Some, Result, Ok, Err, codes, is_err, slice_get, IsSomeAnd, length}
-use Rattle.elf_base.specs.Refusal.{and_then}
-use Rattle.elf_linking.specs.AnyTable.{IsCheckBy, IsGoodBy}
+use Rattle.std.specs.Prelude.{◌≡◌, ◌<◌, ℕ, ◌++◌, Bool, List, Some, Result, Ok, Err, codes, is_err, slice_get, IsSomeAnd}
 use Rattle.elf_linking.specs.DynamicObject.{object_dynamic_symbols}
-use Rattle.elf_linking.specs.Find.{AreReadable, DynamicSymbols}
+use Rattle.elf_linking.specs.Find.{DynamicSymbols}
 use Rattle.elf_linking.specs.Message.{link_message}
 use Rattle.elf_linking.specs.Scope.{symbols_at}
-use Rattle.elf_linking.specs.Versions.{versions_error}
 use Rattle.elf_linking.specs.declared.error.LinkError.{LinkError}
 use Rattle.elf_linking.specs.declared.object.DynamicObject.{DynamicObject}
-use Rattle.elfbind.specs.Files.{IsOfInput}
-use Rattle.elfbind.specs.declared.files.Input.{Input}
-use Rattle.elfbind.specs.declared.files.Refused.{Refused}
+use Rattle.linking_programs.specs.Checks.{AreChecked, IsGood}
+use Rattle.linking_programs.specs.Files.{IsOfInput}
+use Rattle.linking_programs.specs.declared.Input.{Input}
+use Rattle.linking_programs.specs.declared.Refused.{Refused}
 use Rattle.xmas_elf.specs.Symbol.{SymbolFields}
-
--- the result of the checks of a file: that of its hash table and, if that passes, of its versions
-pub record AreChecked {E : Type 0} (file : DynamicSymbols E) (result : Result (Unit {0}) LinkError) : Type 0 where
-  pub table_result : Result (Unit {0}) LinkError
-  pub table_checked : IsCheckBy file.table file.symbols table_result
-  pub result_is : result ≡ and_then table_result (λ _. versions_error file.versions (length file.symbols.items))
 
 -- the line of a file: its path, and that its checks pass, or why not
 abbrev pub check_text : List ℕ → Result (Unit {0}) LinkError → List ℕ
@@ -35,10 +27,10 @@ pub record IsCheckLine {E : Type 0} {r : _} (fields : E → SymbolFields) (input
 -- the checks of the object at an index pass
 abbrev pub IsGoodAt : {E : Type 0} → {r : _} → (E → SymbolFields) → List (DynamicObject E r) → ℕ → Type 0
 IsGoodAt {E} fields objects index = (file : DynamicSymbols E) → symbols_at fields objects index ≡ Some file
-    → IsGoodBy file.table file.symbols × AreReadable file
+    → IsGood file
 
 -- the first object whose checks fail, and why; those of the objects before it pass
-pub record IsCheckRefused {E : Type 0} {r : _} (fields : E → SymbolFields) (inputs : List Input) (objects : List (DynamicObject E r)) (refused : Refused) : Type 0 where
+pub record IsCheckRefused {E : Type 0} {r : _} (fields : E → SymbolFields) (inputs : List Input) (objects : List (DynamicObject E r)) (refused : Refused LinkError) : Type 0 where
   pub index : ℕ
   pub object : DynamicObject E r
   pub object_is : slice_get objects index ≡ Some object

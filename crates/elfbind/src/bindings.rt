@@ -8,11 +8,12 @@ ghost use Rattle.elfbind.specs.Bindings.{symbol_of, target_of, target_text, vers
 ghost use Rattle.program_ends.specs.Appended.{AppendsSome};
 ghost use Rattle.program_ends.specs.Stops.{IsStop};
 
-use crate::files::{Input, Refused, either, refusal_at};
+use crate::files::either;
 use elf_linking::find::Wanted;
 use elf_linking::scope::{Asked, Binding, Bound, Scope};
 use elf_linking::view::LinkedSymbol;
 use elf_linking::{DynamicObject, LinkError};
+use linking_programs::{Input, Refused, refusal_at};
 use program_ends::Stop;
 use std::fmt;
 use std::fmt::Display;
@@ -24,7 +25,7 @@ pub(crate) fn write_bindings<'s, E: LinkedSymbol, W: Write>(
     inputs: &'s [Input<'_>],
     objects: &[DynamicObject<'_, E>],
     out: &mut W,
-) -> Result<bool, Stop<Refused<'s>>>
+) -> Result<bool, Stop<Refused<'s, LinkError>>>
     requires same { length objects.now ≡ length inputs.now }
     ensures { MatchResult result (λ missing. AppendsSome
         (AreBindingsWritten E.fields inputs.now objects.now missing)
@@ -48,7 +49,7 @@ fn write_item<'s, E: LinkedSymbol, W: Write>(
     objects: &[DynamicObject<'_, E>],
     item: Result<Binding<'_, E>, (usize, LinkError)>,
     out: &mut W,
-) -> Result<bool, Stop<Refused<'s>>>
+) -> Result<bool, Stop<Refused<'s, LinkError>>>
     requires { (reference_of_item item).0 < length inputs.now }
     ensures { MatchResult result (λ missing. AppendsSome
         (λ text. line_of E.fields inputs.now objects.now item.entry ≡ Ok (missing, text))

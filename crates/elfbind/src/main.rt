@@ -9,52 +9,40 @@
 ghost use Rattle.std.specs.Prelude.{◌≡◌, ◌≤◌, [], Bool, Err, IfErr, IfOk, List, MatchResult, Ok};
 ghost use Rattle.std.specs.Prelude.{OnOk, Result, length, ⊤};
 ghost use Rattle.std.specs.Io.Buffered.{writer_buffer, writer_inner};
-ghost use Rattle.elf_base.specs.FileHeader.{header_of};
+ghost use Rattle.elf_linking.specs.declared.error.LinkError.{LinkError};
 ghost use Rattle.elf_linking.specs.declared.object.DynamicObject.{DynamicObject};
 ghost use Rattle.elfbind.specs.Answers.{AreFilesRefused, AreFilesWritten, IsAnswer, IsAnswerBegun};
-ghost use Rattle.elfbind.specs.Answers.{IsAnswerRefused, IsAnswerWritten, IsEnd, fault_of, status_of};
-ghost use Rattle.elfbind.specs.Files.{AreAccepted, AreObjectsOf, is_first_narrow, is_narrow_header};
-ghost use Rattle.elfbind.specs.declared.Fault.{Fault};
+ghost use Rattle.elfbind.specs.Answers.{IsAnswerRefused, IsAnswerWritten, IsEnd, status_of};
+ghost use Rattle.elfbind.specs.Files.{AreAccepted};
+ghost use Rattle.linking_programs.specs.Files.{AreObjectsOf, refused_fault_of};
 ghost use Rattle.program_ends.specs.Appended.{AppendsSome};
 ghost use Rattle.program_ends.specs.Stops.{IsStop};
+ghost use Rattle.program_ends.specs.declared.Fault.{Fault};
 
 use crate::bindings::write_bindings;
 use crate::checks::write_checks;
-use crate::files::{Input, Refused, check_objects, read_objects};
+use crate::files::check_objects;
 use elf_base::bytes::Record;
 use elf_linking::view::LinkedSymbol;
 use elf_linking::{DynamicObject, LinkError};
-use program_ends::{Stop, read_whole, say};
+use linking_programs::{
+    Input, Refused, is_first_narrow, read_inputs, read_objects, refused_fault_of,
+};
+use program_ends::{Fault, Stop, arguments, exit_code, say};
 use std::alloc::Global;
 use std::convert::AsStr;
-use std::fs::File;
+use std::io;
 use std::io::{BufWriter, Write};
 use std::process::ExitCode;
-use std::{env, io};
-use thiserror::Error;
-use xmas_elf::ElfFile;
 use xmas_elf::symbol_table::{DynEntry32, DynEntry64};
 
 mod bindings;
 mod checks;
 mod files;
 
-/// Why the program ends with status 1, and what it says then.
-#[derive(Debug, Drop, Error)]
-enum Fault<'a> {
-    #[error("elfbind: cannot read the arguments")]
-    Arguments,
-    #[error("usage: elfbind <binary_path>.. | elfbind --check <binary_path>..")]
-    Usage,
-    #[error("elfbind: cannot read {path}")]
-    Read { path: &'a str },
-    #[error("elfbind: {path}: {error}")]
-    Refused { path: &'a str, error: LinkError },
-    #[error("elfbind: cannot write")]
-    Write,
-    #[error("elfbind: not enough memory")]
-    Memory,
-}
+const NAME: &str = "elfbind";
+
+const USAGE: &str = "elfbind <binary_path>.. | elfbind --check <binary_path>..";
 
 /// What is asked of the files.
 #[derive(Clone, Copy, Drop)]
@@ -82,14 +70,14 @@ pub fn run<W: Write, E: Write>(
 ) -> u8
     ensures bound { result ≤ 1 }
     ensures accepted { result ≡ 0 → AreAccepted inputs.now }
-    ensures ends { (end : Result Bool Fault)
+    ensures ends { (end : Result Bool (Fault LinkError))
         × IsEnd ⟦<DynEntry32 as Record>⟧ ⟦<DynEntry64 as Record>⟧ inputs.now question end
         × (result ≡ status_of end) }
 {
     match answer(alloc, question, inputs, out) {
         Ok(false) => 0,
         Ok(true) => 1,
-        Err(fault) => say(&fault, err),
+        Err(fault) => say(NAME, &fault, err),
     }
 }
 
@@ -99,7 +87,7 @@ fn answer<'a, W: Write>(
     question: Question,
     inputs: &'a [Input<'_>],
     out: &mut W,
-) -> Result<bool, Fault<'a>>
+) -> Result<bool, Fault<'a, LinkError>>
     ensures accepted { OnOk result (AreAccepted inputs.now) }
     ensures end { IsEnd ⟦<DynEntry32 as Record>⟧ ⟦<DynEntry64 as Record>⟧ inputs.now question
         result }
@@ -113,47 +101,15 @@ fn answer<'a, W: Write>(
 }
 
 // Whether something is wrong, or what the program says, by how the output ended.
-fn ended<W: Drop>(written: Result<(W, bool), Stop<Refused<'_>>>) -> Result<bool, Fault<'_>>
+fn ended<W: Drop>(
+    written: Result<(W, bool), Stop<Refused<'_, LinkError>>>,
+) -> Result<bool, Fault<'_, LinkError>>
     ensures { MatchResult written.entry (λ back. result ≡ Ok back.1)
-        (λ stop. result ≡ Err (fault_of stop)) }
+        (λ stop. result ≡ Err (refused_fault_of stop)) }
 {
     match written {
         Ok((_, wrong)) => Ok(wrong),
-        Err(stop) => Err(fault_of(stop)),
-    }
-}
-
-// What the program writes if the output isn't written to its end.
-fn fault_of(stop: Stop<Refused<'_>>) -> Fault<'_>
-    ensures { result ≡ fault_of stop.entry }
-{
-    match stop {
-        Stop::Refused(refused) => Fault::Refused {
-            path: refused.path,
-            error: refused.error,
-        },
-        Stop::Write => Fault::Write,
-        Stop::Memory => Fault::Memory,
-    }
-}
-
-// Whether the first file is of class 32.
-fn is_first_narrow(inputs: &[Input<'_>]) -> bool
-    ensures { result ≡ is_first_narrow inputs.now }
-{
-    match inputs.split_first() {
-        Some((input, _)) => is_narrow(&input.bytes),
-        None => false,
-    }
-}
-
-// Whether bytes begin with a header of class 32.
-fn is_narrow(bytes: &[u8]) -> bool
-    ensures { result ≡ is_narrow_header (header_of bytes.now) }
-{
-    match ElfFile::new(bytes) {
-        Ok(file) => file.header.pt1.class.raw() == DynEntry32::CLASS,
-        Err(_) => false,
+        Err(stop) => Err(refused_fault_of(stop)),
     }
 }
 
@@ -164,7 +120,7 @@ fn print<'a, E: LinkedSymbol, W: Write + Drop>(
     question: Question,
     inputs: &'a [Input<'_>],
     out: W,
-) -> Result<(W, bool), Stop<Refused<'a>>>
+) -> Result<(W, bool), Stop<Refused<'a, LinkError>>>
     ensures accepted { OnOk result (AreAccepted inputs.now) }
     ensures written { IfOk result (λ back. (objects : List (DynamicObject E E.Record))
         × AreObjectsOf E.CLASS E.SIZE inputs.now objects
@@ -189,7 +145,7 @@ fn print_objects<'a, E: LinkedSymbol, W: Write + Drop>(
     inputs: &'a [Input<'_>],
     objects: &[DynamicObject<'_, E>],
     out: W,
-) -> Result<(W, bool), Stop<Refused<'a>>>
+) -> Result<(W, bool), Stop<Refused<'a, LinkError>>>
     requires same { length objects.now ≡ length inputs.now }
     ensures { MatchResult result (λ back. AppendsSome
         (IsAnswer E.fields inputs.now objects.now question back.1)
@@ -216,7 +172,7 @@ fn write_flushed<'s, E: LinkedSymbol, W: Write + Drop>(
     inputs: &'s [Input<'_>],
     objects: &[DynamicObject<'_, E>],
     buffered: &mut BufWriter<W>,
-) -> Result<bool, Stop<Refused<'s>>>
+) -> Result<bool, Stop<Refused<'s, LinkError>>>
     requires same { length objects.now ≡ length inputs.now }
     requires empty { writer_buffer buffered.old ≡ [] }
     ensures { MatchResult result (λ wrong. AppendsSome
@@ -239,7 +195,7 @@ fn write_answer<'s, E: LinkedSymbol, W: Write>(
     inputs: &'s [Input<'_>],
     objects: &[DynamicObject<'_, E>],
     out: &mut W,
-) -> Result<bool, Stop<Refused<'s>>>
+) -> Result<bool, Stop<Refused<'s, LinkError>>>
     requires same { length objects.now ≡ length inputs.now }
     ensures { MatchResult result (λ wrong. AppendsSome
         (IsAnswer E.fields inputs.now objects.now question wrong)
@@ -257,46 +213,20 @@ fn write_answer<'s, E: LinkedSymbol, W: Write>(
 }
 
 fn main(rt: HostRuntime) -> ExitCode {
-    let status = match run_on_arguments(&rt) {
-        Ok(status) => status,
-        Err(_) => say(&Fault::Arguments, &mut rt.stderr()),
-    };
-    ExitCode::from(status)
+    exit_code(NAME, run_on_arguments(&rt), &mut rt.stderr())
 }
 
 // The status, or why the arguments can't be read: for want of memory, or since one is not UTF-8.
 fn run_on_arguments(rt: &HostRuntime) -> io::Result<u8> {
-    let mut arguments = env::args(rt)?;
-    let _program = arguments.next();
-    let mut words = Vec::new(rt.alloc());
-    for argument in arguments {
-        words.push(argument)?;
-    }
+    let words = arguments(rt)?;
     let (mut out, mut err) = (rt.stdout(), rt.stderr());
     let Some((question, paths)) = asked(&words) else {
-        return Ok(say(&Fault::Usage, &mut out));
+        return Ok(say("usage", &USAGE, &mut out));
     };
-    match read_inputs(rt, paths) {
+    match read_inputs::<_, LinkError>(rt, paths) {
         Ok(inputs) => Ok(run(rt.alloc(), question, &inputs, &mut out, &mut err)),
-        Err(fault) => Ok(say(&fault, &mut err)),
+        Err(fault) => Ok(say(NAME, &fault, &mut err)),
     }
-}
-
-// The files at these paths.
-fn read_inputs<'a, S: AsStr>(
-    rt: &HostRuntime,
-    paths: &'a [S],
-) -> Result<Vec<Input<'a>>, Fault<'a>> {
-    let mut inputs = Vec::new(rt.alloc());
-    for path in paths {
-        let path = path.as_str();
-        let file = File::open(rt, path).ok();
-        let bytes = read_whole(rt.alloc(), file).ok_or(Fault::Read { path })?;
-        if inputs.push(Input { path, bytes }).is_err() {
-            return Err(Fault::Read { path });
-        }
-    }
-    Ok(inputs)
 }
 
 // What the arguments ask, and of which files, if they are as they should be.

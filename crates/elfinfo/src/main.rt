@@ -9,31 +9,32 @@ ghost use Rattle.xmas_elf.specs.FileHeader.{header_of};
 ghost use Rattle.xmas_elf.specs.Report.{WritesReport};
 ghost use Rattle.xmas_elf.specs.Types.{ElfError};
 
-use program_ends::{Output, Stop, read_whole, say, write_buffered};
+use program_ends::{Output, Stop, arguments, exit_code, read_whole, say, write_buffered};
 use std::alloc::Global;
 use std::fs::File;
+use std::io;
 use std::io::{Read, Write};
 use std::process::ExitCode;
-use std::{env, io};
 use thiserror::Error;
 use xmas_elf::report::{ReportFault, report_with};
 use xmas_elf::sections::{SectionData, SectionHeader, ShType};
 use xmas_elf::{ElfError, ElfFile};
 
-/// Why the program ends with status 1, and what it says then.
+const NAME: &str = "elfinfo";
+
+/// Why the program ends with status 1, and what it says then after its name. It names no path of a
+/// file with an error.
 #[derive(Debug, Drop, Error)]
 enum Fault<'a> {
-    #[error("elfinfo: cannot read the arguments")]
-    Arguments,
-    #[error("usage: elfinfo <binary_path>")]
+    #[error("elfinfo <binary_path>")]
     Usage,
-    #[error("elfinfo: cannot read {path}")]
+    #[error("cannot read {path}")]
     Read { path: &'a str },
-    #[error("elfinfo: {0}")]
+    #[error("{0}")]
     Refused(ElfError),
-    #[error("elfinfo: cannot write")]
+    #[error("cannot write")]
     Write,
-    #[error("elfinfo: not enough memory")]
+    #[error("not enough memory")]
     Memory,
 }
 
@@ -57,8 +58,8 @@ pub fn run<R: Read + Drop, W: Write, E: Write>(
     let printed = print_report(alloc, path, file, &mut *out).map(|_| ());
     match printed {
         Ok(()) => 0,
-        Err(Fault::Usage) => say(&Fault::Usage, out),
-        Err(fault) => say(&fault, err),
+        Err(Fault::Usage) => say("usage", &Fault::Usage, out),
+        Err(fault) => say(NAME, &fault, err),
     }
 }
 
@@ -137,19 +138,13 @@ fn print_report<'a, R: Read + Drop, W: Write + Drop>(
 }
 
 fn main(rt: HostRuntime) -> ExitCode {
-    let status = match run_on_arguments(&rt) {
-        Ok(status) => status,
-        Err(_) => say(&Fault::Arguments, &mut rt.stderr()),
-    };
-    ExitCode::from(status)
+    exit_code(NAME, run_on_arguments(&rt), &mut rt.stderr())
 }
 
 // The status, or why the arguments can't be read: for want of memory, or since one is not UTF-8.
 fn run_on_arguments(rt: &HostRuntime) -> io::Result<u8> {
-    let mut arguments = env::args(rt)?;
-    let _program = arguments.next();
-    let path = arguments.next();
-    let path = path.as_ref().map(|path| path.as_str());
+    let words = arguments(rt)?;
+    let path = words.first().map(|path| path.as_str());
     let file = path.and_then(|path| File::open(rt, path).ok());
     Ok(run(rt.alloc(), path, file, &mut rt.stdout(), &mut rt.stderr()))
 }

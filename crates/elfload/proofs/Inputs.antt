@@ -1,22 +1,16 @@
 -- What holds of a file holds of its input, and what a plan tells of its file.
 use Rattle.std.proofs.Common.{◌≡◌, ℕ, List, Option, Some, Result, Ok, Err, refl, sym, subst}
 use Rattle.std.specs.Borrow.{Bor}
-use Rattle.std.specs.Prelude.{IsOk, IsOkAnd, MatchResult, OnOk}
-use Rattle.elf_base.specs.FileHeader.{header_of}
+use Rattle.std.specs.Prelude.{IsOk, MatchResult, OnOk}
 use Rattle.elf_loading.specs.Plan.{IsPlanOf}
 use Rattle.elf_loading.specs.declared.plan.LoadPlan.{LoadPlan}
-use Rattle.elfload.specs.Plans.{IsFilePlan, IsFileRefused, IsLoaded, IsPlanText, OfHeader, header_limit}
+use Rattle.elfload.specs.Plans.{IsFilePlan, IsFileRefused, IsLoaded, IsPlanText, header_limit}
 use Rattle.elfload.specs.declared.plans.Refusal.{Refusal}
 use Rattle.program_ends.specs.Appended.{AppendsSome}
 use Rattle.program_ends.specs.Stops.{IsStop}
 use Rattle.program_ends.specs.declared.Stop as stops
 use Rattle.program_ends.specs.declared.Stop.TheVariants as stops_are
-use Rattle.xmas_elf.specs.Types.{ElfError, ElfFile, Header}
-
-pub of_header : (P : ElfFile → Type 0) (input : Bor (List ℕ)) (file : ElfFile) → file.input ≡ input → header_of input.now ≡ Ok file.header → P file → OfHeader input P
-of_header P input file same header holds =
-    subst (λ (r : Result Header ElfError). IsOkAnd r (λ h. P (record { input = input; header = h }))) (sym header)
-    (subst (λ (i : Bor (List ℕ)). P (record { input = i; header = file.header })) same holds)
+use Rattle.xmas_elf.specs.Types.{ElfFile}
 
 -- a file with a plan is loaded
 pub planned : (page limit : ℕ) (file : ElfFile) (plan : LoadPlan) → header_limit file.header ≡ Some limit → IsPlanOf file page limit plan → IsLoaded page file

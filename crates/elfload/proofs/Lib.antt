@@ -8,5 +8,6 @@ pub mod Steps
 pub mod WordLines
 pub mod ObjectWords
 pub mod Checks
+pub mod FilePlans
 pub mod WordsEnds
 pub mod Prefixes

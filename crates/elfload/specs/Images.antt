@@ -1,84 +1,99 @@
 -- Whether the words of files can be written to their memory (this project's own).
-use Rattle.std.specs.Prelude.{◌≡◌, ◌<◌, ℕ, true, false, List, length, None, Some, Result, Ok, Err, slice_get}
-use Rattle.elf_linking.specs.AnyTable.{IsCheckBy, IsGoodBy}
+use Rattle.std.specs.Prelude.{◌≡◌, ◌<◌, ℕ, true, false, List, length, IsSomeAnd, MatchOption, Some, Ok, Err, slice_get, take}
+use Rattle.std.specs.List.{AllZip}
 use Rattle.elf_linking.specs.DynamicObject.{object_dynamic_symbols, object_file}
-use Rattle.elf_linking.specs.Find.{AreReadable, DynamicSymbols}
-use Rattle.elf_linking.specs.Versions.{versions_error}
 use Rattle.elf_linking.specs.declared.error.LinkError.{LinkError}
 use Rattle.elf_linking.specs.declared.object.DynamicObject.{DynamicObject}
-use Rattle.elf_base.specs.Refusal.{and_then}
 use Rattle.elf_loading.specs.FileCheck.{check_file}
 use Rattle.elf_loading.specs.ImageWords.{IsImageCheck}
+use Rattle.elf_loading.specs.Plan.{IsPlanOf}
 use Rattle.elf_loading.specs.declared.error.LoadError.{LoadError}
 use Rattle.elf_loading.specs.declared.error.LoadError.TheVariants.{Link, Machine}
-use Rattle.elfload.specs.Files.{AreObjectsOf, IsOfInput, is_first_narrow}
+use Rattle.elf_loading.specs.declared.plan.LoadPlan.{LoadPlan}
+use Rattle.linking_programs.specs.Checks.{AreChecked, IsGood}
+use Rattle.linking_programs.specs.Files.{AreObjectsOf, IsOfInput, is_first_narrow}
 use Rattle.elfload.specs.Plans.{header_limit}
-use Rattle.elfload.specs.declared.files.Input.{Input}
-use Rattle.elfload.specs.declared.files.Refused.{Refused}
+use Rattle.linking_programs.specs.declared.Input.{Input}
+use Rattle.linking_programs.specs.declared.Refused.{Refused}
 use Rattle.xmas_elf.specs.Symbol.{SymbolFields, dyn_entry_32_fields, dyn_entry_64_fields}
-use Rattle.xmas_elf.specs.Types.{DynEntry32, DynEntry64}
+use Rattle.xmas_elf.specs.Types.{DynEntry32, DynEntry64, ElfFile}
 
--- look-ups in a file find what they must, and its versions can be read
-abbrev pub IsGood : {E : Type 0} → DynamicSymbols E → Type 0
-IsGood file = IsGoodBy file.table file.symbols × AreReadable file
+-- The plans of the files.
 
--- the result of the checks of a file's symbols: that of its hash table and, if that passes, of its versions
-pub record AreChecked {E : Type 0} (file : DynamicSymbols E) (result : Result (Unit {0}) LinkError) : Type 0 where
-  pub table_result : Result (Unit {0}) LinkError
-  pub table_checked : IsCheckBy file.table file.symbols table_result
-  pub result_is : result ≡ and_then table_result (λ _. versions_error file.versions (length file.symbols.items))
+-- the plan is that of the file of an object, with pages of a size and the addresses of its machine
+abbrev pub IsPlanFor : {E : Type 0} → {r : _} → ℕ → DynamicObject E r → LoadPlan → Type 0
+IsPlanFor page object plan = let file = object_file object in
+    IsSomeAnd (header_limit file.header) (λ limit. IsPlanOf file page limit plan)
+
+-- the plans are those of the objects, in order
+abbrev pub ArePlansOf : {E : Type 0} → {r : _} → ℕ → List (DynamicObject E r) → List LoadPlan → Type 0
+ArePlansOf page objects plans = AllZip (IsPlanFor page) objects plans
+
+-- why a file has no plan: the end of addresses of its machine isn't known, or Linux or glibc would not load it
+abbrev pub LacksPlan : ℕ → ElfFile → LoadError → Type 0
+LacksPlan page file error = MatchOption (header_limit file.header) (error ≡ Machine)
+    (λ limit. check_file file page limit ≡ Err error)
+
+-- the first of the objects whose file has no plan, and why; those before it have
+pub record IsPlanMissing {E : Type 0} {r : _} (page : ℕ) (inputs : List Input) (objects : List (DynamicObject E r)) (refused : Refused LoadError) : Type 0 where
+  pub index : ℕ
+  pub object : DynamicObject E r
+  pub object_is : slice_get objects index ≡ Some object
+  pub plans : List LoadPlan
+  pub before : ArePlansOf page (take index objects) plans
+  pub path_is : IsOfInput inputs index refused
+  pub why : LacksPlan page (object_file object) refused.error
+
+-- The checks.
 
 -- the image of the object at an index passes the check, with as many marks as are enough
-abbrev pub IsImageGood : {E : Type 0} → {r : _} → ℕ → (E → SymbolFields) → List (DynamicObject E r) → ℕ → Type 0
-IsImageGood size fields objects index = (bits : ℕ) × IsImageCheck size fields objects index bits (Ok tt)
+abbrev pub IsImageGood : {E : Type 0} → {r : _} → ℕ → (E → SymbolFields) → List (DynamicObject E r) → List LoadPlan → ℕ → Type 0
+IsImageGood size fields objects plans index = (bits : ℕ) × IsImageCheck size fields objects plans index bits (Ok tt)
 
 -- the object at an index passes both checks
-pub record IsChecked {E : Type 0} {r : _} (size : ℕ) (fields : E → SymbolFields) (objects : List (DynamicObject E r)) (index : ℕ) : Type 0 where
+pub record IsChecked {E : Type 0} {r : _} (size : ℕ) (fields : E → SymbolFields) (objects : List (DynamicObject E r)) (plans : List LoadPlan) (index : ℕ) : Type 0 where
   pub object : DynamicObject E r
   pub object_is : slice_get objects index ≡ Some object
   pub good : IsGood (object_dynamic_symbols fields object)
-  pub image : IsImageGood size fields objects index
+  pub image : IsImageGood size fields objects plans index
 
--- why the object at an index does not pass: by its symbols, its plan with pages of a size, or its words
-pub data IsCheckError {E : Type 0} {r : _} (size : ℕ) (fields : E → SymbolFields) (page : ℕ) (objects : List (DynamicObject E r)) (index : ℕ) : LoadError → Type 0 where
+-- why the object at an index does not pass: by its symbols, or its words
+pub data IsCheckError {E : Type 0} {r : _} (size : ℕ) (fields : E → SymbolFields) (objects : List (DynamicObject E r)) (plans : List LoadPlan) (index : ℕ) : LoadError → Type 0 where
   by_symbols : (object : DynamicObject E r) (error : LinkError) → slice_get objects index ≡ Some object
-      → AreChecked (object_dynamic_symbols fields object) (Err error) → IsCheckError size fields page objects index (Link error)
-  by_machine : (object : DynamicObject E r) → slice_get objects index ≡ Some object
-      → header_limit (object_file object).header ≡ None → IsCheckError size fields page objects index Machine
-  by_plan : (object : DynamicObject E r) (limit : ℕ) (error : LoadError) → slice_get objects index ≡ Some object
-      → header_limit (object_file object).header ≡ Some limit → check_file (object_file object) page limit ≡ Err error
-      → IsCheckError size fields page objects index error
-  by_image : (bits : ℕ) (error : LoadError) → IsImageCheck size fields objects index bits (Err error)
-      → IsCheckError size fields page objects index error
+      → AreChecked (object_dynamic_symbols fields object) (Err error) → IsCheckError size fields objects plans index (Link error)
+  by_words : (bits : ℕ) (error : LoadError) → IsImageCheck size fields objects plans index bits (Err error)
+      → IsCheckError size fields objects plans index error
 
 -- the error of the input at an index is that of its object
-pub record IsRefusedAt {E : Type 0} {r : _} (size : ℕ) (fields : E → SymbolFields) (page : ℕ) (inputs : List Input) (objects : List (DynamicObject E r)) (index : ℕ) (refused : Refused) : Type 0 where
+pub record IsRefusedAt {E : Type 0} {r : _} (size : ℕ) (fields : E → SymbolFields) (inputs : List Input) (objects : List (DynamicObject E r)) (plans : List LoadPlan) (index : ℕ) (refused : Refused LoadError) : Type 0 where
   pub path_is : IsOfInput inputs index refused
-  pub error_is : IsCheckError size fields page objects index refused.error
+  pub error_is : IsCheckError size fields objects plans index refused.error
 
 -- the first object that does not pass, and why
-pub record IsImageRefused {E : Type 0} {r : _} (size : ℕ) (fields : E → SymbolFields) (page : ℕ) (inputs : List Input) (objects : List (DynamicObject E r)) (refused : Refused) : Type 0 where
+pub record IsImageRefused {E : Type 0} {r : _} (size : ℕ) (fields : E → SymbolFields) (inputs : List Input) (objects : List (DynamicObject E r)) (plans : List LoadPlan) (refused : Refused LoadError) : Type 0 where
   pub index : ℕ
-  pub before : (i : ℕ) → i < index → IsChecked size fields objects i
-  pub why : IsRefusedAt size fields page inputs objects index refused
+  pub before : (i : ℕ) → i < index → IsChecked size fields objects plans i
+  pub why : IsRefusedAt size fields inputs objects plans index refused
 
 -- all objects pass
-abbrev pub AreAllChecked : {E : Type 0} → {r : _} → ℕ → (E → SymbolFields) → List (DynamicObject E r) → Type 0
-AreAllChecked size fields objects = (i : ℕ) → i < length objects → IsChecked size fields objects i
+abbrev pub AreAllChecked : {E : Type 0} → {r : _} → ℕ → (E → SymbolFields) → List (DynamicObject E r) → List LoadPlan → Type 0
+AreAllChecked size fields objects plans = (i : ℕ) → i < length objects → IsChecked size fields objects plans i
 
 -- The same of the inputs, by the class of the first.
 
--- they are files of this class, whose symbols have this size, and all pass
-pub record AreInputsChecked {E : Type 0} (r : _) (fields : E → SymbolFields) (class size : ℕ) (inputs : List Input) : Type 0 where
+-- they are files of this class, whose symbols have this size; with pages of a size all have plans, and pass
+pub record AreInputsChecked {E : Type 0} (r : _) (fields : E → SymbolFields) (class size page : ℕ) (inputs : List Input) : Type 0 where
   pub objects : List (DynamicObject E r)
   pub objects_are : AreObjectsOf class size inputs objects
-  pub checked : AreAllChecked size fields objects
+  pub plans : List LoadPlan
+  pub plans_are : ArePlansOf page objects plans
+  pub checked : AreAllChecked size fields objects plans
 
 -- the first two arguments say how the record of a symbol of each class is read
-pub data AreImagesGood (narrow_record wide_record : _) (inputs : List Input) : Type 0 where
+pub data AreImagesGood (narrow_record wide_record : _) (page : ℕ) (inputs : List Input) : Type 0 where
   narrow : is_first_narrow inputs ≡ true
-      → AreInputsChecked {E = DynEntry32} narrow_record dyn_entry_32_fields 1 16 inputs
-      → AreImagesGood narrow_record wide_record inputs
+      → AreInputsChecked {E = DynEntry32} narrow_record dyn_entry_32_fields 1 16 page inputs
+      → AreImagesGood narrow_record wide_record page inputs
   wide : is_first_narrow inputs ≡ false
-      → AreInputsChecked {E = DynEntry64} wide_record dyn_entry_64_fields 2 24 inputs
-      → AreImagesGood narrow_record wide_record inputs
+      → AreInputsChecked {E = DynEntry64} wide_record dyn_entry_64_fields 2 24 page inputs
+      → AreImagesGood narrow_record wide_record page inputs

@@ -1,5 +1,5 @@
 -- What the program writes of a file (this project's own): its header, and its plan for both loaders.
-use Rattle.std.specs.Prelude.{◌≡◌, ℕ, ◌++◌, ◌==◌, ◌&&◌, ◌||◌, ◌*◌, List, Option, Some, None, Err, codes, IsOk, IsOkAnd, MatchOption, if◌then◌else◌, option_map}
+use Rattle.std.specs.Prelude.{◌≡◌, ℕ, ◌++◌, ◌==◌, ◌&&◌, ◌||◌, ◌*◌, List, Option, Some, None, Err, codes, IsOk, MatchOption, if◌then◌else◌, option_map}
 use Rattle.std.specs.Borrow.{Bor}
 use Rattle.elf_base.specs.FileHeader.{file_class, header_fields, header_of, machine_number}
 use Rattle.elf_base.specs.Text.{EndsInZero}
@@ -15,6 +15,7 @@ use Rattle.elfload.specs.Texts.{head_text, mappings_text}
 use Rattle.elfload.specs.declared.plans.Head.{Head}
 use Rattle.elfload.specs.declared.plans.Refusal as refusals
 use Rattle.elfload.specs.declared.plans.Refusal.TheVariants as refusals_are
+use Rattle.linking_programs.specs.Files.{OfHeader}
 use Rattle.program_ends.specs.Names.{escaped}
 use Rattle.xmas_elf.specs.Types.{ElfFile, Header}
 
@@ -46,7 +47,7 @@ head_of page path file = record {
   span = span_of page (loads_of file);
   relro = option_map (relro_span page) (relro_of file);
   tls = option_map (λ tls. record {
-    address = tls.virtual_addr;
+    address = tls.address;
     file_size = tls.file_size;
     mem_size = tls.mem_size;
     align = tls.align;
@@ -87,10 +88,6 @@ pub data IsFileRefused (page : ℕ) (file : ElfFile) : refusals.Refusal → Type
       → check_file file page limit ≡ Err error → IsFileRefused page file (refusals_are.Load error)
 
 -- The same of an input.
-
--- it is the file of its header, with a property
-abbrev pub OfHeader : Bor (List ℕ) → (ElfFile → Type 0) → Type 0
-OfHeader input P = IsOkAnd (header_of input.now) (λ header. P (record { input = input; header = header }))
 
 abbrev pub IsInputPlan : ℕ → Bor (List ℕ) → Bor (List ℕ) → List ℕ → Type 0
 IsInputPlan page path input text = OfHeader input (λ file. IsFilePlan page path file text)

@@ -1,5 +1,5 @@
 -- How the program writes the parts of a plan (this project's own).
-use Rattle.std.specs.Prelude.{ℕ, ◌++◌, ◌==◌, List, Option, Some, None, false, codes, decimal, bit_and, if◌then◌else◌}
+use Rattle.std.specs.Prelude.{ℕ, ◌++◌, ◌==◌, List, Option, Some, None, false, codes, decimal, bit_and, nat_lt, if◌then◌else◌}
 use Rattle.std.specs.Fmt.{digits}
 use Rattle.std.specs.List.{flat_map}
 use Rattle.elf_loading.specs.declared.mapping.Contents.{Contents}
@@ -42,9 +42,9 @@ mapping_text mapping =
 abbrev pub mappings_text : List Mapping → List ℕ
 mappings_text mappings = flat_map mapping_text mappings
 
--- a range, or that there is none
+-- a range, or that there is none or it is empty
 abbrev pub span_text : Option Span → List ℕ
-span_text (Some span) = range_text span.start span.end
+span_text (Some span) = if nat_lt span.start span.end then range_text span.start span.end else codes "none"
 span_text None = codes "none"
 
 -- thread-local storage: the address of its bytes, their number, its size, and its alignment

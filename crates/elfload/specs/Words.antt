@@ -20,10 +20,10 @@ use Rattle.elf_loading.specs.declared.words.Binding.{Binding}
 use Rattle.elf_loading.specs.declared.words.Relocated.{Relocated}
 use Rattle.elf_loading.specs.declared.words.Word.{Word}
 use Rattle.elf_loading.specs.declared.words.Words.{Words}
-use Rattle.elfload.specs.Files.{IsOfInput}
+use Rattle.linking_programs.specs.Files.{IsOfInput}
 use Rattle.elfload.specs.Texts.{hex}
-use Rattle.elfload.specs.declared.files.Input.{Input}
-use Rattle.elfload.specs.declared.files.Refused.{Refused}
+use Rattle.linking_programs.specs.declared.Input.{Input}
+use Rattle.linking_programs.specs.declared.Refused.{Refused}
 use Rattle.xmas_elf.specs.Symbol.{SymbolFields}
 
 -- The text of a word.
@@ -154,7 +154,7 @@ pub data IsTextError {E : Type 0} {r : _} (fields : E → SymbolFields) (when : 
       → IsTextError fields when objects of error
 
 -- the error of the input at an index is such an error of its object
-pub record IsTextRefused {E : Type 0} {r : _} (fields : E → SymbolFields) (when : Binding) (inputs : List Input) (objects : List (DynamicObject E r)) (refused : Refused) : Type 0 where
+pub record IsTextRefused {E : Type 0} {r : _} (fields : E → SymbolFields) (when : Binding) (inputs : List Input) (objects : List (DynamicObject E r)) (refused : Refused LoadError) : Type 0 where
   pub of : ℕ
   pub path_is : IsOfInput inputs of refused
   pub error_is : IsTextError fields when objects of refused.error

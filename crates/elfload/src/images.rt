@@ -1,37 +1,81 @@
 //! Whether the words of each file can be written to its memory.
 
-ghost use Rattle.std.specs.Prelude.{◌≡◌, ◌<◌, ◌↔◌, IsOk, MatchResult, length, ⊤};
-ghost use Rattle.elf_linking.specs.DynamicObject.{object_dynamic_symbols};
-ghost use Rattle.elfload.specs.Images.{AreAllChecked, AreChecked, IsChecked, IsGood, IsImageGood};
-ghost use Rattle.elfload.specs.Images.{IsImageRefused, IsRefusedAt};
+ghost use Rattle.std.specs.Prelude.{◌≡◌, ◌<◌, IfErr, IfOk, MatchResult, length, ⊤};
+ghost use Rattle.elf_linking.specs.DynamicObject.{object_file};
+ghost use Rattle.elfload.specs.Images.{AreAllChecked, ArePlansOf, IsChecked};
+ghost use Rattle.elfload.specs.Images.{IsImageGood, IsImageRefused, IsPlanFor, IsPlanMissing};
+ghost use Rattle.elfload.specs.Images.{IsRefusedAt, LacksPlan};
 ghost use Rattle.program_ends.specs.Stops.{IsStop};
 
-use crate::files::{Input, Refused, refusal_at};
 use crate::plans::limit_of;
+use elf_linking::DynamicObject;
 use elf_linking::scope::Scope;
 use elf_linking::view::LinkedSymbol;
-use elf_linking::{DynamicObject, LinkError};
 use elf_loading::{LoadError, LoadPlan, LoadScope, Span};
+use linking_programs::{Input, Refused, check_object as check_symbols, refusal_at};
 use program_ends::Stop;
 use std::alloc::Global;
 
 // The most bytes of marks: those of a span of 4 GB.
 const MOST_MARKS: u64 = 0x2000_0000;
 
-// Checks the symbols and the words of all objects.
-pub(crate) fn check_images<'s, E: LinkedSymbol>(
+// The plans of the files of all objects, which are those of the inputs.
+pub(crate) fn read_plans<'s, 'a, E: LinkedSymbol>(
     alloc: Global,
     page: u64,
     inputs: &'s [Input<'_>],
-    objects: &[DynamicObject<'_, E>],
-) -> Result<(), Stop<Refused<'s>>>
+    objects: &[DynamicObject<'a, E>],
+) -> Result<Vec<LoadPlan<'a>>, Stop<Refused<'s, LoadError>>>
     requires paged { 0 < page }
     requires same { length objects.now ≡ length inputs.now }
-    ensures { MatchResult result (λ _. AreAllChecked E.SIZE E.fields objects.now)
-        (IsStop (IsImageRefused E.SIZE E.fields page inputs.now objects.now) ⊥ ⊤) }
+    ensures plans { IfOk result (λ plans. ArePlansOf page objects.now plans.items) }
+    ensures count { IfOk result (λ plans. length plans.items ≡ length objects.now) }
+    ensures refused { IfErr result (IsStop (IsPlanMissing page inputs.now objects.now) ⊥ ⊤) }
+{
+    let mut plans = Vec::new(alloc);
+    for index in 0..objects.len() {
+        match read_plan(page, &objects[index]) {
+            Ok(plan) => {
+                if plans.push(plan).is_err() {
+                    return Err(Stop::Memory);
+                }
+            }
+            Err(error) => return Err(refusal_at(inputs, index, error)),
+        }
+    }
+    Ok(plans)
+}
+
+// The plan of the file of an object.
+fn read_plan<'a, E: LinkedSymbol>(
+    page: u64,
+    object: &DynamicObject<'a, E>,
+) -> Result<LoadPlan<'a>, LoadError>
+    requires { 0 < page }
+    ensures { MatchResult result (IsPlanFor page object.now)
+        (LacksPlan page (object_file object.now)) }
+{
+    let file = object.file();
+    match limit_of(&file.header) {
+        Some(limit) => LoadPlan::check_load(&file, page, limit),
+        None => Err(LoadError::Machine),
+    }
+}
+
+// Checks the symbols and the words of all objects.
+pub(crate) fn check_images<'s, E: LinkedSymbol>(
+    alloc: Global,
+    inputs: &'s [Input<'_>],
+    objects: &[DynamicObject<'_, E>],
+    plans: &[LoadPlan<'_>],
+) -> Result<(), Stop<Refused<'s, LoadError>>>
+    requires same { length objects.now ≡ length inputs.now }
+    requires planned { length plans.now ≡ length objects.now }
+    ensures { MatchResult result (λ _. AreAllChecked E.SIZE E.fields objects.now plans.now)
+        (IsStop (IsImageRefused E.SIZE E.fields inputs.now objects.now plans.now) ⊥ ⊤) }
 {
     for index in 0..objects.len() {
-        match check_object(alloc, page, inputs, objects, index) {
+        match check_object(alloc, inputs, objects, plans, index) {
             Ok(()) => {}
             Err(stop) => return Err(stop),
         }
@@ -42,63 +86,46 @@ pub(crate) fn check_images<'s, E: LinkedSymbol>(
 // Checks the symbols and the words of the object at an index.
 fn check_object<'s, E: LinkedSymbol>(
     alloc: Global,
-    page: u64,
     inputs: &'s [Input<'_>],
     objects: &[DynamicObject<'_, E>],
+    plans: &[LoadPlan<'_>],
     index: usize,
-) -> Result<(), Stop<Refused<'s>>>
-    requires paged { 0 < page }
+) -> Result<(), Stop<Refused<'s, LoadError>>>
     requires same { length objects.now ≡ length inputs.now }
+    requires planned { length plans.now ≡ length objects.now }
     requires below { index < length objects.now }
-    ensures { MatchResult result (λ _. IsChecked E.SIZE E.fields objects.now index)
-        (IsStop (IsRefusedAt E.SIZE E.fields page inputs.now objects.now index) ⊥ ⊤) }
+    ensures { MatchResult result (λ _. IsChecked E.SIZE E.fields objects.now plans.now index)
+        (IsStop (IsRefusedAt E.SIZE E.fields inputs.now objects.now plans.now index) ⊥ ⊤) }
 {
     match check_symbols(&objects[index]) {
-        Ok(()) => check_words(alloc, page, inputs, objects, index),
+        Ok(()) => check_words(alloc, inputs, objects, plans, index),
         Err(error) => Err(refusal_at(inputs, index, LoadError::Link(error))),
-    }
-}
-
-// Checks that look-ups in an object find what they must, and that its versions can be read.
-fn check_symbols<E: LinkedSymbol>(object: &DynamicObject<'_, E>) -> Result<(), LinkError>
-    ensures accepts { IsOk result ↔ IsGood (object_dynamic_symbols E.fields object.now) }
-    ensures exact { AreChecked (object_dynamic_symbols E.fields object.now) result }
-{
-    match object.check() {
-        Ok(()) => object.check_versions(),
-        Err(error) => Err(error),
     }
 }
 
 // Checks that the words of the object at an index can be written.
 fn check_words<'s, E: LinkedSymbol>(
     alloc: Global,
-    page: u64,
     inputs: &'s [Input<'_>],
     objects: &[DynamicObject<'_, E>],
+    plans: &[LoadPlan<'_>],
     index: usize,
-) -> Result<(), Stop<Refused<'s>>>
-    requires paged { 0 < page }
+) -> Result<(), Stop<Refused<'s, LoadError>>>
     requires same { length objects.now ≡ length inputs.now }
+    requires planned { length plans.now ≡ length objects.now }
     requires below { index < length objects.now }
-    ensures { MatchResult result (λ _. IsImageGood E.SIZE E.fields objects.now index)
-        (IsStop (IsRefusedAt E.SIZE E.fields page inputs.now objects.now index) ⊥ ⊤) }
+    ensures { MatchResult result (λ _. IsImageGood E.SIZE E.fields objects.now plans.now index)
+        (IsStop (IsRefusedAt E.SIZE E.fields inputs.now objects.now plans.now index) ⊥ ⊤) }
 {
-    let file = objects[index].file();
-    let Some(limit) = limit_of(&file.header) else {
-        return Err(refusal_at(inputs, index, LoadError::Machine));
-    };
-    let span = match LoadPlan::check_load(&file, page, limit) {
-        Ok(plan) => plan.span(),
-        Err(error) => return Err(refusal_at(inputs, index, error)),
-    };
-    let Some(size) = marks_size(span) else {
+    let Some(size) = marks_size(plans[index].span()) else {
         return Err(Stop::Memory);
     };
     let Ok(mut marks) = vec![in alloc; 0u8; size] else {
         return Err(Stop::Memory);
     };
-    match Scope::new(objects).check_image(index, &mut marks) {
+    let scope = Scope::new(objects);
+    let planned = LoadScope::new(scope, plans);
+    match planned.check_image(index, &mut marks) {
         Ok(()) => Ok(()),
         Err(error) => Err(refusal_at(inputs, index, error)),
     }

@@ -8,36 +8,37 @@
 //! is the size of a page, 4096 without it.
 #![tactic(auto)]
 
-ghost use Rattle.std.specs.Prelude.{◌≡◌, ◌<◌, ◌≤◌, ◌⊎◌, [], Err, IfErr, IfOk, IfSome, List, MatchResult, Ok};
+ghost use Rattle.std.specs.Prelude.{◌≡◌, ◌<◌, ◌≤◌, ◌⊎◌, Err, IfErr, IfOk, IfSome, List, MatchResult, Ok};
 ghost use Rattle.std.specs.Prelude.{OnOk, Result, length, ⊤};
-ghost use Rattle.std.specs.Io.Buffered.{writer_buffer, writer_inner};
 ghost use Rattle.elf_linking.specs.declared.object.DynamicObject.{DynamicObject};
-ghost use Rattle.elfload.specs.Ends.{AreRefused, IsBegun, IsEnd, IsFault, IsWordsEnd, fault_of};
-ghost use Rattle.elfload.specs.Ends.{status_of, words_fault_of};
-ghost use Rattle.elfload.specs.Files.{AreLoaded, AreObjectsOf, HasStatic, is_first_narrow};
+ghost use Rattle.elfload.specs.Ends.{AreRefused, IsBegun, IsEnd, IsFault, IsWordsEnd, load_stop};
+ghost use Rattle.elfload.specs.Ends.{words_fault_of};
+ghost use Rattle.elfload.specs.Files.{AreLoaded, HasStatic};
 ghost use Rattle.elfload.specs.Images.{AreImagesGood, AreInputsChecked};
 ghost use Rattle.elfload.specs.Plans.{IsInputLoaded, IsInputPlan, IsInputRefused};
-ghost use Rattle.elfload.specs.Words.{AreWordsWritten, IsTextRefused};
-ghost use Rattle.elfload.specs.declared.Fault.{Fault};
+ghost use Rattle.elfload.specs.Words.{AreWordsWritten};
+ghost use Rattle.elfload.specs.declared.plans.Refusal.{Refusal};
+ghost use Rattle.linking_programs.specs.Files.{AreObjectsOf};
 ghost use Rattle.program_ends.specs.Appended.{AppendsSome};
+ghost use Rattle.program_ends.specs.Ends.{status_of};
 ghost use Rattle.program_ends.specs.Stops.{IsStop};
+ghost use Rattle.program_ends.specs.declared.Fault.{Fault};
 
-use crate::files::{Input, Refused, all_dynamic, is_first_narrow, read_objects};
-use crate::images::check_images;
+use crate::files::all_dynamic;
+use crate::images::{check_images, read_plans};
 use crate::plans::{Plan, Refusal};
-use crate::words::write_words;
+use crate::words::WordsText;
 use elf_base::bytes::Record;
-use elf_linking::DynamicObject;
 use elf_linking::view::LinkedSymbol;
-use elf_loading::Binding;
-use program_ends::{Stop, read_whole, say, write_buffered};
+use elf_linking::{DynamicObject, LinkError};
+use elf_loading::{Binding, LoadError};
+use linking_programs::{Input, Refused, is_first_narrow, read_inputs, read_objects, refusal};
+use program_ends::{Fault, Stop, arguments, exit_code, fault_of, say, status_of, write_buffered};
 use std::alloc::Global;
 use std::convert::AsStr;
-use std::fs::File;
-use std::io::{BufWriter, Write};
+use std::io;
+use std::io::Write;
 use std::process::ExitCode;
-use std::{env, io};
-use thiserror::Error;
 use xmas_elf::symbol_table::{DynEntry32, DynEntry64};
 
 mod files;
@@ -45,30 +46,16 @@ mod images;
 mod plans;
 mod words;
 
-const USAGE: &str = "usage: elfload [--lazy] [--page <size>] <binary_path>..";
+// What messages begin with.
+const NAME: &str = "elfload";
+
+const USAGE: &str = "elfload [--lazy] [--page <size>] <binary_path>..";
 
 const HELP: &str =
     "Prints the header of each file, what else a loader asks for, and what Linux (kernel) and glibc map;
 then, if each has a dynamic segment, what relocations write, for a program and its libraries in the order in which they are loaded.
 --lazy         jump slots get their symbols when they are called first
 --page <size>  the size of a page in bytes, a power of two; 4096 without it";
-
-/// Why the program ends with status 1, and what it says then.
-#[derive(Debug, Drop, Error)]
-enum Fault<'a> {
-    #[error("elfload: cannot read the arguments")]
-    Arguments,
-    #[error("usage: elfload [--lazy] [--page <size>] <binary_path>..")]
-    Usage,
-    #[error("elfload: cannot read {path}")]
-    Read { path: &'a str },
-    #[error("elfload: {path}: {refusal}")]
-    Refused { path: &'a str, refusal: Refusal },
-    #[error("elfload: cannot write")]
-    Write,
-    #[error("elfload: not enough memory")]
-    Memory,
-}
 
 /// What is asked for.
 #[derive(Clone, Copy, Drop)]
@@ -97,7 +84,7 @@ pub fn run<W: Write, E: Write>(
     ensures bound { result ≤ 1 }
     ensures loaded { result ≡ 0 → AreLoaded asked.page inputs.now }
     ensures checked { result ≡ 0 → HasStatic inputs.now
-        ⊎ AreImagesGood ⟦<DynEntry32 as Record>⟧ ⟦<DynEntry64 as Record>⟧ inputs.now }
+        ⊎ AreImagesGood ⟦<DynEntry32 as Record>⟧ ⟦<DynEntry64 as Record>⟧ asked.page inputs.now }
 {
     let status = run_plans(alloc, asked.page, inputs, out, err);
     if status != 0 {
@@ -157,13 +144,11 @@ pub fn run_plan<W: Write, E: Write>(
     requires { 0 < page }
     ensures bound { result ≤ 1 }
     ensures loaded { result ≡ 0 → IsInputLoaded page input.entry }
-    ensures ends { (end : Result (Unit {0}) Fault)
+    ensures ends { (end : Result (Unit {0}) (Fault Refusal))
         × IsEnd page path.entry input.entry end × (result ≡ status_of end) }
 {
-    match answer(alloc, page, path, input, out) {
-        Ok(()) => 0,
-        Err(fault) => say(&fault, err),
-    }
+    let ended = answer(alloc, page, path, input, out);
+    status_of(NAME, ended, err)
 }
 
 // Writes the plan of a file.
@@ -173,7 +158,7 @@ fn answer<'a, W: Write>(
     path: &'a str,
     input: &[u8],
     out: &mut W,
-) -> Result<(), Fault<'a>>
+) -> Result<(), Fault<'a, Refusal>>
     requires { 0 < page }
     ensures { IsEnd page path.entry input.entry result }
 {
@@ -190,7 +175,7 @@ fn print_plan<'a, W: Write + Drop>(
     path: &'a str,
     input: &[u8],
     out: W,
-) -> Result<W, Fault<'a>>
+) -> Result<W, Fault<'a, Refusal>>
     requires { 0 < page }
     ensures written { IfOk result (λ back. AppendsSome (IsInputPlan page path.entry input.entry)
         (W.contents out) (W.contents back)) }
@@ -201,17 +186,6 @@ fn print_plan<'a, W: Write + Drop>(
     match write_buffered(alloc, &plan, out) {
         Ok(out) => Ok(out),
         Err(stop) => Err(fault_of(stop, path)),
-    }
-}
-
-// What the program says where a plan isn't written to its end.
-fn fault_of(stop: Stop<Refusal>, path: &str) -> Fault<'_>
-    ensures { result ≡ fault_of path.entry stop }
-{
-    match stop {
-        Stop::Refused(refusal) => Fault::Refused { path, refusal },
-        Stop::Write => Fault::Write,
-        Stop::Memory => Fault::Memory,
     }
 }
 
@@ -233,15 +207,13 @@ pub fn run_words<W: Write, E: Write>(
     requires { 0 < asked.page }
     ensures bound { result ≤ 1 }
     ensures checked { result ≡ 0
-        → AreImagesGood ⟦<DynEntry32 as Record>⟧ ⟦<DynEntry64 as Record>⟧ inputs.now }
-    ensures ends { (end : Result (Unit {0}) Fault)
+        → AreImagesGood ⟦<DynEntry32 as Record>⟧ ⟦<DynEntry64 as Record>⟧ asked.page inputs.now }
+    ensures ends { (end : Result (Unit {0}) (Fault Refusal))
         × IsWordsEnd ⟦<DynEntry32 as Record>⟧ ⟦<DynEntry64 as Record>⟧ asked inputs.now end
         × (result ≡ status_of end) }
 {
-    match print_words(alloc, asked, inputs, out) {
-        Ok(()) => 0,
-        Err(fault) => say(&fault, err),
-    }
+    let ended = print_words(alloc, asked, inputs, out);
+    status_of(NAME, ended, err)
 }
 
 // Writes the words of the files, by the class of the first.
@@ -250,7 +222,7 @@ fn print_words<'a, W: Write>(
     asked: Options,
     inputs: &'a [Input<'_>],
     out: &mut W,
-) -> Result<(), Fault<'a>>
+) -> Result<(), Fault<'a, Refusal>>
     requires { 0 < asked.page }
     ensures { IsWordsEnd ⟦<DynEntry32 as Record>⟧ ⟦<DynEntry64 as Record>⟧ asked inputs.now result }
 {
@@ -263,7 +235,9 @@ fn print_words<'a, W: Write>(
 }
 
 // What the program says, by how the output ended.
-fn ended<W: Drop>(written: Result<W, Stop<Refused<'_>>>) -> Result<(), Fault<'_>>
+fn ended<W: Drop>(
+    written: Result<W, Stop<Refused<'_, LoadError>>>,
+) -> Result<(), Fault<'_, Refusal>>
     ensures { MatchResult written.entry (λ _. result ≡ Ok tt)
         (λ stop. result ≡ Err (words_fault_of stop)) }
 {
@@ -274,13 +248,13 @@ fn ended<W: Drop>(written: Result<W, Stop<Refused<'_>>>) -> Result<(), Fault<'_>
 }
 
 // What the program says where the words aren't written to their end.
-fn words_fault_of(stop: Stop<Refused<'_>>) -> Fault<'_>
+fn words_fault_of(stop: Stop<Refused<'_, LoadError>>) -> Fault<'_, Refusal>
     ensures { result ≡ words_fault_of stop.entry }
 {
     match stop {
         Stop::Refused(refused) => Fault::Refused {
             path: refused.path,
-            refusal: Refusal::Load(refused.error),
+            error: Refusal::Load(refused.error),
         },
         Stop::Write => Fault::Write,
         Stop::Memory => Fault::Memory,
@@ -293,121 +267,91 @@ fn print<'a, E: LinkedSymbol, W: Write + Drop>(
     asked: Options,
     inputs: &'a [Input<'_>],
     out: W,
-) -> Result<W, Stop<Refused<'a>>>
+) -> Result<W, Stop<Refused<'a, LoadError>>>
     requires { 0 < asked.page }
     ensures checked { OnOk result
-        (AreInputsChecked {E = E} E.Record E.fields E.CLASS E.SIZE inputs.now) }
+        (AreInputsChecked {E = E} E.Record E.fields E.CLASS E.SIZE asked.page inputs.now) }
     ensures written { IfOk result (λ back. (objects : List (DynamicObject E E.Record))
         × AreObjectsOf E.CLASS E.SIZE inputs.now objects
         × AppendsSome (AreWordsWritten E.fields asked.when inputs.now objects)
         (W.contents out) (W.contents back)) }
     ensures stopped { IfErr result
         (IsStop (AreRefused {E = E} E.Record E.fields E.CLASS E.SIZE asked inputs.now)
-        (AreInputsChecked {E = E} E.Record E.fields E.CLASS E.SIZE inputs.now) ⊤) }
+        (AreInputsChecked {E = E} E.Record E.fields E.CLASS E.SIZE asked.page inputs.now) ⊤) }
 {
     let objects = match read_objects::<E>(alloc, inputs) {
         Ok(objects) => objects,
-        Err(stop) => return Err(stop),
+        Err(stop) => return Err(load_stop(stop)),
     };
-    match check_images(alloc, asked.page, inputs, &objects) {
-        Ok(()) => print_objects(alloc, asked.when, inputs, &objects, out),
-        Err(stop) => Err(stop),
-    }
+    print_checked(alloc, asked, inputs, &objects, out)
 }
 
-// Writes the words of the files, of which these are the objects, and gives the writer back.
-fn print_objects<'a, E: LinkedSymbol, W: Write + Drop>(
+// Writes the words of files, of which these are the objects, and gives the writer back.
+fn print_checked<'a, E: LinkedSymbol, W: Write + Drop>(
     alloc: Global,
-    when: Binding,
+    asked: Options,
     inputs: &'a [Input<'_>],
     objects: &[DynamicObject<'_, E>],
     out: W,
-) -> Result<W, Stop<Refused<'a>>>
+) -> Result<W, Stop<Refused<'a, LoadError>>>
+    requires paged { 0 < asked.page }
     requires same { length objects.now ≡ length inputs.now }
-    ensures { MatchResult result (λ back. AppendsSome
-        (AreWordsWritten E.fields when inputs.now objects.now) (W.contents out) (W.contents back))
-        (IsStop (IsTextRefused E.fields when inputs.now objects.now) ⊤ ⊤) }
+    requires own { AreObjectsOf E.CLASS E.SIZE inputs.now objects.now }
+    ensures checked { OnOk result
+        (AreInputsChecked {E = E} E.Record E.fields E.CLASS E.SIZE asked.page inputs.now) }
+    ensures written { IfOk result (λ back. AppendsSome
+        (AreWordsWritten E.fields asked.when inputs.now objects.now) (W.contents out) (W.contents back)) }
+    ensures stopped { IfErr result
+        (IsStop (AreRefused {E = E} E.Record E.fields E.CLASS E.SIZE asked inputs.now)
+        (AreInputsChecked {E = E} E.Record E.fields E.CLASS E.SIZE asked.page inputs.now) ⊤) }
 {
-    let mut buffered = match BufWriter::new(alloc, out) {
-        Ok(buffered) => buffered,
-        Err(_) => return Err(Stop::Memory),
+    let plans = match read_plans(alloc, asked.page, inputs, objects) {
+        Ok(plans) => plans,
+        Err(stop) => return Err(stop),
     };
-    let written = write_flushed(when, inputs, objects, &mut buffered);
-    // Unlike a drop, this writes nothing more after a fault.
-    let (out, _) = buffered.into_parts();
-    match written {
-        Ok(()) => Ok(out),
+    match check_images(alloc, inputs, objects, &plans) {
+        Ok(()) => {
+            let text = WordsText {
+                when: asked.when,
+                inputs,
+                objects,
+            };
+            write_buffered(alloc, &text, out)
+        }
         Err(stop) => Err(stop),
     }
 }
 
-// Writes the words of the files, and flushes them.
-fn write_flushed<'s, E: LinkedSymbol, W: Write + Drop>(
-    when: Binding,
-    inputs: &'s [Input<'_>],
-    objects: &[DynamicObject<'_, E>],
-    buffered: &mut BufWriter<W>,
-) -> Result<(), Stop<Refused<'s>>>
-    requires same { length objects.now ≡ length inputs.now }
-    requires empty { writer_buffer buffered.old ≡ [] }
-    ensures { MatchResult result (λ _. AppendsSome
-        (AreWordsWritten E.fields when inputs.now objects.now)
-        (W.contents (writer_inner buffered.old)) (W.contents (writer_inner buffered.new)))
-        (IsStop (IsTextRefused E.fields when inputs.now objects.now) ⊤ ⊥) }
+// Why files are not read, as an error of a loader.
+fn load_stop(stop: Stop<Refused<'_, LinkError>>) -> Stop<Refused<'_, LoadError>>
+    ensures { result ≡ load_stop stop.entry }
 {
-    match write_words(when, inputs, objects, buffered) {
-        Ok(()) => {}
-        Err(stop) => return Err(stop),
+    match stop {
+        Stop::Refused(refused) => refusal(refused.path, LoadError::Link(refused.error)),
+        Stop::Write => Stop::Write,
+        Stop::Memory => Stop::Memory,
     }
-    buffered.flush()?;
-    Ok(())
 }
 
 fn main(rt: HostRuntime) -> ExitCode {
-    let status = match run_on_arguments(&rt) {
-        Ok(status) => status,
-        Err(_) => say(&Fault::Arguments, &mut rt.stderr()),
-    };
-    ExitCode::from(status)
+    exit_code(NAME, run_on_arguments(&rt), &mut rt.stderr())
 }
 
 // The status, or why the arguments can't be read: for want of memory, or since one is not UTF-8.
 fn run_on_arguments(rt: &HostRuntime) -> io::Result<u8> {
-    let mut arguments = env::args(rt)?;
-    let _program = arguments.next();
-    let mut words = Vec::new(rt.alloc());
-    for argument in arguments {
-        words.push(argument)?;
-    }
+    let words = arguments(rt)?;
     let (mut out, mut err) = (rt.stdout(), rt.stderr());
     if words.first().is_some_and(|word| word.as_str() == "--help") {
-        writeln!(out, "{}\n{}", USAGE, HELP)?;
+        writeln!(out, "usage: {}\n{}", USAGE, HELP)?;
         return Ok(0);
     }
     let Some((asked, paths)) = asked(&words) else {
-        return Ok(say(&Fault::Usage, &mut out));
+        return Ok(say("usage", &USAGE, &mut out));
     };
-    match read_inputs(rt, paths) {
+    match read_inputs::<_, Refusal>(rt, paths) {
         Ok(inputs) => Ok(run(rt.alloc(), asked, &inputs, &mut out, &mut err)),
-        Err(fault) => Ok(say(&fault, &mut err)),
+        Err(fault) => Ok(say(NAME, &fault, &mut err)),
     }
-}
-
-// The files at these paths.
-fn read_inputs<'a, S: AsStr>(
-    rt: &HostRuntime,
-    paths: &'a [S],
-) -> Result<Vec<Input<'a>>, Fault<'a>> {
-    let mut inputs = Vec::new(rt.alloc());
-    for path in paths {
-        let path = path.as_str();
-        let file = File::open(rt, path).ok();
-        let bytes = read_whole(rt.alloc(), file).ok_or(Fault::Read { path })?;
-        if inputs.push(Input { path, bytes }).is_err() {
-            return Err(Fault::Read { path });
-        }
-    }
-    Ok(inputs)
 }
 
 // What the arguments ask for, and the files, if they are as they should be.

@@ -15,6 +15,7 @@ ghost use Rattle.program_ends.proofs.Flushed.{appended_flushed};
 ghost use Rattle.program_ends.specs.Appended.{AppendsSome};
 ghost use Rattle.program_ends.specs.Stops.{IsStop};
 ghost use Rattle.program_ends.specs.declared.Stop.TheVariants as stops_are;
+ghost use Rattle.elf_loading.specs.Plan.{plan_file};
 
 use elf_loading::{Contents, LoadError, LoadPlan, Loader, Mapping, Mappings, Span, Tls};
 use program_ends::{Output, Stop, write_name};
@@ -143,7 +144,7 @@ fn write_plan<W: Write>(
     plan: &LoadPlan<'_>,
     out: &mut W,
 ) -> io::Result<()>
-    requires { plan.now.file ≡ file.now }
+    requires { (plan_file plan.now) ≡ file.now }
     ensures { OnOk result (AppendsSome (IsPlanText plan.now.page path.entry file.now)
         (W.contents out.old) (W.contents out.new)) }
 {
@@ -157,8 +158,8 @@ fn write_plan<W: Write>(
 
 // The head of the text of a plan.
 fn head_of<'a>(path: &'a str, header: &Header, plan: &LoadPlan<'_>) -> Head<'a>
-    requires { plan.now.file.header ≡ header.now }
-    ensures { result ≡ head_of plan.now.page path.entry plan.now.file }
+    requires { (plan_file plan.now).header ≡ header.now }
+    ensures { result ≡ head_of plan.now.page path.entry (plan_file plan.now) }
 {
     Head {
         path,
@@ -175,7 +176,7 @@ fn head_of<'a>(path: &'a str, header: &Header, plan: &LoadPlan<'_>) -> Head<'a>
 
 // The path of the interpreter, or that there is none.
 fn write_interpreter<W: Write>(plan: &LoadPlan<'_>, out: &mut W) -> io::Result<()>
-    ensures { OnOk result (AppendsSome (IsInterpreterText plan.now.file)
+    ensures { OnOk result (AppendsSome (IsInterpreterText (plan_file plan.now))
         (W.contents out.old) (W.contents out.new)) }
 {
     match plan.interpreter() {
@@ -298,7 +299,7 @@ impl Display for Held {
     }
 }
 
-// A range, or that there is none.
+// A range, or that there is none or it is empty.
 #[derive(Clone, Copy)]
 struct Part(Option<Span>);
 
@@ -307,8 +308,8 @@ impl Display for Part {
 
     fn fmt<W: fmt::Write>(&self, f: &mut fmt::Formatter<W>) -> fmt::Result {
         match self.0 {
-            Some(span) => write!(f, "{}", Range(span.start, span.end)),
-            None => write!(f, "none"),
+            Some(span) if span.start < span.end => write!(f, "{}", Range(span.start, span.end)),
+            _ => write!(f, "none"),
         }
     }
 }

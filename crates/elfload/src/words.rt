@@ -5,28 +5,56 @@ ghost use Rattle.std.specs.Prelude.{⊤};
 ghost use Rattle.elfload.specs.Words.{AreWordsWritten, IsItemsText, IsObjectText, IsTextError};
 ghost use Rattle.elfload.specs.Words.{IsTextRefused, IsWordError, is_unchanged, item_text, line_text, name_text};
 ghost use Rattle.elfload.specs.Words.{path_text, prefix_of, start_text, value_text, without};
-ghost use Rattle.elfload.specs.Files.{IsOfInput};
+ghost use Rattle.linking_programs.specs.Files.{IsOfInput};
+ghost use Rattle.program_ends.proofs.Flushed.{appended_flushed};
 ghost use Rattle.program_ends.specs.Appended.{AppendsSome};
 ghost use Rattle.program_ends.specs.Stops.{IsStop};
 
-use crate::files::{Input, Refused, refusal, refusal_at};
 use elf_linking::DynamicObject;
 use elf_linking::references::relocation_name;
 use elf_linking::scope::Scope;
 use elf_linking::view::LinkedSymbol;
-use elf_loading::{Binding, LoadError, LoadScope, Origin, Relocated, Value, Word, Words};
-use program_ends::Stop;
+use elf_loading::{Binding, LoadError, Origin, Relocated, Value, Word, Words};
+use linking_programs::{Input, Refused, refusal, refusal_at};
+use program_ends::{Output, Stop};
 use std::fmt;
 use std::fmt::Display;
 use std::io::Write;
 
 // The words of all objects, which are those of the inputs.
-pub(crate) fn write_words<'s, E: LinkedSymbol, W: Write>(
+#[derive(Drop)]
+pub(crate) struct WordsText<'s, 'i, 'o, 'b, E: LinkedSymbol> {
+    pub(crate) when: Binding,
+    pub(crate) inputs: &'s [Input<'i>],
+    pub(crate) objects: &'o [DynamicObject<'b, E>],
+    ghost same: { length objects.now ≡ length inputs.now },
+}
+
+impl<'s, E: LinkedSymbol> Output for WordsText<'s, '_, '_, '_, E> {
+    ghost Writes = { λ text. AppendsSome
+        (AreWordsWritten E.fields text.when text.inputs.now text.objects.now) };
+
+    ghost flushed = { λ text. appended_flushed
+        (AreWordsWritten E.fields text.when text.inputs.now text.objects.now) };
+
+    type Refusal = Refused<'s, LoadError>;
+
+    ghost Refuses = { λ text. IsTextRefused E.fields text.when text.inputs.now text.objects.now };
+
+    ghost Begins = { λ text. ⊤ };
+
+    fn write_to<W: Write>(&self, out: &mut W) -> Result<(), Stop<Refused<'s, LoadError>>> {
+        write_words(self.when, self.inputs, self.objects, out)
+    }
+}
+
+// Writes the words of all objects, which are those of the inputs.
+fn write_words<'s, E: LinkedSymbol, W: Write>(
     when: Binding,
     inputs: &'s [Input<'_>],
     objects: &[DynamicObject<'_, E>],
     out: &mut W,
-) -> Result<(), Stop<Refused<'s>>>
+) -> Result<(), Stop<Refused<'s, LoadError>>>
     requires same { length objects.now ≡ length inputs.now }
     ensures { MatchResult result
         (λ _. AppendsSome (AreWordsWritten E.fields when inputs.now objects.now)
@@ -49,7 +77,7 @@ fn write_object<'s, E: LinkedSymbol, W: Write>(
     objects: &[DynamicObject<'_, E>],
     of: usize,
     out: &mut W,
-) -> Result<(), Stop<Refused<'s>>>
+) -> Result<(), Stop<Refused<'s, LoadError>>>
     requires same { length objects.now ≡ length inputs.now }
     requires below { of < length objects.now }
     ensures { MatchResult result
@@ -62,7 +90,7 @@ fn write_object<'s, E: LinkedSymbol, W: Write>(
     let path = inputs[of].path;
     write!(out, "{}", Heading(path))?;
     let machine = objects[of].file().header.pt2.machine().raw();
-    match Scope::new(objects).words(of, when) {
+    match Words::new(Scope::new(objects), of, when) {
         Ok(words) => write_items(path, machine, of, words, out),
         Err(error) => Err(refusal_at(inputs, of, LoadError::Link(error))),
     }
@@ -75,7 +103,7 @@ fn write_items<'s, E: LinkedSymbol, W: Write>(
     of: usize,
     words: Words<'_, '_, E>,
     out: &mut W,
-) -> Result<(), Stop<Refused<'s>>>
+) -> Result<(), Stop<Refused<'s, LoadError>>>
     ensures { MatchResult result
         (λ _. AppendsSome (IsItemsText E.fields machine of words.entry)
         (W.contents out.old) (W.contents out.new))
@@ -98,7 +126,7 @@ fn write_item<'s, E: LinkedSymbol, W: Write>(
     of: usize,
     item: &Relocated<E>,
     out: &mut W,
-) -> Result<(), Stop<Refused<'s>>>
+) -> Result<(), Stop<Refused<'s, LoadError>>>
     ensures { MatchResult result
         (λ _. IsOk item.now.word × AppendsSome (λ text. text ≡ item_text machine of item.now)
         (W.contents out.old) (W.contents out.new))

@@ -6,3 +6,4 @@ mod LineLists
 mod Runs
 mod Sizes
 mod SplitRuns
+mod WholeTables

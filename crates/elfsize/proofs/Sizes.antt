@@ -9,7 +9,8 @@ use Rattle.std.proofs.lemmas.List.Elements.{All-append, All-cons, All-more, All-
 use Rattle.std.proofs.lemmas.List.Folds.{sum_by-replicate}
 use Rattle.std.proofs.lemmas.List.Sorted.{All-permutation, sum_by-IsPermutation}
 use Rattle.std.proofs.lemmas.List.Sums.{get_or-le-sum_by, sum_by-append, sum_by-cons, sum_by-set, sum_by-take-le, sum_by_more}
-use Rattle.elfsize.specs.Totals.{AreSizes, AreTotals, IsLargestFirst, IsListed, all_bytes, bytes_of, listed}
+use Rattle.elf_addresses.proofs.Order.{less_or-cases, less_or-parts}
+use Rattle.elfsize.specs.Totals.{AreSizes, AreTotals, IsLargestFirst, IsListed, all_bytes, bytes_of, comes_first, listed}
 use Rattle.elfsize.specs.declared.totals.Run.{Run}
 
 plus_zero : (n : ℕ) → n + 0 ≡ n
@@ -141,21 +142,31 @@ listed_step totals count size sizes below is so_far = record {
     ]
 
 -- the order of the sizes
-pub larger_order : IsStrictWeakOrder (λ (one other : Run). nat_lt other.size one.size)
+pub larger_order : IsStrictWeakOrder comes_first
 larger_order = record { one_way = one_way; chain = chain }
   where
-    one_way : (x y : Run) → nat_lt y.size x.size ≡ true → nat_lt x.size y.size ≡ false
-    one_way x y h = false_from_ne_true (nat_lt x.size y.size) (λ k.
-        let p : y.size < x.size = ltb-true y.size x.size h in
-        let q : x.size < y.size = ltb-true x.size y.size k in
-        omega arith)
+    one_way : (x y : Run) → comes_first x y ≡ true → comes_first y x ≡ false
+    one_way x y h = false_from_ne_true (comes_first y x) (λ k.
+        elim (less_or-cases y.size x.size (nat_lt x.part y.part) h) [
+          | inl more ↦ elim (less_or-cases x.size y.size (nat_lt y.part x.part) k) [ inl less ↦ omega arith | inr (same, _) ↦ omega arith ]
+          | inr (same, first) ↦ elim (less_or-cases x.size y.size (nat_lt y.part x.part) k) [
+            | inl less ↦ omega arith
+            | inr (_, second) ↦ (let p = ltb-true x.part y.part first in let q = ltb-true y.part x.part second in omega (arith, p, q))
+          ]
+        ])
 
-    chain : (x y z : Run) → nat_lt y.size x.size ≡ false → nat_lt z.size y.size ≡ false → nat_lt z.size x.size ≡ false
-    chain x y z h k = false_from_ne_true (nat_lt z.size x.size) (λ t.
-        let p : x.size ≤ y.size = ltb-false y.size x.size h in
-        let q : y.size ≤ z.size = ltb-false z.size y.size k in
-        let r : z.size < x.size = ltb-true z.size x.size t in
-        omega arith)
+    chain : (x y z : Run) → comes_first x y ≡ false → comes_first y z ≡ false → comes_first x z ≡ false
+    chain x y z h k = false_from_ne_true (comes_first x z) (λ t.
+        let (down, last) = less_or-parts y.size x.size (nat_lt x.part y.part) h in
+        let (down', last') = less_or-parts z.size y.size (nat_lt y.part z.part) k in
+        elim (less_or-cases z.size x.size (nat_lt x.part z.part) t) [
+          | inl more ↦ omega arith
+          | inr (same, first) ↦
+              let p = ltb-false x.part y.part (last (omega arith)) in
+              let q = ltb-false y.part z.part (last' (omega arith)) in
+              let r = ltb-true x.part z.part first in
+              omega (arith, p, q, r)
+        ])
 
 -- the sizes in another order
 pub sorted_sizes : (runs sizes sorted : List Run) (totals : List ℕ) → AreTotals runs totals → IsListed totals (length totals) sizes → IsPermutation sizes sorted → IsLargestFirst sorted → AreSizes runs sorted

@@ -21,12 +21,7 @@ use Rattle.elfsize.specs.Totals.{all_bytes, listed}
 use Rattle.elfsize.specs.declared.totals.Run.{Run}
 use Rattle.xmas_elf.specs.Symbol.{SymbolFields}
 use Rattle.xmas_elf.specs.Types.{ElfFile}
-
-zip_one_more : {A B : Type 0} (R : A → B → Type 0) (xs : List A) (ys : List B) (x : A) (y : B) → AllZip R xs ys → R x y → AllZip R (xs ++ (x ∷ [])) (ys ++ (y ∷ []))
-zip_one_more R [] [] x y all one = (one, tt)
-zip_one_more R [] (b ∷ ys) x y all one = absurd all
-zip_one_more R (a ∷ xs) [] x y all one = absurd all
-zip_one_more R (a ∷ xs) (b ∷ ys) x y all one = (all.0, zip_one_more R xs ys x y all.1 one)
+use Rattle.program_ends.proofs.LineLists.{zip_one_more}
 
 one_more_part : (parts : List (List Run)) (part : List Run) → joined_runs (parts ++ (part ∷ [])) ≡ joined_runs parts ++ part
 one_more_part [] part = append-nil part

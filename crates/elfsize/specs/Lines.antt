@@ -12,13 +12,13 @@ use Rattle.elfsize.specs.declared.symbols.Symbols.{Symbols}
 use Rattle.elfsize.specs.declared.totals.Run.{Run}
 use Rattle.elfsize.specs.declared.view.View.{View}
 use Rattle.program_ends.specs.Names.{escaped}
-use Rattle.xmas_elf.specs.NameTable.{name_bytes_of}
-use Rattle.xmas_elf.specs.SectionHeader.{section_of}
+use Rattle.xmas_elf.specs.NameTable.{shstr_bytes_of}
+use Rattle.xmas_elf.specs.SectionHeader.{section_fields, section_of}
 use Rattle.xmas_elf.specs.Types.{ElfError, ElfFile, SectionHeader}
 
 -- the name of the section at an index, or `?` if it can't be read
 abbrev pub name_or_mark : ElfFile → Result SectionHeader ElfError → List ℕ
-name_or_mark file (Ok section) = or_mark (name_bytes_of file section)
+name_or_mark file (Ok section) = or_mark (shstr_bytes_of file (section_fields section).name)
 name_or_mark file (Err error) = codes "?"
 
 abbrev pub section_name : ElfFile → ℕ → List ℕ

@@ -1,6 +1,7 @@
 -- The symbols that own bytes of sections (this project's own): those of the first section of type SHT_SYMTAB, if they are
--- asked for and there is one.
+-- asked for, there is one, and the section header table is whole.
 use Rattle.std.specs.Prelude.{◌≡◌, ◌≢◌, ℕ, ◌≤◌, ◌<◌, ◌⊎◌, List, Option, None, Some, Result, Ok, Err, codes, slice_get}
+use Rattle.elf_addresses.specs.FileClaims.{section_parts}
 use Rattle.elf_addresses.specs.SymbolClaims.{symbol_count, symbol_items}
 use Rattle.elf_addresses.specs.Symtab.{IsSymtab, IsSymtabRefused, IsSymtabSection}
 use Rattle.elf_base.specs.FileHeader.{file_class}
@@ -15,7 +16,6 @@ use Rattle.elfsize.specs.declared.totals.Run.{Run}
 use Rattle.elfsize.specs.declared.view.View.{View}
 use Rattle.elfsize.specs.declared.view.View.TheVariants as views
 use Rattle.xmas_elf.specs.First.{FindsFirstAt}
-use Rattle.xmas_elf.specs.SectionHeader.{section_list}
 use Rattle.xmas_elf.specs.Symbol.{SymbolFields, entry_32_fields, entry_64_fields}
 use Rattle.xmas_elf.specs.Types.{ElfError, ElfFile}
 
@@ -41,13 +41,13 @@ AreSymtabAt file index are.None = ⊥
 AreSymtabAt file index (are.Narrow symbols) = (file_class file.header ≡ 1) × IsSymtab file index symbols
 AreSymtabAt file index (are.Wide symbols) = (file_class file.header ≢ 1) × IsSymtab file index symbols
 
--- the symbols of the first section of type SHT_SYMTAB, or none if there is no such section
+-- the symbols of the first section of type SHT_SYMTAB of a whole section header table, or none if there is no such section
 abbrev pub AreFirst : ElfFile → Option ℕ → Symbols → Type 0
 AreFirst file None symbols = symbols ≡ are.None
 AreFirst file (Some index) symbols = AreSymtabAt file index symbols
 
 abbrev pub AreSymtab : ElfFile → Symbols → Type 0
-AreSymtab file symbols = (first : Option ℕ) × FindsFirstAt IsSymtabSection (section_list file) first × AreFirst file first symbols
+AreSymtab file symbols = (first : Option ℕ) × FindsFirstAt IsSymtabSection (section_parts file) first × AreFirst file first symbols
 
 -- the symbols by what is asked for
 abbrev pub AreSymbols : View → ElfFile → Symbols → Type 0
@@ -74,7 +74,7 @@ IsRefusedAt file index Memory = ⊥
 
 abbrev pub IsSymtabRefusal : ElfFile → Refusal → Type 0
 IsSymtabRefusal file refusal =
-    (index : ℕ) × FindsFirstAt IsSymtabSection (section_list file) (Some index) × IsRefusedAt file index refusal
+    (index : ℕ) × FindsFirstAt IsSymtabSection (section_parts file) (Some index) × IsRefusedAt file index refusal
 
 abbrev pub IsSymbolsRefusal : View → ElfFile → Refusal → Type 0
 IsSymbolsRefusal views.Whole file refusal = ⊥

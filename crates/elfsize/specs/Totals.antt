@@ -1,7 +1,8 @@
 -- The sizes of parts, by the runs of bytes that belong to them (this project's own).
-use Rattle.std.specs.Prelude.{◌≡◌, ℕ, ◌<◌, ◌==◌, List, [], ◌∷◌, All, if◌then◌else◌, nat_lt, slice_index, take}
+use Rattle.std.specs.Prelude.{◌≡◌, ℕ, ◌<◌, ◌==◌, Bool, List, [], ◌∷◌, All, if◌then◌else◌, nat_lt, slice_index, take}
 use Rattle.std.specs.List.{sum, sum_by}
 use Rattle.std.specs.List.Sorted.{IsSortedBy}
+use Rattle.elf_addresses.specs.Claims.{less_or}
 use Rattle.elfsize.specs.declared.totals.Run.{Run}
 
 -- the number of bytes of a part in runs
@@ -12,9 +13,13 @@ bytes_of part runs = sum_by (λ run. if run.part == part then run.size else 0) r
 abbrev pub all_bytes : List Run → ℕ
 all_bytes runs = sum_by (λ run. run.size) runs
 
--- each run comes before the smaller ones
+-- the larger of two parts comes first; of the same size the one with the smaller number
+abbrev pub comes_first : Run → Run → Bool
+comes_first one other = less_or other.size one.size (nat_lt one.part other.part)
+
+-- the parts are in this order
 abbrev pub IsLargestFirst : List Run → Type 0
-IsLargestFirst runs = IsSortedBy (λ one other. nat_lt other.size one.size) runs
+IsLargestFirst runs = IsSortedBy comes_first runs
 
 -- the sizes of the parts that have bytes in runs: each has its bytes, so that no part is there twice; none is left out;
 -- and they sum to the bytes of the runs

@@ -25,16 +25,20 @@ use std::alloc::{AllocError, Global};
 use std::fmt::Display;
 use std::io::Write;
 use std::{fmt, io};
+use thiserror::Error;
 use xmas_elf::{ElfError, ElfFile};
 
 /// Why a file has no lines.
-#[derive(Clone, Copy, Debug, Drop)]
+#[derive(Clone, Copy, Debug, Drop, Error)]
 pub enum Refusal {
     /// It isn't an ELF file, or its symbols can't be read.
+    #[error("{0}")]
     Elf(ElfError),
     /// It has 2 to the 32 symbols or more.
+    #[error("Table has 2^32 symbols or more")]
     Many,
     /// There isn't enough memory for its sizes.
+    #[error("not enough memory")]
     Memory,
 }
 
@@ -228,7 +232,7 @@ fn section_name<'a>(file: &ElfFile<'a>, index: usize) -> &'a [u8]
     let Ok(section) = file.section_header_at(index as u64) else {
         return b"?";
     };
-    match section.name_bytes(file) {
+    match file.section_name(&section) {
         Ok(name) => name,
         Err(_) => b"?",
     }

@@ -9,27 +9,27 @@
 
 ghost use Rattle.std.specs.Prelude.{◌≡◌, ◌≤◌, IfErr, IfOk, Result};
 ghost use Rattle.elfsize.specs.Ends.{AreEnds, IsBegun, IsEnd, IsEndAt, IsFault, IsStatus, OfFile};
-ghost use Rattle.elfsize.specs.Ends.{fault_of, status_of, sums_after};
+ghost use Rattle.elfsize.specs.Ends.{fault_of, sums_after};
 ghost use Rattle.elfsize.specs.Lines.{IsInputRefused, IsInputText};
 ghost use Rattle.elfsize.specs.Sums.{AreInputSums};
 ghost use Rattle.elfsize.specs.declared.sums.Sums.{Sums};
-ghost use Rattle.elfsize.specs.declared.Fault.{Fault};
+ghost use Rattle.elfsize.specs.declared.lines.Refusal.{Refusal};
 ghost use Rattle.program_ends.specs.Appended.{AppendsSome};
+ghost use Rattle.program_ends.specs.Ends.{status_of};
+ghost use Rattle.program_ends.specs.declared.Fault.{Fault};
 
 use crate::lines::{Lines, Refusal};
 use crate::sums::{Sums, input_sums};
 use crate::view::{View, read_shown};
-use program_ends::{Stop, say, write_buffered};
+use program_ends::{Fault, Stop, arguments, exit_code, say, write_buffered};
 use std::alloc::Global;
 use std::convert::AsStr;
 use std::fs::File;
+use std::io;
 use std::io::{IsTerminal, Read, Write};
 use std::process::ExitCode;
 use std::rt::{Clock, Files};
 use std::time::Instant;
-use std::{env, io};
-use thiserror::Error;
-use xmas_elf::ElfError;
 
 mod lines;
 mod parts;
@@ -39,31 +39,14 @@ mod symbols;
 mod totals;
 mod view;
 
-const USAGE: &str = "usage: elfsize [--segments | --symbols] <binary_path>..";
+const NAME: &str = "elfsize";
+
+const USAGE: &str = "elfsize [--segments | --symbols] <binary_path>..";
 
 const HELP: &str = "Prints how many bytes of each file belong to which part, the largest first;
 after more than one file the bytes of all by kind of part.
 --segments  as if the file had no sections
 --symbols   bytes in sections by symbol; the line of a section is for the bytes in no symbol";
-
-/// Why the program ends with status 1, and what it says then.
-#[derive(Debug, Drop, Error)]
-enum Fault<'a> {
-    #[error("elfsize: cannot read the arguments")]
-    Arguments,
-    #[error("usage: elfsize [--segments | --symbols] <binary_path>..")]
-    Usage,
-    #[error("elfsize: cannot read {path}")]
-    Read { path: &'a str },
-    #[error("elfsize: {path}: {error}")]
-    Refused { path: &'a str, error: ElfError },
-    #[error("elfsize: {path}: Table has 2^32 symbols or more")]
-    Many { path: &'a str },
-    #[error("elfsize: cannot write")]
-    Write,
-    #[error("elfsize: not enough memory")]
-    Memory,
-}
 
 /// Writes the sizes of the parts of a view of a file to `out`, or the reason why it can't to `err`, and returns
 /// the exit status.
@@ -83,7 +66,7 @@ pub fn run<R: Read + Drop, W: Write, E: Write>(
     sums: &mut Sums,
 ) -> u8
     ensures bound { result ≤ 1 }
-    ensures ends { (end : Result Sums Fault)
+    ensures ends { (end : Result Sums (Fault Refusal))
         × IsEnd view path.entry R.remaining file end × (result ≡ status_of end)
         × (sums.new ≡ sums_after sums.old end) }
 {
@@ -92,7 +75,7 @@ pub fn run<R: Read + Drop, W: Write, E: Write>(
             *sums = sums.with(&own);
             0
         }
-        Err(fault) => say(&fault, err),
+        Err(fault) => say(NAME, &fault, err),
     }
 }
 
@@ -103,7 +86,7 @@ fn answer<'a, R: Read + Drop, W: Write>(
     path: &'a str,
     file: Option<R>,
     out: &mut W,
-) -> Result<Sums, Fault<'a>>
+) -> Result<Sums, Fault<'a, Refusal>>
     ensures { IsEnd view path.entry R.remaining file result }
 {
     match print_lines(alloc, view, path, file, &mut *out) {
@@ -120,7 +103,7 @@ fn print_lines<'a, R: Read + Drop, W: Write + Drop>(
     path: &'a str,
     file: Option<R>,
     out: W,
-) -> Result<(W, Sums), Fault<'a>>
+) -> Result<(W, Sums), Fault<'a, Refusal>>
     ensures written { IfOk result (λ back. OfFile view R.remaining file (λ input.
         AppendsSome (IsInputText view path.entry.now input) (W.contents out) (W.contents back.0)
         × AreInputSums input back.1)) }
@@ -148,12 +131,18 @@ fn print_lines<'a, R: Read + Drop, W: Write + Drop>(
 }
 
 // What the program says where lines aren't written to their end.
-fn fault_of(stop: Stop<Refusal>, path: &str) -> Fault<'_>
+fn fault_of(stop: Stop<Refusal>, path: &str) -> Fault<'_, Refusal>
     ensures { result ≡ fault_of path.entry stop }
 {
     match stop {
-        Stop::Refused(Refusal::Elf(error)) => Fault::Refused { path, error },
-        Stop::Refused(Refusal::Many) => Fault::Many { path },
+        Stop::Refused(Refusal::Elf(error)) => Fault::Refused {
+            path,
+            error: Refusal::Elf(error),
+        },
+        Stop::Refused(Refusal::Many) => Fault::Refused {
+            path,
+            error: Refusal::Many,
+        },
         Stop::Refused(Refusal::Memory) => Fault::Memory,
         Stop::Write => Fault::Write,
         Stop::Memory => Fault::Memory,
@@ -161,28 +150,19 @@ fn fault_of(stop: Stop<Refusal>, path: &str) -> Fault<'_>
 }
 
 fn main(rt: HostRuntime) -> ExitCode {
-    let status = match run_on_arguments(&rt) {
-        Ok(status) => status,
-        Err(_) => say(&Fault::Arguments, &mut rt.stderr()),
-    };
-    ExitCode::from(status)
+    exit_code(NAME, run_on_arguments(&rt), &mut rt.stderr())
 }
 
 // The status, or why the arguments can't be read: for want of memory, or since one is not UTF-8.
 fn run_on_arguments(rt: &HostRuntime) -> io::Result<u8> {
-    let mut arguments = env::args(rt)?;
-    let _program = arguments.next();
-    let mut words = Vec::new(rt.alloc());
-    for argument in arguments {
-        words.push(argument)?;
-    }
+    let words = arguments(rt)?;
     if words.first().is_some_and(|word| word.as_str() == "--help") {
-        writeln!(rt.stdout(), "{}\n{}", USAGE, HELP)?;
+        writeln!(rt.stdout(), "usage: {}\n{}", USAGE, HELP)?;
         return Ok(0);
     }
     let (view, paths) = asked(&words);
     if paths.is_empty() {
-        return Ok(say(&Fault::Usage, &mut rt.stdout()));
+        return Ok(say("usage", &USAGE, &mut rt.stdout()));
     }
     let (mut out, mut err) = (rt.stdout(), rt.stderr());
     Ok(run_on_paths(rt.alloc(), rt, view, paths, &mut out, &mut err))
@@ -215,7 +195,10 @@ fn run_on_paths<R: Files + Clock, S: AsStr, W: Write, E: Write + IsTerminal>(
     }
     match write!(out, "{}", sums) {
         Ok(()) => status,
-        Err(_) => say(&Fault::Write, err),
+        Err(_) => {
+            let fault: Fault<'_, Refusal> = Fault::Write;
+            say(NAME, &fault, err)
+        }
     }
 }
 
@@ -249,7 +232,7 @@ fn run_on_path<R: Files + Clock, W: Write, E: Write + IsTerminal>(
     err: &mut E,
     sums: &mut Sums,
 ) -> u8
-    ensures { (end : Result Sums Fault)
+    ensures { (end : Result Sums (Fault Refusal))
         × IsEndAt view R.File.Read.remaining path.now end × (result ≡ status_of end)
         × (sums.new ≡ sums_after sums.old end) }
 {

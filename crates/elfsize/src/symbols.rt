@@ -1,14 +1,17 @@
 //! The symbols that own bytes of sections, and their names.
 
 ghost use Rattle.std.specs.Prelude.{◌≡◌, IfOk, MatchResult, slice_get};
+ghost use Rattle.elf_addresses.specs.FileClaims.{section_parts};
 ghost use Rattle.elf_addresses.specs.SymbolClaims.{symbol_items};
+ghost use Rattle.elf_addresses.specs.Symtab.{IsSymtabSection};
+ghost use Rattle.xmas_elf.specs.First.{FindsFirstAt};
 ghost use Rattle.elfsize.specs.Symbols.{AreFew, AreSymbols, AreSymtab, AreSymtabAt};
 ghost use Rattle.elfsize.specs.Symbols.{IsRefusedAt, IsSymbolsRefusal, IsSymtabError};
 ghost use Rattle.elfsize.specs.Symbols.{IsSymtabRefusal, count_in, symbol_name, symbol_name_in};
 
 use crate::lines::Refusal;
 use crate::view::View;
-use elf_addresses::{AddressSymbols, symtab_at, symtab_index};
+use elf_addresses::{AddressSymbols, Claims, SectionClaims, symtab_at, symtab_index};
 use elf_base::bytes::bytes_up_to_zero;
 use xmas_elf::bytes::Record;
 use xmas_elf::symbol_table::{Entry, Entry32, Entry64};
@@ -17,7 +20,7 @@ use xmas_elf::{ElfError, ElfFile};
 /// The symbols of a file of either class.
 #[derive(Drop)]
 pub enum Symbols<'a> {
-    /// None are asked for, or the file has no symbol table.
+    /// None are asked for, or the file has no symbol table or no whole section header table.
     None,
     /// Of class 32.
     Narrow(AddressSymbols<'a, Entry32>),
@@ -25,7 +28,8 @@ pub enum Symbols<'a> {
     Wide(AddressSymbols<'a, Entry64>),
 }
 
-/// The symbols of a file that a view asks for: those of the first section of type `SHT_SYMTAB`.
+/// The symbols of a file that a view asks for: those of the first section of type `SHT_SYMTAB`. There
+/// are none if the section header table is cut off.
 pub fn read_symbols<'a>(view: View, file: &ElfFile<'a>) -> Result<Symbols<'a>, Refusal>
     ensures symbols { MatchResult result (AreSymbols view file.now)
         (IsSymbolsRefusal view file.now) }
@@ -43,10 +47,21 @@ fn read_symtab<'a>(file: &ElfFile<'a>) -> Result<Symbols<'a>, Refusal>
     ensures symbols { MatchResult result (AreSymtab file.now) (IsSymtabRefusal file.now) }
     ensures few { IfOk result AreFew }
 {
-    match symtab_index(file) {
+    match first_symtab(file) {
         Some(index) => few_at(file, index),
         None => Ok(Symbols::None),
     }
+}
+
+// The index of the first section of type SHT_SYMTAB. If the section header table is cut off, sections
+// own no bytes.
+fn first_symtab(file: &ElfFile<'_>) -> Option<usize>
+    ensures { FindsFirstAt IsSymtabSection (section_parts file.now) result }
+{
+    if SectionClaims::new(file).count() == 0 {
+        return None;
+    }
+    symtab_index(file)
 }
 
 // The symbols of the section at an index, if there are fewer than 2 to the 32.

@@ -2,10 +2,10 @@
 
 ghost use Rattle.std.specs.Prelude.{◌≡◌, ◌<◌, ◌≤◌, ◌+◌, ◌^◌, ◌++◌, All, IfOk, OnOk, length, replicate};
 ghost use Rattle.std.specs.Ordering.{is_lt};
-ghost use Rattle.std.specs.Prelude.{nat_lt, slice_index, slice_set};
+ghost use Rattle.std.specs.Prelude.{slice_index, slice_set};
 ghost use Rattle.std.specs.List.Sorted.{IsPermutation};
 ghost use Rattle.elfsize.specs.Totals.{AreSizes, AreTotals, IsLargestFirst, IsListed};
-ghost use Rattle.elfsize.specs.Totals.{all_bytes, listed};
+ghost use Rattle.elfsize.specs.Totals.{all_bytes, comes_first, listed};
 
 use std::alloc::{AllocError, Global};
 use std::cmp::Ordering;
@@ -110,18 +110,19 @@ pub(crate) fn push_size(sizes: &mut Vec<Run>, part: usize, size: u64) -> Result<
     Ok(())
 }
 
-// Puts the largest first.
+// Puts the largest first, and of the same size the one with the smallest number.
 fn sort(sizes: &mut Vec<Run>) -> Result<(), AllocError>
     ensures moved { IsPermutation sizes.old.items sizes.new.items }
     ensures sorted { OnOk result (IsLargestFirst sizes.new.items) }
 {
-    sizes.sort_by(|one, other| order_of(one.size, other.size))
+    sizes.sort_by(|one, other| order_of(one, other))
 }
 
-// Which of two sizes comes first.
+// Which of two parts comes first.
 #[inline(always)]
-fn order_of(one: u64, other: u64) -> Ordering
-    ensures { is_lt result ≡ nat_lt other one }
+fn order_of(one: &Run, other: &Run) -> Ordering
+    ensures { is_lt result ≡ comes_first one.now other.now }
 {
-    other.cmp(&one)
+    let by_size = other.size.cmp(&one.size);
+    by_size.then(one.part.cmp(&other.part))
 }

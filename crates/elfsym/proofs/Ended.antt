@@ -1,8 +1,9 @@
 -- An answer of which is known what was written is one to the question.
 use Rattle.std.proofs.Common.{◌≡◌, List, ℕ, Option, Some, None, sym, subst}
-use Rattle.elfsym.specs.Ends.{IsAnswer, OfFile}
+use Rattle.elfsym.specs.Ends.{IsAnswer}
 use Rattle.elfsym.specs.declared.Question as questions
 use Rattle.program_ends.specs.Appended.{AppendsSome}
+use Rattle.program_ends.specs.Ends.{OfFile}
 
 pub answered : {S R : Type 0} (text_of : S → List ℕ) (remaining : R → Option (List ℕ)) (file : Option R) (question asked : questions.Question S) (old new : Option (List ℕ)) → question ≡ asked → OfFile remaining file (λ input. AppendsSome (IsAnswer text_of asked input) old new) → OfFile remaining file (λ input. (text : List ℕ) × IsAnswer text_of question input text)
 answered text_of remaining None question asked old new same never = absurd never

@@ -5,7 +5,7 @@ use Rattle.std.specs.Prelude.{IsOkAnd}
 use Rattle.elf_base.specs.FileHeader.{header_of}
 use Rattle.elf_linking.specs.declared.error.LinkError.{LinkError}
 use Rattle.elfsym.specs.Libraries.{AreFileLibraries, AreInputLibraries, AreLibraryLines, IsLibraryLine}
-use Rattle.elfsym.proofs.LineLists.{concat_one_more, zip_one_more}
+use Rattle.program_ends.proofs.LineLists.{concat_one_more, zip_one_more}
 use Rattle.xmas_elf.specs.Types.{ElfError, ElfFile, Header}
 
 -- with `rest` still left of all libraries, the text is the lines of those before it

@@ -8,7 +8,7 @@ use Rattle.elf_base.specs.FileHeader.{file_class, header_of}
 use Rattle.elf_base.specs.declared.bytes.Order.{Order}
 use Rattle.elf_base.specs.declared.error.ElfError.{ElfError}
 use Rattle.elf_linking.specs.AnyTable.{IsCheckBy, IsGoodBy}
-use Rattle.elf_linking.specs.DynamicObject.{AreDynamicSymbols, IsObjectRefused}
+use Rattle.elf_linking.specs.DynamicObject.{AreVersionedSymbols, IsObjectRefused}
 use Rattle.elf_linking.specs.Find.{AreReadable, DynamicSymbols, FindsRight, IsFound, exact_version}
 use Rattle.elf_linking.specs.Serves.{serves_others}
 use Rattle.elf_linking.specs.declared.error.LinkError.{LinkError}
@@ -79,9 +79,9 @@ pub record AreLines {E S : Type 0} (text_of : S → List ℕ) (file : DynamicSym
 
 -- the lines for a file: those by its dynamic symbols, of either class
 pub data AreFileLines {S : Type 0} (text_of : S → List ℕ) (file : ElfFile) (references : List S) (text : List ℕ) : Type 0 where
-  narrow : (all : DynamicSymbols DynEntry32) → AreDynamicSymbols 1 16 dyn_entry_32 dyn_entry_32_fields file all
+  narrow : (all : DynamicSymbols DynEntry32) → AreVersionedSymbols 1 16 dyn_entry_32 dyn_entry_32_fields file all
       → AreLines text_of all references text → AreFileLines text_of file references text
-  wide : (all : DynamicSymbols DynEntry64) → AreDynamicSymbols 2 24 dyn_entry_64 dyn_entry_64_fields file all
+  wide : (all : DynamicSymbols DynEntry64) → AreVersionedSymbols 2 24 dyn_entry_64 dyn_entry_64_fields file all
       → AreLines text_of all references text → AreFileLines text_of file references text
 
 -- the lines for an input that is accepted
@@ -111,7 +111,7 @@ pub data AreSymbolsRefused {E S : Type 0} (text_of : S → List ℕ) (file : Dyn
 pub data AreLinesRefused {E S : Type 0} (class size : ℕ) (entry : Order → List ℕ → E) (fields : E → SymbolFields) (text_of : S → List ℕ) (file : ElfFile) (references : List S) (error : LinkError) : Type 0 where
   by_object : IsObjectRefused class size file error
       → AreLinesRefused class size entry fields text_of file references error
-  by_symbols : (all : DynamicSymbols E) → AreDynamicSymbols class size entry fields file all
+  by_symbols : (all : DynamicSymbols E) → AreVersionedSymbols class size entry fields file all
       → AreSymbolsRefused text_of all references error
       → AreLinesRefused class size entry fields text_of file references error
 
@@ -145,9 +145,9 @@ AreLinesBegun text_of file references = IsGoodBy file.table file.symbols × HasF
 
 -- the same of a file, of either class
 pub data AreFileLinesBegun {S : Type 0} (text_of : S → List ℕ) (file : ElfFile) (references : List S) : Type 0 where
-  narrow_begun : (all : DynamicSymbols DynEntry32) → AreDynamicSymbols 1 16 dyn_entry_32 dyn_entry_32_fields file all
+  narrow_begun : (all : DynamicSymbols DynEntry32) → AreVersionedSymbols 1 16 dyn_entry_32 dyn_entry_32_fields file all
       → AreLinesBegun text_of all references → AreFileLinesBegun text_of file references
-  wide_begun : (all : DynamicSymbols DynEntry64) → AreDynamicSymbols 2 24 dyn_entry_64 dyn_entry_64_fields file all
+  wide_begun : (all : DynamicSymbols DynEntry64) → AreVersionedSymbols 2 24 dyn_entry_64 dyn_entry_64_fields file all
       → AreLinesBegun text_of all references → AreFileLinesBegun text_of file references
 
 -- the same of an input that is accepted

@@ -11,45 +11,35 @@
 ghost use Rattle.std.specs.Prelude.{◌≡◌, ◌≤◌, IfErr, IfOk, IfSome, IsOk, IsSomeAnd, OnOk};
 ghost use Rattle.std.specs.Prelude.{Result};
 ghost use Rattle.elf_base.specs.FileHeader.{header_of};
-ghost use Rattle.elfsym.specs.Ends.{IsEnd, IsFault, OfFile, fault_of, status_of};
+ghost use Rattle.elf_linking.specs.declared.error.LinkError.{LinkError};
+ghost use Rattle.elfsym.specs.Ends.{IsEnd};
 ghost use Rattle.elfsym.specs.Libraries.{AreInputLibraries, AreInputLibrariesBegun};
 ghost use Rattle.elfsym.specs.Libraries.{AreInputLibrariesRefused};
 ghost use Rattle.elfsym.specs.Lines.{AreInputLines, AreInputLinesBegun, AreInputLinesRefused};
-ghost use Rattle.elfsym.specs.declared.Fault.{Fault};
 ghost use Rattle.program_ends.specs.Appended.{AppendsSome};
+ghost use Rattle.program_ends.specs.Ends.{IsFault, OfFile, status_of};
 ghost use Rattle.program_ends.specs.Stops.{HasBegun};
+ghost use Rattle.program_ends.specs.declared.Fault.{Fault};
 
 use crate::libraries::Libraries;
 use crate::lines::Lines;
 use elf_linking::LinkError;
-use program_ends::{Stop, read_whole, say, write_buffered};
+use program_ends::{
+    Fault, arguments, exit_code, fault_of, read_whole, say, status_of, write_buffered,
+};
 use std::alloc::Global;
 use std::convert::AsStr;
 use std::fs::File;
+use std::io;
 use std::io::{Read, Write};
 use std::process::ExitCode;
-use std::{env, io};
-use thiserror::Error;
 
 mod libraries;
 mod lines;
 
-/// Why the program ends with status 1, and what it says then.
-#[derive(Debug, Drop, Error)]
-enum Fault<'a> {
-    #[error("elfsym: cannot read the arguments")]
-    Arguments,
-    #[error("usage: elfsym <binary_path> <name>[@<version>].. | elfsym --needed <binary_path>")]
-    Usage,
-    #[error("elfsym: cannot read {path}")]
-    Read { path: &'a str },
-    #[error("elfsym: {path}: {error}")]
-    Refused { path: &'a str, error: LinkError },
-    #[error("elfsym: cannot write")]
-    Write,
-    #[error("elfsym: not enough memory")]
-    Memory,
-}
+const NAME: &str = "elfsym";
+
+const USAGE: &str = "elfsym <binary_path> <name>[@<version>].. | elfsym --needed <binary_path>";
 
 /// What is asked of a file.
 #[derive(Drop)]
@@ -78,13 +68,11 @@ pub fn run<S: AsStr, R: Read + Drop, W: Write, E: Write>(
     ensures bound { result ≤ 1 }
     ensures accepted { result ≡ 0 → IsSomeAnd file (λ reader.
         IfSome (R.remaining reader) (λ bytes. IsOk (header_of bytes))) }
-    ensures ends { (end : Result (Unit {0}) Fault)
+    ensures ends { (end : Result (Unit {0}) (Fault LinkError))
         × IsEnd S.text path.entry question.entry R.remaining file end × (result ≡ status_of end) }
 {
-    match answer(alloc, path, question, file, out) {
-        Ok(()) => 0,
-        Err(fault) => say(&fault, err),
-    }
+    let ended = answer(alloc, path, question, file, out);
+    status_of(NAME, ended, err)
 }
 
 // Reads the file whole, and writes what is asked of it.
@@ -94,7 +82,7 @@ fn answer<'a, S: AsStr, R: Read + Drop, W: Write>(
     question: Question<'_, S>,
     file: Option<R>,
     out: &mut W,
-) -> Result<(), Fault<'a>>
+) -> Result<(), Fault<'a, LinkError>>
     ensures accepted { OnOk result (IsSomeAnd file (λ reader.
         IfSome (R.remaining reader) (λ bytes. IsOk (header_of bytes)))) }
     ensures end { IsEnd S.text path.entry question.entry R.remaining file result }
@@ -120,7 +108,7 @@ fn print_libraries<'a, R: Read + Drop, W: Write + Drop>(
     path: &'a str,
     file: Option<R>,
     out: W,
-) -> Result<W, Fault<'a>>
+) -> Result<W, Fault<'a, LinkError>>
     ensures written { IfOk result (λ back. OfFile R.remaining file (λ input.
         AppendsSome (AreInputLibraries input) (W.contents out) (W.contents back))) }
     ensures fault { IfErr result (IsFault path.entry
@@ -145,7 +133,7 @@ fn print_lines<'a, S: AsStr, R: Read + Drop, W: Write + Drop>(
     references: &[S],
     file: Option<R>,
     out: W,
-) -> Result<W, Fault<'a>>
+) -> Result<W, Fault<'a, LinkError>>
     ensures written { IfOk result (λ back. OfFile R.remaining file (λ input.
         AppendsSome (AreInputLines S.text input references.now)
         (W.contents out) (W.contents back))) }
@@ -169,36 +157,16 @@ fn print_lines<'a, S: AsStr, R: Read + Drop, W: Write + Drop>(
     }
 }
 
-// What the program says where an output isn't written to its end.
-fn fault_of(stop: Stop<LinkError>, path: &str) -> Fault<'_>
-    ensures { result ≡ fault_of path.entry stop }
-{
-    match stop {
-        Stop::Refused(error) => Fault::Refused { path, error },
-        Stop::Write => Fault::Write,
-        Stop::Memory => Fault::Memory,
-    }
-}
-
 fn main(rt: HostRuntime) -> ExitCode {
-    let status = match run_on_arguments(&rt) {
-        Ok(status) => status,
-        Err(_) => say(&Fault::Arguments, &mut rt.stderr()),
-    };
-    ExitCode::from(status)
+    exit_code(NAME, run_on_arguments(&rt), &mut rt.stderr())
 }
 
 // The status, or why the arguments can't be read: for want of memory, or since one is not UTF-8.
 fn run_on_arguments(rt: &HostRuntime) -> io::Result<u8> {
-    let mut arguments = env::args(rt)?;
-    let _program = arguments.next();
-    let mut words = Vec::new(rt.alloc());
-    for argument in arguments {
-        words.push(argument)?;
-    }
+    let words = arguments(rt)?;
     let (mut out, mut err) = (rt.stdout(), rt.stderr());
     let Some((path, question)) = asked(&words) else {
-        return Ok(say(&Fault::Usage, &mut out));
+        return Ok(say("usage", &USAGE, &mut out));
     };
     let file = File::open(rt, path).ok();
     Ok(run(rt.alloc(), path, question, file, &mut out, &mut err))

@@ -3,13 +3,16 @@ use Rattle.std.proofs.Common.{◌≡◌, ◌<◌, ℕ, zero, suc, false, List, [
 use Rattle.std.specs.Borrow.{Bor}
 use Rattle.std.specs.List.{AllWithin, HoldsAt}
 use Rattle.elf_linking.specs.AnyTable.{IsGoodBy}
+use Rattle.std.specs.Prelude.{ok_or}
+use Rattle.elf_base.specs.Refusal.{and_then}
 use Rattle.elf_base.specs.Table.{table_items}
-use Rattle.elf_linking.specs.DynamicObject.{name_of_symbol, object_dynamic_symbols, object_file, object_name, object_records, object_strings, object_view}
-use Rattle.elf_linking.specs.DynamicView.{view_entries}
+use Rattle.elf_linking.specs.DynamicObject.{object_dynamic_symbols, object_file, object_name, object_records, object_strings, object_view}
+use Rattle.elf_linking.specs.DynamicView.{text_in_strings, view_entries}
 use Rattle.elf_linking.specs.Find.{AreReadable, DynamicSymbols}
 use Rattle.elf_linking.specs.References.{references_of}
 use Rattle.elf_linking.specs.Scope.{AreGood, BindsReference, HasNamedSymbol, binds_to_itself}
 use Rattle.elf_linking.specs.declared.error.LinkError.{LinkError}
+use Rattle.elf_linking.specs.declared.error.LinkError.TheVariants.{SymbolIndex}
 use Rattle.elf_linking.specs.declared.object.DynamicObject.{DynamicObject}
 use Rattle.elf_linking.specs.declared.references.Reference.{Reference}
 use Rattle.elf_linking.specs.declared.scope.Bound.{Bound}
@@ -33,7 +36,7 @@ module _ {E : Type 0} {r : _} (fields : E → SymbolFields) (program : DynamicOb
   found_is reference (Err error) is = absurd cc
 
   -- so there is such a symbol, whose name can be read
-  has_symbol : (strings : List ℕ) (symbol : Option E) (read : Result (List ℕ) LinkError) → name_of_symbol fields strings symbol ≡ Ok name → IsOk read → IsSomeAnd symbol (λ e. binds_to_itself (fields e) ≡ false → IsOk read)
+  has_symbol : (strings : List ℕ) (symbol : Option E) (read : Result (List ℕ) LinkError) → and_then (ok_or symbol SymbolIndex) (λ e. text_in_strings (Ok strings) (fields e).name) ≡ Ok name → IsOk read → IsSomeAnd symbol (λ e. binds_to_itself (fields e) ≡ false → IsOk read)
   has_symbol strings None read is ok = absurd (cc)
   has_symbol strings (Some e) read is ok = λ looked. ok
 

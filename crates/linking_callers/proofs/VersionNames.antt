@@ -3,11 +3,11 @@ use Rattle.std.proofs.Common.{◌≡◌, ℕ, ◌%◌, ◌==◌, ◌&&◌, Bool,
 use Rattle.std.specs.Prelude.{not}
 use Rattle.std.proofs.lemmas.Bool.{eq-eqb, ne_eqb}
 use Rattle.std.proofs.lemmas.Slice.Eq.{bytes_eq-Decides}
-use Rattle.elf_linking.specs.VersionTables.{DefinitionParts, NeedParts}
+use Rattle.elf_linking.specs.VersionTables.{DefinitionParts}
 use Rattle.elf_linking.specs.Versions.{IsFirst, first_item}
 use Rattle.elf_linking.specs.declared.error.LinkError.{LinkError}
 use Rattle.elf_linking.proofs.lemmas.FirstItems.{first_is}
-use Rattle.linking_callers.specs.VersionNames.{Defines, NeedsOf, defines, is_name, needs_of}
+use Rattle.linking_callers.specs.VersionNames.{Defines, defines, is_name}
 
 name_hits : (found : Result (List ℕ) LinkError) (name : List ℕ) → is_name found name ≡ true → found ≡ Ok name
 name_hits (Ok text) name is = ap (λ t. Ok t) ((bytes_eq-Decides text name).0 is)
@@ -37,6 +37,3 @@ defines_misses name d is holds =
 
 pub defined_first : (name : List ℕ) (items : List (Result DefinitionParts LinkError)) (answer : Result (Option DefinitionParts) LinkError) → answer ≡ first_item (defines name) items → IsFirst (Defines name) items answer
 defined_first name items answer is = subst (IsFirst (Defines name) items) (sym is) (first_is (Defines name) (defines name) (defines_hits name) (defines_misses name) items)
-
-pub needed_first : (library : List ℕ) (items : List (Result NeedParts LinkError)) (answer : Result (Option NeedParts) LinkError) → answer ≡ first_item (needs_of library) items → IsFirst (NeedsOf library) items answer
-needed_first library items answer is = subst (IsFirst (NeedsOf library) items) (sym is) (first_is (NeedsOf library) (needs_of library) (λ need is. name_hits need.file library is) (λ need is. name_misses need.file library is) items)

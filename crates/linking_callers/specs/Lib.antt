@@ -1,7 +1,5 @@
 pub mod AllBound
-pub mod CountedSymbols
-pub mod FirstNotes
 pub mod LinkedName
 pub mod SecondFile
-pub mod SecondObject
 pub mod VersionNames
+pub mod CheckedFiles

@@ -9,8 +9,7 @@ use Rattle.elf_linking.specs.DynamicView.{view_entries}
 use Rattle.elf_linking.specs.Find.{AreReadable}
 use Rattle.elf_linking.specs.References.{references_of}
 use Rattle.elf_linking.specs.Scope.{BindsReference}
-use Rattle.elf_linking.specs.VersionTables.{version_tables}
-use Rattle.elf_linking.specs.Versions.{versions_error}
+use Rattle.elf_linking.specs.Versions.{version_list, versions_error}
 use Rattle.elf_linking.specs.declared.error.LinkError.{LinkError}
 use Rattle.elf_linking.specs.declared.error.LinkError.TheVariants.{Elf}
 use Rattle.elf_linking.specs.declared.object.DynamicObject.{DynamicObject}
@@ -36,7 +35,7 @@ pub data IsChecked {E : Type 0} {r : _} (fields : E → SymbolFields) : Result (
       → IsChecked fields (Ok object) (Err error)
   unversioned : (object : DynamicObject E r) (error : LinkError)
       → IsGoodBy (object_table object) (object_symbols fields object)
-      → versions_error (version_tables (object_versions object)) (length (object_symbols fields object).items) ≡ Err error
+      → versions_error (version_list (object_versions object)) (length (object_symbols fields object).items) ≡ Err error
       → IsChecked fields (Ok object) (Err error)
   passed : (object : DynamicObject E r) → IsGoodBy (object_table object) (object_symbols fields object)
       → AreReadable (object_dynamic_symbols fields object) → IsChecked fields (Ok object) (Ok object)

@@ -2,6 +2,7 @@
 //! definitions, and never taken from the program's output.
 
 mod bytes;
+mod checked_images;
 mod formulas;
 mod images;
 mod in_order;

@@ -1,8 +1,12 @@
 -- What is said of how an output ends, where that implies more.
 use Rattle.std.proofs.Common.{ℕ, List, Option, Result, Ok, Err}
 use Rattle.std.specs.Prelude.{MatchResult}
+use Rattle.std.specs.Borrow.{Bor}
 use Rattle.program_ends.specs.Appended.{AppendsSome}
+use Rattle.program_ends.specs.Ends.{IsFault}
 use Rattle.program_ends.specs.Stops.{IsStop}
+use Rattle.program_ends.specs.declared.Fault.{Fault}
+use Rattle.program_ends.specs.declared.Fault.TheVariants as faults
 use Rattle.program_ends.specs.declared.Stop.{Stop}
 use Rattle.program_ends.specs.declared.Stop.TheVariants.{Memory, Refused, Write}
 
@@ -21,3 +25,10 @@ ends_so Was Is WasRefused IsRefused WasWritten IsWritten Short (Ok value) old ne
 ends_so Was Is WasRefused IsRefused WasWritten IsWritten Short (Err (Refused error)) old new so refused written why = refused error why
 ends_so Was Is WasRefused IsRefused WasWritten IsWritten Short (Err Write) old new so refused written why = written why
 ends_so Was Is WasRefused IsRefused WasWritten IsWritten Short (Err Memory) old new so refused written why = why
+
+-- the fault of a file at a path, where its parts imply others
+pub fault_so : {E : Type 0} (path : Bor (List ℕ)) (Was Is : E → Type 0) (WasWritten IsWritten : Type 0) (fault : Fault E) → ((error : E) → Was error → Is error) → (WasWritten → IsWritten) → IsFault path Was WasWritten fault → IsFault path Is IsWritten fault
+fault_so path Was Is WasWritten IsWritten (faults.Read at) refused written why = why
+fault_so path Was Is WasWritten IsWritten (faults.Refused at error) refused written (same, was) = (same, refused error was)
+fault_so path Was Is WasWritten IsWritten faults.Write refused written why = written why
+fault_so path Was Is WasWritten IsWritten faults.Memory refused written why = why

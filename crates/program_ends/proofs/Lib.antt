@@ -1,4 +1,5 @@
 pub mod Ends
 pub mod Flushed
+pub mod LineLists
 mod Names
 mod Unbuffered

@@ -1,3 +1,4 @@
 pub mod Appended
+pub mod Ends
 pub mod Names
 pub mod Stops

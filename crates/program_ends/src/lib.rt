@@ -1,4 +1,4 @@
-//! How the programs read a file, write names, write to their end, and say why they stop.
+//! How the programs read arguments and files, write names, write to their end, and say why they stop.
 #![tactic(auto)]
 
 ghost use Rattle.std.specs.Prelude.{◌≡◌, ◌+◌, ◌^◌, ◌<◌, [], IfSome, IsSomeAnd, List};
@@ -7,13 +7,16 @@ ghost use Rattle.std.specs.Io.Buffered.{writer_buffer, writer_inner};
 ghost use Rattle.std.specs.Io.KnownBytes.{Appends, Keeps};
 ghost use Rattle.std.specs.Char.{is_ascii_control};
 ghost use Rattle.std.specs.List.{position_from};
+ghost use Rattle.program_ends.specs.Ends.{fault_of, status_of};
 ghost use Rattle.program_ends.specs.Names.{escaped};
 ghost use Rattle.program_ends.specs.Stops.{HasBegun, IsStop};
 
 use std::alloc::Global;
 use std::fmt::Display;
-use std::io;
 use std::io::{BufWriter, Read, Write};
+use std::process::ExitCode;
+use std::{env, io};
+use thiserror::Error;
 
 /// Why an output isn't written to its end.
 #[derive(Clone, Copy, Debug, Drop)]
@@ -120,12 +123,77 @@ fn write_flushed<O: Output, W: Write + Drop>(
     Ok(())
 }
 
-/// Writes why a program ends with status 1, if the writer doesn't fail, and returns that status.
-pub fn say<F: Display, W: Write>(fault: &F, to: &mut W) -> u8
+/// The arguments of the program, without its name. Fails for want of memory, and for an argument that
+/// is not UTF-8.
+pub fn arguments(rt: &HostRuntime) -> io::Result<Vec<String>> {
+    let mut arguments = env::args(rt)?;
+    let _program = arguments.next();
+    let mut words = Vec::new(rt.alloc());
+    for argument in arguments {
+        words.push(argument)?;
+    }
+    Ok(words)
+}
+
+/// Writes a line with the name of a program and why it ends with status 1, if the writer doesn't fail,
+/// and returns that status.
+pub fn say<F: Display, W: Write>(name: &str, fault: &F, to: &mut W) -> u8
     ensures { result ≡ 1 }
 {
-    let _ = writeln!(to, "{fault}");
+    let _ = writeln!(to, "{name}: {fault}");
     1
+}
+
+/// The exit code of a program by its status, or by what it says where its arguments can't be read.
+pub fn exit_code<W: Write>(name: &str, status: io::Result<u8>, err: &mut W) -> ExitCode {
+    let status = match status {
+        Ok(status) => status,
+        Err(_) => say(name, &"cannot read the arguments", err),
+    };
+    ExitCode::from(status)
+}
+
+/// Why a program ends with status 1, and what it says then after its name.
+#[derive(Debug, Drop, Error)]
+#[error_bound(E: Display)]
+pub enum Fault<'a, E> {
+    /// The file at this path can't be read.
+    #[error("cannot read {path}")]
+    Read { path: &'a str },
+    /// The file at this path has this error.
+    #[error("{path}: {error}")]
+    Refused { path: &'a str, error: E },
+    /// A write failed.
+    #[error("cannot write")]
+    Write,
+    /// There was not enough memory.
+    #[error("not enough memory")]
+    Memory,
+}
+
+/// What a program says where the output for the file at a path isn't written to its end.
+pub fn fault_of<E>(stop: Stop<E>, path: &str) -> Fault<'_, E>
+    ensures { result ≡ fault_of path.entry stop }
+{
+    match stop {
+        Stop::Refused(error) => Fault::Refused { path, error },
+        Stop::Write => Fault::Write,
+        Stop::Memory => Fault::Memory,
+    }
+}
+
+/// The exit status of a program of this name: 0, or 1 and it says why.
+pub fn status_of<T: Drop, E: Display + Drop, W: Write>(
+    name: &str,
+    ended: Result<T, Fault<'_, E>>,
+    err: &mut W,
+) -> u8
+    ensures { result ≡ status_of ended.entry }
+{
+    match ended {
+        Ok(_) => 0,
+        Err(fault) => say(name, &fault, err),
+    }
 }
 
 /// Writes the bytes of a name as GNU `readelf` does in the C locale: a control character (below

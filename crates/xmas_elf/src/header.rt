@@ -44,7 +44,7 @@ pub fn sanity_check(file: &ElfFile<'_>) -> Result<(), ElfError>
         → length (program_list file.now) ≡ program_count_of file.now) }
 {
     let pt1 = &file.header.pt1;
-    // The class is chosen once for both, and no number of it is kept.
+    // One match for the size and the class, so that only two booleans live on.
     let (has_size, has_class) = match &file.header.pt2 {
         HeaderPt2::Header32(part) => (part.header_size == 52, pt1.class.raw() == 1),
         HeaderPt2::Header64(part) => (part.header_size == 64, pt1.class.raw() == 2),

@@ -10,7 +10,7 @@ ghost use Rattle.xmas_elf.specs.NameTable.{HasName, FindsNamed, IsFirstNamed, Is
 ghost use Rattle.xmas_elf.specs.NameTable.{IsNameBytesAt, IsNameTable, LiesAsName};
 ghost use Rattle.xmas_elf.specs.NameTable.{LiesAsNameTable, NameCompared, name_table_of};
 ghost use Rattle.xmas_elf.specs.NameTable.{names_section_of, section_named, shstr_bytes_of, shstr_of};
-ghost use Rattle.xmas_elf.specs.SectionHeader.{section_list, section_of};
+ghost use Rattle.xmas_elf.specs.SectionHeader.{section_fields, section_list, section_of};
 
 use crate::bytes::{bytes_up_to_zero, text_at, text_is};
 use crate::sections::{SectionHeader, section_entry};
@@ -45,6 +45,21 @@ impl<'a> ElfFile<'a> {
         ensures exact { Answers (shstr_bytes_of self.now index) result }
     {
         bytes_up_to_zero(self.name_table()?, index as usize)
+    }
+
+    /// The bytes of a section's name, whatever the type of the section: Null and unknown types too.
+    /// They need not be UTF-8, and live as long as the input.
+    ///
+    /// Errors: those of `get_shstr_bytes`, for the section's index in the name table (gABI,
+    /// "Sections", sh_name).
+    #[inline(always)]
+    pub fn section_name(&self, section: &SectionHeader) -> Result<&'a [u8], ElfError>
+        ensures bytes { Lends (IsNameBytesAt self.now (section_fields section.now).name) result }
+        ensures place { IfOk result (LiesAsName self.now (section_fields section.now).name) }
+        ensures exact { Answers
+            (shstr_bytes_of self.now (section_fields section.now).name) result }
+    {
+        self.get_shstr_bytes(section.name())
     }
 
     /// Whether the text at byte `index` of the name table equals `name`, and the number of bytes

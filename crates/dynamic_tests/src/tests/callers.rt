@@ -1,14 +1,12 @@
 //! The callers, at a table of each kind.
 
-ghost use Rattle.std.specs.Prelude.{◌≡◌, true};
-
 use crate::tests::want::{open, want};
 use elf_base::ElfError;
 use elf_base::bytes::{Order, Record, Table};
 use elf_base::header::Class;
 use elf_linking::gnu_hash::GnuHashTable;
 use elf_linking::{AnyTable, LinkError};
-use linking_callers::callers::{finds_all, words_looked_at};
+use linking_callers::callers::finds_all;
 use std::process::Abort;
 use worked_files::files::{put_words, strtab_file};
 use worked_files::places::{set, symbol_32};
@@ -68,16 +66,6 @@ fn finds_values_by_the_table_of_gnu(rt: HostRuntime) -> Result<(), LinkError> {
     let table = GnuHashTable::read(&words, Class::ThirtyTwo, LITTLE)?;
     check_values(&rt, &AnyTable::Gnu(table), &symbols, &file);
     want(&rt, finds_all(&table, &symbols, &file), true);
-    let looked_at = words_looked_at(
-        &table,
-        "ab",
-        &symbols,
-        &file,
-        |_| -> bool
-            ensures { result ≡ true }
-        { true },
-    );
-    want(&rt, looked_at, 1);
     put_words(&mut words, 20, &[0]);
     let table = GnuHashTable::read(&words, Class::ThirtyTwo, LITTLE)?;
     want(&rt, finds_all(&table, &symbols, &file), false);

@@ -1,11 +1,12 @@
 //! Which addresses packed relative relocations name.
 
+ghost use Rattle.std.specs.Prelude.{◌<◌, ◌^◌, length};
+
 use crate::tests::want::{want, want_at};
 use elf_base::bytes::Order;
 use elf_base::header::Class;
 use elf_linking::LinkError;
 use elf_linking::relr::Relr;
-use linking_callers::callers::relr::{is_relocated, relocation_count};
 use std::process::Abort;
 use std::test::Fail;
 use worked_files::places::{Place, set};
@@ -122,6 +123,13 @@ fn words_of_four_bytes_name_addresses(rt: HostRuntime) -> Result<(), LinkError> 
     Ok(())
 }
 
+// How many relocations these words name.
+fn relocation_count(bytes: &[u8], class: Class, order: Order) -> Result<usize, LinkError>
+    requires { length bytes.now < 2 ^ 61 }
+{
+    Ok(Relr::new(bytes, class, order)?.count())
+}
+
 const COUNTS: &[(usize, Class, Result<usize, LinkError>)] = &[
     (12, WIDE, Err(LinkError::NotMultiple)),
     (9, NARROW, Err(LinkError::NotMultiple)),
@@ -157,9 +165,10 @@ fn relocations_are_counted_and_found(rt: HostRuntime) -> Result<(), Fail> {
         (0x1004, false),
         (0x1200, false),
     ];
-    for (address, relocated) in rows {
-        let relr = Relr::new(&bytes[..16], WIDE, LITTLE)?;
-        want_at(&rt, address, is_relocated(relr, address), relocated);
+    for (address, is_relocated) in rows {
+        let mut relr = Relr::new(&bytes[..16], WIDE, LITTLE)?;
+        let found = relr.any(|relocated| relocated == address);
+        want_at(&rt, address, found, is_relocated);
     }
     Ok(())
 }

@@ -8,9 +8,7 @@ use elf_base::bytes::text_at;
 use elf_linking::LinkError;
 use elf_linking::versions::{Definition, NamedVersion, Need, Versions};
 use elf_linking::view::{DynamicView, strings};
-use linking_callers::callers::versions::{
-    definition_count, definition_of, first_need_of, library_of, need_count,
-};
+use linking_callers::callers::versions::{definition_of, library_of};
 use std::process::Abort;
 use worked_files::linked::versions::{NARROW, NARROW_TABLES, WIDE, WIDE_TABLES};
 use worked_files::places::put;
@@ -58,7 +56,7 @@ fn check_definitions(
     }
     want_at(rt, row, definitions.next().map(defined), None);
     want_at(rt, row, definitions.next().map(defined), None);
-    want_at(rt, row, definition_count(versions), items.len());
+    want_at(rt, row, versions.definitions().count(), items.len());
 }
 
 // The same of needs.
@@ -74,7 +72,7 @@ fn check_needs(
     }
     want_at(rt, row, needs.next().map(needed), None);
     want_at(rt, row, needs.next().map(needed), None);
-    want_at(rt, row, need_count(versions), items.len());
+    want_at(rt, row, versions.needs().count(), items.len());
 }
 
 const DEFINED: &[(u16, u16, u32, &str)] = &[
@@ -407,8 +405,6 @@ const DEFINITIONS_OF: &[(&str, Option<u16>)] = &[
     ("ab", None),
 ];
 
-const NEEDS_OF: &[(&str, Option<u16>)] = &[("libc", Some(4)), ("libm", Some(6)), ("V3", None)];
-
 #[test]
 fn finds_versions_by_their_names(rt: HostRuntime) -> Result<(), LinkError> {
     for &(class, order) in KINDS {
@@ -417,10 +413,6 @@ fn finds_versions_by_their_names(rt: HostRuntime) -> Result<(), LinkError> {
         for &(name, number) in DEFINITIONS_OF {
             let found = definition_of(&versions, name)?;
             want_at(&rt, name, found.map(|found| found.number), number);
-        }
-        for &(library, number) in NEEDS_OF {
-            let found = first_need_of(&versions, library)?;
-            want_at(&rt, library, found.map(|found| found.number), number);
         }
     }
     Ok(())
@@ -488,8 +480,8 @@ fn reads_what_a_linker_wrote(rt: HostRuntime) -> Result<(), LinkError> {
 // number of its symbol.
 fn check_damaged(rt: &impl Abort, place: usize, bytes: &[u8]) -> Result<(), LinkError> {
     let versions = linked(rt, bytes)?;
-    want_at(rt, place, definition_count(&versions) <= 4, true);
-    want_at(rt, place, need_count(&versions) <= 3, true);
+    want_at(rt, place, versions.definitions().count() <= 4, true);
+    want_at(rt, place, versions.needs().count() <= 3, true);
     for index in 0..7 {
         let Some(raw) = versions.number(index)? else {
             return Err(LinkError::Missing);

@@ -1,18 +1,17 @@
 //! Callers that look symbols up by their names, as a model of a dynamic linker would.
 
-ghost use Rattle.std.specs.Borrow.{Bor};
-ghost use Rattle.std.specs.Prelude.{◌≡◌, ◌↔◌, ◌<◌, ◌≤◌, ℕ, Contains, IfErr, IfOk, IsOkAnd};
+ghost use Rattle.std.specs.Prelude.{◌≡◌, ◌↔◌, ◌<◌, ℕ, IfErr, IfOk, IsOkAnd};
 ghost use Rattle.std.specs.Prelude.{IsTrue, MatchOption, MatchResult, None, Option, Result, Some};
-ghost use Rattle.std.specs.Prelude.{length, slice_get, true};
+ghost use Rattle.std.specs.Prelude.{slice_get, true};
 ghost use Rattle.elf_callers.specs.Linked.{AreLinked, IsFileValueOf, IsLinkRefused};
 ghost use Rattle.elf_callers.specs.Linked.{NotLinked, symbols_in, table_in};
-ghost use Rattle.xmas_elf.specs.HashTable.{IsGood, Looks, chain_count_of, hash_data, hash_order};
+ghost use Rattle.xmas_elf.specs.HashTable.{IsGood, hash_data, hash_order};
 ghost use Rattle.xmas_elf.specs.FileHeader.{header_of};
 ghost use Rattle.xmas_elf.specs.ReportHash.{content_at};
 ghost use Rattle.xmas_elf.specs.SectionContent.{section_content_of};
 ghost use Rattle.xmas_elf.specs.Symbol.{IsGlobal};
-ghost use Rattle.xmas_elf.specs.Symbols.{Decides, IsMatch, symbols_of};
-ghost use Rattle.xmas_elf.specs.Table.{table_data, table_items, table_order};
+ghost use Rattle.xmas_elf.specs.Symbols.{symbols_of};
+ghost use Rattle.xmas_elf.specs.Table.{table_data, table_order};
 ghost use Rattle.xmas_elf.specs.Types.{ElfError, ElfFile};
 
 use xmas_elf::bytes::{Record, Table};
@@ -60,27 +59,6 @@ pub fn symbol_with_name<E: Entry + Record>(
         Ok(None) => None,
         Err(_) => unreachable!(),
     }
-}
-
-/// The number that `lookup_counted` returns: that of the entries which the definition of
-/// a look-up passes, and never more than there are chains or symbols. It says nothing of
-/// the work that was done.
-pub fn comparisons<E: Entry + Record, F: Fn(&E) -> bool>(
-    table: &HashTable<'_>,
-    name: &str,
-    symbols: &Table<'_, E>,
-    file: &ElfFile<'_>,
-    f: F,
-) -> u32
-    requires callable { (e : Bor E) → Contains (table_items symbols.now) e.now → F.pre f e }
-    requires decides { Decides (symbols_of E.fields E.text_in symbols.now file.now) F.Fn f }
-    ensures counted { let all = symbols_of E.fields E.text_in symbols.now file.now in
-        (answer : Result (Option (ℕ × E)) ElfError)
-        × Looks (IsMatch all F.Fn f name.now) table.now all.items name.now answer result }
-    ensures in_chains { result ≤ chain_count_of table.now }
-    ensures in_symbols { result ≤ length (table_items symbols.now) }
-{
-    table.lookup_counted(name, symbols, file, f).1
 }
 
 // The hash table that a section has, if it has one.

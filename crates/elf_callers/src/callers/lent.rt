@@ -1,22 +1,19 @@
 //! Callers that go by where a returned slice lies.
 
-ghost use Rattle.std.specs.Prelude.{◌≡◌, ◌≢◌, ◌≤◌, ◌-◌, ◌%◌, Err, IfErr, IfOk, IsOkAnd};
-ghost use Rattle.std.specs.Prelude.{MatchOption, MatchResult, None, Ok, Some, length};
+ghost use Rattle.std.specs.Prelude.{◌≡◌, ◌≢◌, ◌≤◌, ◌-◌};
+ghost use Rattle.std.specs.Prelude.{MatchOption, None, Ok, Some};
 ghost use Rattle.elf_callers.specs.Kinds.{symbols_64_in};
-ghost use Rattle.xmas_elf.specs.FileHeader.{header_of};
 ghost use Rattle.xmas_elf.specs.Lent.{LiesAt};
-ghost use Rattle.xmas_elf.specs.Place.{LiesAsSection, PartLies, section_part};
+ghost use Rattle.xmas_elf.specs.Place.{LiesAsSection};
 ghost use Rattle.xmas_elf.specs.ProgramHeader.{HasSegmentData, IsSegmentData, program_fields};
-ghost use Rattle.xmas_elf.specs.SectionContent.{section_content, section_content_of};
+ghost use Rattle.xmas_elf.specs.SectionContent.{section_content_of};
 ghost use Rattle.xmas_elf.specs.SectionData.{HasSectionData, IsSectionData};
-ghost use Rattle.xmas_elf.specs.SectionHeader.{section_fields, section_by_u16};
+ghost use Rattle.xmas_elf.specs.SectionHeader.{section_fields};
 ghost use Rattle.xmas_elf.specs.Types.{ElfFile};
 
-use xmas_elf::bytes::{Order, Table};
+use xmas_elf::ElfFile;
 use xmas_elf::program::ProgramHeader;
 use xmas_elf::sections::{SectionData, SectionHeader};
-use xmas_elf::symbol_table::Entry64;
-use xmas_elf::{ElfError, ElfFile};
 
 /// The data of a segment and of a section of one file.
 #[derive(Clone, Copy, Debug)]
@@ -72,34 +69,4 @@ pub fn symbol_bytes<'a>(file: &ElfFile<'a>, section: &SectionHeader) -> Option<&
         Ok(SectionData::SymbolTable64(table)) => Some(table.bytes()),
         _ => None,
     }
-}
-
-/// The data of a section by its index, each part of which outlives the `ElfFile`
-/// that it was read by.
-pub fn section_data_in(input: &[u8], index: u16) -> Result<SectionData<'_>, ElfError>
-    ensures found { IfOk result (λ part. IsOkAnd (header_of input.now) (λ header.
-        let file : ElfFile = record { input = input.entry; header = header } in
-        IsOkAnd (section_by_u16 input.now header index)
-        (λ section. (section_content_of file section ≡ Ok (section_content part))
-        × PartLies input.entry (section_fields section).offset (section_part part)))) }
-    ensures refused { IfErr result (λ error. MatchResult (header_of input.now) (λ header.
-        let file : ElfFile = record { input = input.entry; header = header } in
-        MatchResult (section_by_u16 input.now header index)
-        (λ section. section_content_of file section ≡ Err error)
-        (λ why. why ≡ error))
-        (λ why. why ≡ error)) }
-{
-    let file = ElfFile::new(input)?;
-    let section = file.section_header(index)?;
-    section.get_data(&file)
-}
-
-/// The bytes of some symbols, which outlive the table that they were read by.
-pub fn table_bytes(bytes: &[u8], order: Order) -> Result<&[u8], ElfError>
-    ensures { MatchResult result
-        (λ part. (length bytes.now % 24 ≡ 0) × (part.now ≡ bytes.now) × LiesAt bytes.entry 0 part)
-        (λ error. (length bytes.now % 24 ≢ 0) × (error ≡ ElfError.NotMultiple)) }
-{
-    let table = Table::<Entry64>::new(bytes, order)?;
-    Ok(table.bytes())
 }

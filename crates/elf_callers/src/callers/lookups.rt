@@ -1,21 +1,17 @@
 //! Look-ups by a test of one's own, in tables that were checked and in tables that were not.
 
 ghost use Rattle.std.specs.Borrow.{Bor};
-ghost use Rattle.std.specs.Prelude.{◌≡◌, ◌≢◌, ◌↔◌, ◌<◌, ◌≤◌, ℕ, Contains, Err, IfErr, IfSome, IsOk};
-ghost use Rattle.std.specs.Prelude.{IsTrue, MatchOption, OnOk, Some, length, slice_get, true};
-ghost use Rattle.elf_callers.specs.Numbered.{numbered_fields, numbered_name};
-ghost use Rattle.xmas_elf.specs.HashTable.{FindsAll, IsCheck, IsEndless, IsGood, Looks};
+ghost use Rattle.std.specs.Prelude.{◌≡◌, ◌≢◌, ◌↔◌, ◌<◌, ◌≤◌, ℕ, Contains, Err, IsOk};
+ghost use Rattle.std.specs.Prelude.{IsTrue, MatchOption, Some, length, slice_get};
+ghost use Rattle.xmas_elf.specs.HashTable.{FindsAll, IsEndless, IsGood, Looks};
 ghost use Rattle.xmas_elf.specs.HashTable.{MustBeFound, chain_count_of, chains_of, start_of};
-ghost use Rattle.xmas_elf.specs.SymbolTable.{table_symbols};
 ghost use Rattle.xmas_elf.specs.Symbol.{IsGlobal};
 ghost use Rattle.xmas_elf.specs.Symbols.{Decides, IsMatch, symbols_of};
 ghost use Rattle.xmas_elf.specs.Table.{table_items};
 
-use crate::callers::hash::symbol_with_name;
-use crate::own::Numbered;
 use xmas_elf::bytes::{Record, Table};
 use xmas_elf::hash::HashTable;
-use xmas_elf::symbol_table::{Entry, SymbolTable};
+use xmas_elf::symbol_table::Entry;
 use xmas_elf::{ElfError, ElfFile};
 
 /// A symbol with this name that passes the test, by a table that passed the check; none where a
@@ -92,101 +88,6 @@ pub fn defined_symbol<E: Entry + Record>(
     }
 }
 
-/// Two symbols by their names, by a table that passed the check. The string table of the symbols is
-/// taken once for both look-ups.
-pub fn two_symbols<E: Entry + Record>(
-    table: &HashTable<'_>,
-    one: &str,
-    other: &str,
-    symbols: &SymbolTable<'_, E>,
-) -> (Option<(u32, E)>, Option<(u32, E)>)
-    requires good { IsGood table.now (table_symbols symbols.now) }
-    ensures first { let all = table_symbols symbols.now in
-        MatchOption result.0
-        ((i : ℕ) (e : E) → ¬ IsGlobal all i e one.now)
-        (λ found. (0 < found.0) × (slice_get all.items found.0 ≡ Some found.1)
-        × (all.text found.1 ≡ Some one.now)) }
-    ensures second { let all = table_symbols symbols.now in
-        MatchOption result.1
-        ((i : ℕ) (e : E) → ¬ IsGlobal all i e other.now)
-        (λ found. (0 < found.0) × (slice_get all.items found.0 ≡ Some found.1)
-        × (all.text found.1 ≡ Some other.now)) }
-{
-    (
-        named_symbol(table, one, symbols),
-        named_symbol(table, other, symbols),
-    )
-}
-
-/// A symbol with this name, by a table that passed the check, among symbols that carry their names.
-pub fn named_symbol<E: Entry + Record>(
-    table: &HashTable<'_>,
-    name: &str,
-    symbols: &SymbolTable<'_, E>,
-) -> Option<(u32, E)>
-    requires good { IsGood table.now (table_symbols symbols.now) }
-    ensures { let all = table_symbols symbols.now in MatchOption result
-        ((i : ℕ) (e : E) → ¬ IsGlobal all i e name.now)
-        (λ found. (0 < found.0) × (slice_get all.items found.0 ≡ Some found.1)
-        × (all.text found.1 ≡ Some name.now)) }
-{
-    match table.lookup_in(
-        name,
-        symbols,
-        |_| -> bool
-            ensures { result ≡ true }
-        { true },
-    ) {
-        Ok(Some((index, symbol))) => Some((index, symbol)),
-        Ok(None) => None,
-        Err(_) => unreachable!(),
-    }
-}
-
-/// The number of a symbol of one's own with this name, by a table that passed the check.
-pub fn number_with_name(
-    table: &HashTable<'_>,
-    name: &str,
-    symbols: &Table<'_, Numbered>,
-    file: &ElfFile<'_>,
-) -> Option<u32>
-    requires good { IsGood table.now (symbols_of (λ symbol. numbered_fields symbol.number)
-        (λ symbol _. numbered_name symbol.number) symbols.now file.now) }
-    ensures { let all = symbols_of (λ symbol. numbered_fields symbol.number)
-        (λ symbol _. numbered_name symbol.number) symbols.now file.now in
-        MatchOption result ((i : ℕ) (e : _) → ¬ IsGlobal all i e name.now)
-        (λ number. numbered_name number ≡ Some name.now) }
-{
-    match symbol_with_name(table, name, symbols, file) {
-        Some((_index, symbol)) => Some(symbol.number),
-        None => None,
-    }
-}
-
-/// A look-up by a table that nobody checked before: it is Ok exactly for a table that look-ups can
-/// rely on, and else returns an error as the check does.
-pub fn checked_lookup<E: Entry + Record, F: Fn(&E) -> bool>(
-    table: &HashTable<'_>,
-    name: &str,
-    symbols: &Table<'_, E>,
-    file: &ElfFile<'_>,
-    f: F,
-) -> Result<Option<(u32, E)>, ElfError>
-    requires callable { (e : Bor E) → Contains (table_items symbols.now) e.now → F.pre f e }
-    requires decides { Decides (symbols_of E.fields E.text_in symbols.now file.now) F.Fn f }
-    ensures good { let all = symbols_of E.fields E.text_in symbols.now file.now in
-        IsOk result ↔ IsGood table.now all }
-    ensures finds { let all = symbols_of E.fields E.text_in symbols.now file.now in
-        OnOk result (FindsAll all name.now (IsMatch all F.Fn f name.now) result) }
-    ensures refused { let all = symbols_of E.fields E.text_in symbols.now file.now in
-        IfErr result (λ error. IsCheck table.now all (Err error)) }
-{
-    match table.check(symbols, file) {
-        Ok(()) => table.lookup(name, symbols, file, f),
-        Err(error) => Err(error),
-    }
-}
-
 /// The result of a look-up in any table: that of the first stop which it reaches, and
 /// `HashCycle` exactly where it reaches none.
 pub fn lookup_anywhere<E: Entry + Record, F: Fn(&E) -> bool>(
@@ -205,41 +106,4 @@ pub fn lookup_anywhere<E: Entry + Record, F: Fn(&E) -> bool>(
         (chains_of table.now all.items) (start_of table.now name.now) }
 {
     table.lookup(name, symbols, file, f)
-}
-
-/// Two look-ups by one test return the same, with the number or without.
-pub fn same_answers<E: Entry + Record, F: Fn(&E) -> bool + Copy>(
-    table: &HashTable<'_>,
-    name: &str,
-    symbols: &Table<'_, E>,
-    file: &ElfFile<'_>,
-    f: F,
-) -> (
-    Result<Option<(u32, E)>, ElfError>,
-    Result<Option<(u32, E)>, ElfError>,
-)
-    requires callable { (e : Bor E) → Contains (table_items symbols.now) e.now → F.pre f e }
-    requires decides { Decides (symbols_of E.fields E.text_in symbols.now file.now) F.Fn f }
-    ensures same { result.0 ≡ result.1 }
-    ensures answer { let all = symbols_of E.fields E.text_in symbols.now file.now in (count : ℕ)
-        × Looks (IsMatch all F.Fn f name.now) table.now all.items name.now result.0 count }
-{
-    let one = table.lookup(name, symbols, file, f);
-    let other = table.lookup_counted(name, symbols, file, f);
-    (one, other.0)
-}
-
-/// Both checks of a table have one result, whatever words the second is given.
-pub fn same_checks<E: Entry + Record>(
-    table: &HashTable<'_>,
-    symbols: &Table<'_, E>,
-    file: &ElfFile<'_>,
-    words: &mut [u32],
-) -> (Result<(), ElfError>, Result<(), ElfError>)
-    ensures same { result.0 ≡ result.1 }
-    ensures answer { IsCheck table.now (symbols_of E.fields E.text_in symbols.now file.now) result.0 }
-{
-    let one = table.check(symbols, file);
-    let other = table.check_with(symbols, file, words);
-    (one, other)
 }

@@ -1,30 +1,27 @@
 //! Callers of symbols, of a known type and of any.
 
-ghost use Rattle.std.specs.Prelude.{◌≡◌, ◌↔◌, ◌*◌, ◌<◌, ◌≤◌};
-ghost use Rattle.std.specs.Prelude.{IfErr, IfOk, IfSome, IsNone, IsSomeAnd, IsTrue, MatchOption};
-ghost use Rattle.std.specs.Prelude.{MatchResult, None, Ok, Some, codes, drop, length, slice_get};
+ghost use Rattle.std.specs.Prelude.{◌≡◌, ◌*◌, ◌<◌, ◌≤◌};
+ghost use Rattle.std.specs.Prelude.{IfErr, IfOk, IsNone, IsSomeAnd, MatchOption};
+ghost use Rattle.std.specs.Prelude.{None, Ok, Some, codes, drop, length, slice_get};
 ghost use Rattle.std.specs.Prelude.{take, ℕ};
 ghost use Rattle.elf_callers.specs.Names.{HasText, IsNameTotal, first_name_of};
-ghost use Rattle.elf_callers.specs.Numbered.{numbered_name};
 ghost use Rattle.elf_callers.specs.Totals.{IsFirstWithout};
 ghost use Rattle.xmas_elf.specs.First.{FindsFirstAt};
-ghost use Rattle.xmas_elf.specs.Lent.{Answers, Lends};
+ghost use Rattle.xmas_elf.specs.Lent.{Answers};
 ghost use Rattle.xmas_elf.specs.NameTable.{section_named};
 ghost use Rattle.xmas_elf.specs.Number.{number};
 ghost use Rattle.xmas_elf.specs.SectionHeader.{section_of};
-ghost use Rattle.xmas_elf.specs.StringTables.{IsDynString, IsString};
-ghost use Rattle.xmas_elf.specs.StringTables.{dyn_string_of, string_of, strtab_of};
-ghost use Rattle.xmas_elf.specs.Symbol.{dyn_entry_32_fields, entry_64_fields};
+ghost use Rattle.xmas_elf.specs.StringTables.{string_of, strtab_of};
+ghost use Rattle.xmas_elf.specs.Symbol.{entry_64_fields};
 ghost use Rattle.xmas_elf.specs.SymbolSection.{IsSectionIndex, symbol_section_of};
 ghost use Rattle.xmas_elf.specs.Symbols.{symbols_of};
 ghost use Rattle.xmas_elf.specs.Table.{table_data, table_items, table_order};
 ghost use Rattle.xmas_elf.specs.Text.{text_of};
 ghost use Rattle.xmas_elf.specs.Types.{ElfFile, SectionHeader};
 
-use crate::own::Numbered;
 use xmas_elf::bytes::{Order, Record, Table, text_at};
 use xmas_elf::sections::SectionHeader;
-use xmas_elf::symbol_table::{DynEntry32, Entry, Entry64, SymbolTable};
+use xmas_elf::symbol_table::{Entry, Entry64, SymbolTable};
 use xmas_elf::{ElfError, ElfFile};
 
 /// The index in a table of the first symbol with this value.
@@ -35,22 +32,6 @@ pub fn value_position<E: Entry + Record>(symbols: &Table<'_, E>, value: u64) -> 
     symbols.iter().position(|symbol| symbol.value() == value)
 }
 
-/// The name of a symbol of class 64, or the same error.
-pub fn name_or_refusal<'a>(symbol: &Entry64, file: &ElfFile<'a>) -> Result<&'a str, ElfError>
-    ensures name { Lends (IsString file.now (entry_64_fields symbol.now).name) result }
-    ensures exact { Answers (string_of file.now (entry_64_fields symbol.now).name) result }
-{
-    symbol.get_name(file)
-}
-
-/// The name of a symbol of the dynamic linker, or the same error, by the path of the trait.
-pub fn dyn_name_or_refusal<'a>(symbol: &DynEntry32, file: &ElfFile<'a>) -> Result<&'a str, ElfError>
-    ensures name { Lends (IsDynString file.now (dyn_entry_32_fields symbol.now).name) result }
-    ensures exact { Answers (dyn_string_of file.now (dyn_entry_32_fields symbol.now).name) result }
-{
-    Entry::get_name(symbol, file)
-}
-
 /// Why a symbol has no name where no section is named `.strtab`.
 #[tactic(auto, unfolding(xmas_elf::specs::StringTables::string_of, xmas_elf::specs::StringTables::strtab_of))]
 pub fn without_strtab(symbol: &Entry64, file: &ElfFile<'_>) -> Option<ElfError>
@@ -58,16 +39,6 @@ pub fn without_strtab(symbol: &Entry64, file: &ElfFile<'_>) -> Option<ElfError>
     ensures { result ≡ Some ElfError.NoStrtab }
 {
     symbol.get_name(file).err()
-}
-
-/// Any symbol: whether it has this name.
-pub fn is_named<E: Entry>(symbol: &E, name: &str, file: &ElfFile<'_>) -> bool
-    ensures { IsTrue result ↔ (E.text_in symbol.now file.now ≡ Some name.now) }
-{
-    match symbol.get_name(file) {
-        Ok(text) => text == name,
-        Err(_) => false,
-    }
 }
 
 /// Any symbol: its section is that at the index that it has, or the same error.
@@ -122,25 +93,6 @@ pub fn name_at<'a>(
     SymbolTable::with_strings(symbols, strings).name(index)
 }
 
-/// The name of a symbol by the string table that is taken once for many: what `get_name` returns.
-#[tactic(auto, unfolding(xmas_elf::specs::StringTables::string_of))]
-pub fn name_by_table<'a>(file: &ElfFile<'a>, symbol: &Entry64) -> Result<&'a str, ElfError>
-    ensures { Answers (string_of file.now (entry_64_fields symbol.now).name) result }
-{
-    let strings = Entry64::string_table(file);
-    symbol.name_in(strings, file)
-}
-
-/// The same of any symbol: the text that it has, or an error where it has none.
-pub fn name_of_any<'a, E: Entry>(symbol: &E, file: &ElfFile<'a>) -> Result<&'a str, ElfError>
-    ensures { MatchResult result
-        (λ text. E.text_in symbol.now file.now ≡ Some text.now)
-        (λ _. E.text_in symbol.now file.now ≡ None) }
-{
-    let strings = E::string_table(file);
-    symbol.name_in(strings, file)
-}
-
 /// How many bytes the names of all symbols have together, or the greatest number if that is less.
 /// Rejected as the name of the first symbol that has none.
 pub fn name_bytes<E: Entry + Record>(
@@ -169,19 +121,4 @@ pub fn first_name<'a>(input: &'a [u8], symbols: &[u8], order: Order) -> Result<&
     let table = Table::<Entry64>::new(symbols, order)?;
     let symbol = table.get(0).ok_or(ElfError::SymbolIndex)?;
     symbol.get_name(&file)
-}
-
-/// A symbol of one's own, through the function for any.
-pub fn own_is_named(symbol: &Numbered, name: &str, file: &ElfFile<'_>) -> bool
-    ensures { IsTrue result ↔ (numbered_name symbol.now.number ≡ Some name.now) }
-{
-    is_named(symbol, name, file)
-}
-
-/// A symbol of one's own belongs to no section, by the body of the trait.
-#[tactic(auto, unfolding(xmas_elf::specs::SymbolSection::symbol_section_of))]
-pub fn own_section(symbol: &Numbered, file: &ElfFile<'_>, place: usize) -> Option<ElfError>
-    ensures { result ≡ Some ElfError.ReservedSymbolIndex }
-{
-    symbol.get_section_header(file, place).err()
 }

@@ -27,7 +27,7 @@ twice at make (Ok item) = refl
 twice at make (Err error) = refl
 
 -- a table whose check passed is one in which look-ups find what they must
-good_by : {E : Type 0} (table : AnyTable) (symbols : Symbols E) → IsCheckBy table symbols (Ok tt) → IsGoodBy table symbols
+pub good_by : {E : Type 0} (table : AnyTable) (symbols : Symbols E) → IsCheckBy table symbols (Ok tt) → IsGoodBy table symbols
 good_by (Sysv table) symbols (gabi.good is) = is
 good_by (Gnu table) symbols (gnu.good is) = is
 
@@ -53,14 +53,14 @@ module _ {E : Type 0} (file : DynamicSymbols E) (name : List ℕ) where
   shown_back but r (n, looks) = (n, looks_where_so (IsVisible file name but) (IsShown file name Newest Any but) (λ at is. (candidate at.1 is.0, (refl, is.1))) (λ at is. (named at.1 is.0, is.1.1)) file.table file.symbols.items name r n looks)
 
   pub found_newest : (r : Result (Option (ℕ × E)) LinkError) → IsFound file name Newest Any r → IsNewest file name r
-  found_newest _ (asked_first at answer seeks is) = unversioned at answer (asked_to (Ok (Some at)) seeks) (is ∙ twice at (is_below 2) (number_of file.versions at.0))
+  found_newest _ (asked_first at answer seeks is) = unversioned at answer (asked_to (Ok (Some at)) seeks) (is ∙ twice at (is_below 2) (number_of file.versions.numbers at.0))
   found_newest _ (find.faulty error seeks) = faulty error (asked_to (Err error) seeks)
   found_newest _ (otherwise _ seeks (none_shown none)) = none_visible (asked_to (Ok None) seeks) (shown_to None (Ok None) none)
   found_newest _ (otherwise _ seeks (one_shown at some none)) = one_visible at (asked_to (Ok None) seeks) (shown_to None (Ok (Some at)) some) (shown_to (Some at.0) (Ok None) none)
   found_newest _ (otherwise _ seeks (two_shown at other some more)) = two_visible at other (asked_to (Ok None) seeks) (shown_to None (Ok (Some at)) some) (shown_to (Some at.0) (Ok (Some other)) more)
 
   newest_found : (r : Result (Option (ℕ × E)) LinkError) → IsNewest file name r → IsFound file name Newest Any r
-  newest_found _ (unversioned at answer seeks is) = asked_first at answer (asked_back (Ok (Some at)) seeks) (is ∙ sym (twice at (is_below 2) (number_of file.versions at.0)))
+  newest_found _ (unversioned at answer seeks is) = asked_first at answer (asked_back (Ok (Some at)) seeks) (is ∙ sym (twice at (is_below 2) (number_of file.versions.numbers at.0)))
   newest_found _ (faulty error seeks) = find.faulty error (asked_back (Err error) seeks)
   newest_found _ (none_visible seeks none) = otherwise None (asked_back (Ok None) seeks) (none_shown (shown_back None (Ok None) none))
   newest_found _ (one_visible at seeks some none) = otherwise (Some at) (asked_back (Ok None) seeks) (one_shown at (shown_back None (Ok (Some at)) some) (shown_back (Some at.0) (Ok None) none))

@@ -4,9 +4,10 @@ use Rattle.std.proofs.Common.{◌≡◌, ℕ, List, Result, Ok, Err, MatchResult
 use Rattle.elf_base.proofs.lemmas.RecordLemmas.{length-records}
 use Rattle.elf_base.specs.FileHeader.{file_class}
 use Rattle.elf_base.specs.Table.{table_data, table_order}
-use Rattle.elf_linking.specs.DynamicObject.{AreDynamicSymbols, AreOfClass, IsObject, IsObjectRefused, object_dynamic_symbols, object_records, object_strings, object_table, object_versions, object_view, same_class, symbols_with}
+use Rattle.elf_linking.specs.DynamicObject.{AreDynamicSymbols, AreOfClass, AreVersionedSymbols, IsObject, IsObjectRefused, object_dynamic_symbols, object_records, object_strings, object_table, object_versions, object_view, same_class, symbols_with}
 use Rattle.elf_linking.specs.DynamicView.{AreSymbols, dynamic_entries_of, strings_by, dynamic_strings_of, strings_of_entries, view_entries}
-use Rattle.elf_linking.specs.VersionTables.{version_tables, version_tables_of}
+use Rattle.elf_linking.specs.VersionTables.{version_tables_of}
+use Rattle.elf_linking.specs.Versions.{version_tables}
 use Rattle.elf_linking.specs.declared.error.LinkError.{LinkError}
 use Rattle.elf_linking.specs.declared.object.DynamicObject.{DynamicObject}
 use Rattle.elf_records.specs.declared.dynamic.Dynamic.{Dynamic}
@@ -28,7 +29,17 @@ symbols_of_object {E} {r} object class fields file is = record {
   bytes_are = is.symbols_are;
   strings_are = strings_read file (view_entries (object_view object)) (object_strings object).now is.entries_are is.strings_are;
   symbols_are = ap (λ order. symbols_with r.SIZE (r.value order) fields (object_strings object).now (table_data (object_records object))) is.order_is;
-  versions_are = is.versions_are;
+  tables = version_tables (object_versions object);
+  tables_are = is.versions_are;
+  numbers_are = ap (λ list. list.numbers) (object_versions object).list.1;
+}
+
+-- and so are the versions
+pub versions_of_object : {E : Type 0} {r : _} (object : DynamicObject E r) (class : ℕ) (fields : E → SymbolFields) (file : ElfFile) → IsObject class r.SIZE file object → AreVersionedSymbols class r.SIZE r.value fields file (object_dynamic_symbols fields object)
+unfolding symbols_of_object
+versions_of_object object class fields file is = record {
+  symbols = symbols_of_object object class fields file is;
+  entries_are = ap (λ list. list.entries) (object_versions object).list.1;
 }
 
 -- the bytes of symbols of a class are those of the dynamic segment

@@ -1,10 +1,10 @@
 //! What a search for the symbol that a reference gets keeps of the symbols that it passes.
 
-ghost use Rattle.std.specs.Prelude.{◌≡◌, ◌↔◌, IsTrue, MatchResult, false, true};
+ghost use Rattle.std.specs.Prelude.{◌≡◌, ◌↔◌, IsTrue, false, true};
 ghost use Rattle.elf_linking.specs.Find.{IsCandidate, dynamic_symbols, is_by_version, is_default};
-ghost use Rattle.elf_linking.specs.Kept.{EndsAt, GoesOn, kept_alone, kept_with};
-ghost use Rattle.elf_linking.specs.VersionTables.{VersionTables, version_tables};
-ghost use Rattle.elf_linking.specs.Versions.{number_of};
+ghost use Rattle.elf_linking.specs.Kept.{IsStep, kept_alone, kept_with};
+ghost use Rattle.elf_linking.specs.VersionList.{VersionList};
+ghost use Rattle.elf_linking.specs.Versions.{number_of, version_list};
 ghost use Rattle.elf_linking.specs.declared.any_table.AnyTable.{AnyTable};
 ghost use Rattle.xmas_elf.specs.SymbolTable.{table_symbols};
 
@@ -22,8 +22,17 @@ pub(crate) enum Kept<E> {
     Several,
 }
 
+// What a search does after a symbol.
+#[derive(Clone, Copy)]
+pub(crate) enum Step<E> {
+    // It goes on, and keeps this.
+    On(Kept<E>),
+    // It ends with this result.
+    End(Result<Option<(u32, E)>, LinkError>),
+}
+
 impl<E: Entry + Record> Kept<E> {
-    // What is kept after the symbol at an index; `Err` with the result if the search ends there.
+    // The step after the symbol at an index.
     #[inline(always)]
     pub(crate) fn after(
         self,
@@ -33,28 +42,27 @@ impl<E: Entry + Record> Kept<E> {
         versions: &Versions<'_>,
         wanted: &Wanted<'_>,
         use_: Use,
-    ) -> Result<Kept<E>, Result<Option<(u32, E)>, LinkError>>
+    ) -> Step<E>
         ensures { (table : AnyTable) → let file = dynamic_symbols table (table_symbols symbols.now)
-            (version_tables versions.now) in MatchResult result
-            (GoesOn file name.now wanted.now use_ self index)
-            (EndsAt file name.now wanted.now use_ index) }
+            (version_list versions.now) in
+            IsStep file name.now wanted.now use_ self index result }
     {
         let Some(symbol) = symbols.get(index as usize) else {
-            return Ok(self);
+            return Step::On(self);
         };
         if !is_candidate(&symbol, name, symbols, use_) {
-            return Ok(self);
+            return Step::On(self);
         }
         match wanted.accepts(versions, index) {
-            Ok(true) => Err(Ok(Some((index, symbol)))),
+            Ok(true) => Step::End(Ok(Some((index, symbol)))),
             Ok(false) => {
                 if is_shown(versions, wanted, index) {
-                    Ok(self.with(index, symbol))
+                    Step::On(self.with(index, symbol))
                 } else {
-                    Ok(self)
+                    Step::On(self)
                 }
             }
-            Err(error) => Err(Err(error)),
+            Err(error) => Step::End(Err(error)),
         }
     }
 
@@ -91,7 +99,7 @@ fn is_candidate<E: Entry + Record>(
     symbols: &SymbolTable<'_, E>,
     use_: Use,
 ) -> bool
-    ensures { (table : AnyTable) (versions : VersionTables) → IsTrue result
+    ensures { (table : AnyTable) (versions : VersionList) → IsTrue result
         ↔ IsCandidate (dynamic_symbols table (table_symbols symbols.now) versions) name.now use_
         symbol.now }
 {
@@ -102,7 +110,7 @@ fn is_candidate<E: Entry + Record>(
 #[inline(always)]
 fn is_shown(versions: &Versions<'_>, wanted: &Wanted<'_>, index: u32) -> bool
     ensures { IsTrue result ↔ ((is_by_version wanted.now ≡ false)
-        × (is_default (number_of (version_tables versions.now) index) ≡ true)) }
+        × (is_default (number_of (version_list versions.now).numbers index) ≡ true)) }
 {
     !matches!(wanted, Wanted::Version { .. }) && is_default(versions, index)
 }

@@ -3,12 +3,12 @@
 ghost use Rattle.std.specs.Prelude.{◌≡◌, ◌+◌, ◌^◌, ◌<◌, MatchResult};
 ghost use Rattle.elf_linking.specs.Find.{IsFound, dynamic_symbols};
 ghost use Rattle.elf_linking.specs.Layouts.{gnu_hash_number};
-ghost use Rattle.elf_linking.specs.VersionTables.{version_tables};
+ghost use Rattle.elf_linking.specs.Versions.{version_list};
 ghost use Rattle.elf_linking.specs.declared.any_table.AnyTable.TheVariants.{Sysv};
 ghost use Rattle.xmas_elf.specs.HashTable.{Halts, StandsAt, chains_of};
 ghost use Rattle.xmas_elf.specs.SymbolTable.{table_symbols};
 
-use crate::find::kept::Kept;
+use crate::find::kept::{Kept, Step};
 use crate::find::{Use, Wanted};
 use crate::versions::Versions;
 use crate::{AnyTable, LinkError};
@@ -31,7 +31,7 @@ impl<'a> AnyTable<'a> {
     ) -> Result<Option<(u32, E)>, LinkError>
         requires { hash ≡ gnu_hash_number name.now }
         ensures { IsFound (dynamic_symbols self.now (table_symbols symbols.now)
-            (version_tables versions.now)) name.now wanted.now use_ result }
+            (version_list versions.now)) name.now wanted.now use_ result }
     {
         match self {
             AnyTable::Gnu(table) => table.find_in(name, hash, symbols, versions, wanted, use_),
@@ -50,7 +50,7 @@ fn find_in_chain<E: Entry + Record>(
     use_: Use,
 ) -> Result<Option<(u32, E)>, LinkError>
     ensures { IsFound (dynamic_symbols (Sysv table.now) (table_symbols symbols.now)
-        (version_tables versions.now)) name.now wanted.now use_ result }
+        (version_list versions.now)) name.now wanted.now use_ result }
 {
     let bucket_count = table.bucket_count();
     if bucket_count == 0 {
@@ -69,8 +69,8 @@ fn find_in_chain<E: Entry + Record>(
             Err(halt) => return Err(LinkError::Elf(halt)),
         }
         kept = match kept.after(index, name, symbols, versions, wanted, use_) {
-            Ok(kept) => kept,
-            Err(answer) => return answer,
+            Step::On(kept) => kept,
+            Step::End(answer) => return answer,
         };
         index = match table.get_chain(index) {
             Ok(next) => next,

@@ -4,12 +4,12 @@
 ghost use Rattle.std.specs.Prelude.{◌≡◌};
 ghost use Rattle.elf_linking.specs.Find.{IsFound, dynamic_symbols};
 ghost use Rattle.elf_linking.specs.Layouts.{gnu_hash_number};
-ghost use Rattle.elf_linking.specs.VersionTables.{version_tables};
+ghost use Rattle.elf_linking.specs.Versions.{version_list};
 ghost use Rattle.elf_linking.specs.declared.any_table.AnyTable.TheVariants.{Gnu};
 ghost use Rattle.xmas_elf.specs.SymbolTable.{table_symbols};
 
 use crate::LinkError;
-use crate::find::kept::Kept;
+use crate::find::kept::{Kept, Step};
 use crate::find::{Use, Wanted};
 use crate::gnu_hash::GnuHashTable;
 use crate::gnu_hash::lookup::symbol_end;
@@ -30,7 +30,7 @@ impl<'a> GnuHashTable<'a> {
     ) -> Result<Option<(u32, E)>, LinkError>
         requires { hash ≡ gnu_hash_number name.now }
         ensures { IsFound (dynamic_symbols (Gnu self.now) (table_symbols symbols.now)
-            (version_tables versions.now)) name.now wanted.now use_ result }
+            (version_list versions.now)) name.now wanted.now use_ result }
     {
         let Some(from) = self.start(hash) else {
             return Ok(None);
@@ -46,8 +46,8 @@ impl<'a> GnuHashTable<'a> {
             };
             if word / 2 == hash / 2 {
                 kept = match kept.after(index as u32, name, symbols, versions, wanted, use_) {
-                    Ok(kept) => kept,
-                    Err(answer) => return answer,
+                    Step::On(kept) => kept,
+                    Step::End(answer) => return answer,
                 };
             }
             if word % 2 == 1 {

@@ -98,27 +98,6 @@ impl<'a> GnuHashTable<'a> {
         self.lookup_in(name, &SymbolTable::new(*symbols, file), f)
     }
 
-    /// The result of `lookup`, and the number of chain words it read,
-    /// which is at most the number of symbols.
-    pub fn lookup_counted<E: Entry + Record, F: Fn(&E) -> bool>(
-        &self,
-        name: &str,
-        symbols: &Table<'_, E>,
-        file: &ElfFile<'_>,
-        f: F,
-    ) -> (Result<Option<(u32, E)>, LinkError>, u32)
-        requires callable { (e : Bor E) → Contains (table_items symbols.now) e.now → F.pre f e }
-        ensures in_symbols { result.1 ≤ length (table_items symbols.now) }
-        ensures answer { let all = symbols_of E.fields E.text_in symbols.now file.now in
-            Decides all F.Fn f
-            → Looks (IsMatch all F.Fn f name.now) self.now all.items name.now result.0 result.1 }
-        ensures good { let all = symbols_of E.fields E.text_in symbols.now file.now in
-            Decides all F.Fn f → IsGood self.now all
-            → FindsAll self.now all name.now (IsMatch all F.Fn f name.now) result.0 }
-    {
-        self.lookup_counted_in(name, &SymbolTable::new(*symbols, file), f)
-    }
-
     /// The result of `lookup` for a symbol table that carries its names. For many look-ups make the
     /// `SymbolTable` once, since it searches the section headers for the string table.
     ///
@@ -140,7 +119,8 @@ impl<'a> GnuHashTable<'a> {
         self.lookup_counted_in(name, symbols, f).0
     }
 
-    /// The result of `lookup_in`, and the number of `lookup_counted`.
+    /// The result of `lookup_in`, and the number of chain words it read, which is at most the number
+    /// of symbols.
     pub fn lookup_counted_in<E: Entry + Record, F: Fn(&E) -> bool>(
         &self,
         name: &str,

@@ -1,17 +1,20 @@
 //! The relocations of one table, of either class, with or without addends.
 
-ghost use Rattle.std.specs.Prelude.{◌≡◌, ◌≤◌, ◌<◌, ◌*◌, ◌^◌, Err, IfOk, MatchResult, Ok, length, map};
+ghost use Rattle.std.specs.Prelude.{◌≡◌, ◌<◌, ◌%◌, ◌^◌, ◌==◌, ◌∷◌, [], not, Err, IfOk, MatchResult, Ok, length};
 ghost use Rattle.std.specs.Iterator.{YieldsFirst};
 ghost use Rattle.elf_base.specs.FileHeader.{file_class, file_order};
-ghost use Rattle.elf_base.specs.Table.{table_items, table_rest};
-ghost use Rattle.elf_linking.specs.References.{rel_reference, rela_reference, relocations_by};
+ghost use Rattle.elf_base.specs.Refusal.{unless};
+ghost use Rattle.elf_base.specs.Table.{table_data, table_order, table_rest};
+ghost use Rattle.elf_base.specs.declared.error.ElfError.TheVariants.{NotMultiple};
 ghost use Rattle.elf_linking.specs.References.{relocations_in, relocations_left};
-ghost use Rattle.elf_linking.specs.References.{whole_relocations};
+ghost use Rattle.elf_linking.specs.References.{table_relocations};
+ghost use Rattle.elf_linking.specs.RelocationRecords.{references_by, rel_reference, rela_reference};
+ghost use Rattle.elf_linking.specs.declared.error.LinkError.TheVariants.{Elf};
 ghost use Rattle.elf_records.specs.Relocations.{symbol_in_32, symbol_in_64, type_in_32, type_in_64};
 
 use crate::LinkError;
 use crate::references::Reference;
-use crate::view::{DT_REL, DT_RELA, bytes_at};
+use crate::view::{DT_REL, DT_RELA, TableLocation, bytes_at};
 use elf_base::bytes::{Order, Record, Table, TableIter};
 use elf_base::header::Class;
 use elf_base::{P32, P64};
@@ -91,12 +94,12 @@ fn records_in<'a, T: Relocates>(
     bytes: &'a [u8],
     order: Order,
 ) -> Result<TableIter<'a, T>, LinkError>
-    ensures exact { let answer = whole_relocations T.SIZE (T.value order) T.reference_of bytes.now in
-        MatchResult result
-        (λ rest. answer ≡ Ok (map T.reference_of (table_items (table_rest rest))))
+    ensures exact { let answer = unless ((not (length bytes.now % T.SIZE == 0), Elf NotMultiple) ∷ [])
+        (references_by T.SIZE T.value T.reference_of order bytes.now) in MatchResult result
+        (λ rest. answer ≡ Ok (references_by T.SIZE T.value T.reference_of
+        (table_order (table_rest rest)) (table_data (table_rest rest))))
         (λ error. answer ≡ Err error) }
-    ensures room { IfOk result (λ rest.
-        length (table_items (table_rest rest)) * T.SIZE ≡ length bytes.now) }
+    ensures room { IfOk result (λ rest. length (table_data (table_rest rest)) ≡ length bytes.now) }
 {
     match Table::new(bytes, order) {
         Ok(table) => Ok(table.iter()),
@@ -105,10 +108,11 @@ fn records_in<'a, T: Relocates>(
 }
 
 // The first of the remaining records.
+#[tactic(auto, using(crate::proofs::ReferenceItems::none_decoded))]
 #[inline(always)]
 fn first_of<T: Relocates>(rest: &mut TableIter<'_, T>) -> Option<Reference>
-    ensures { YieldsFirst (λ iter. map T.reference_of (table_items (table_rest iter)))
-        rest.old result rest.new }
+    ensures { YieldsFirst (λ iter. references_by T.SIZE T.value T.reference_of
+        (table_order (table_rest iter)) (table_data (table_rest iter))) rest.old result rest.new }
 {
     match rest.next() {
         Some(record) => Some(record.reference()),
@@ -127,24 +131,23 @@ pub(crate) enum Relocations<'a> {
 }
 
 impl<'a> Relocations<'a> {
-    // The relocations of a table by the numbers in its entries: its address, its size in bytes, and
-    // its kind, `DT_RELA` or `DT_REL`. The errors are those of `DynamicView::references`.
+    // The relocations of a table, whose kind is `DT_RELA` or `DT_REL`. The errors are those of
+    // `DynamicView::references`.
     pub(crate) fn read(
         file: &ElfFile<'a>,
-        address: Option<u64>,
-        size: Option<u64>,
+        table: &TableLocation,
         kind: Option<u64>,
     ) -> Result<Relocations<'a>, LinkError>
-        ensures exact { let answer = relocations_by file.now address size kind in MatchResult result
+        ensures exact { let answer = table_relocations file.now table.now kind in MatchResult result
             (λ relocations. answer ≡ Ok (relocations_left relocations))
             (λ error. answer ≡ Err error) }
         ensures few { IfOk result (λ relocations.
             length (relocations_left relocations) < 2 ^ 61) }
     {
-        let Some(address) = address else {
+        let Some(address) = table.start else {
             return Ok(Relocations::Absent);
         };
-        let (Some(size), Some(kind)) = (size, kind) else {
+        let (Some(size), Some(kind)) = (table.size, kind) else {
             return Err(LinkError::NoEntry);
         };
         if kind != DT_RELA && kind != DT_REL {
@@ -157,7 +160,7 @@ impl<'a> Relocations<'a> {
     }
 
     // The relocations in these bytes of a file.
-    #[tactic(auto, using(crate::proofs::ReferenceItems::records_few))]
+    #[tactic(auto, using(crate::proofs::ReferenceItems::records_few), unfolding(crate::specs::RelocationRecords::references_by))]
     fn new(bytes: &'a [u8], file: &ElfFile<'_>, addends: bool) -> Result<Relocations<'a>, LinkError>
         ensures exact { let answer = relocations_in
             (file_class file.now.header) (file_order file.now.header) addends bytes.now in
@@ -180,6 +183,7 @@ impl<'a> Relocations<'a> {
     }
 
     // The first of the remaining relocations.
+    #[tactic(auto, unfolding(crate::specs::RelocationRecords::references_by))]
     #[inline(always)]
     pub(crate) fn next(&mut self) -> Option<Reference>
         ensures { YieldsFirst relocations_left self.old result self.new }

@@ -5,7 +5,7 @@ ghost use Rattle.std.specs.Prelude.{◌≡◌, option_map};
 ghost use Rattle.elf_linking.specs.Scope.{asked_of, asked_parts, binds_to_itself, if_protected};
 ghost use Rattle.elf_linking.specs.Scope.{wanted_by, wanted_of, wanted_parts};
 ghost use Rattle.elf_linking.specs.VersionTables.{result_map};
-ghost use Rattle.elf_linking.specs.Versions.{named_parts, version_parts};
+ghost use Rattle.elf_linking.specs.Versions.{named_entry, version_entry};
 
 use crate::find::{Use, Wanted};
 use crate::references::{Reference, use_of};
@@ -83,7 +83,7 @@ fn if_protected<E: LinkedSymbol>(symbol: E) -> Option<E>
 
 // The version that a reference wants, by the version of its symbol.
 fn wanted_of<'a>(version: Option<SymbolVersion<'a>>) -> Result<Wanted<'a>, LinkError>
-    ensures { result_map wanted_parts result ≡ wanted_of (option_map version_parts version.entry) }
+    ensures { result_map wanted_parts result ≡ wanted_of (option_map version_entry version.entry) }
 {
     match version {
         Some(version) => wanted_by(version.named),
@@ -93,7 +93,7 @@ fn wanted_of<'a>(version: Option<SymbolVersion<'a>>) -> Result<Wanted<'a>, LinkE
 
 // The version that a reference wants, by the definition or need of its symbol's version.
 fn wanted_by<'a>(named: Option<NamedVersion<'a>>) -> Result<Wanted<'a>, LinkError>
-    ensures { result_map wanted_parts result ≡ wanted_by (option_map named_parts named.entry) }
+    ensures { result_map wanted_parts result ≡ wanted_by (option_map named_entry named.entry) }
 {
     let Some(named) = named else {
         return Ok(Wanted::Unversioned);
@@ -102,10 +102,7 @@ fn wanted_by<'a>(named: Option<NamedVersion<'a>>) -> Result<Wanted<'a>, LinkErro
     if hash == 0 {
         return Ok(Wanted::Unversioned);
     }
-    let hidden = match named {
-        NamedVersion::Defined(_) => false,
-        NamedVersion::Needed(need) => need.hidden,
-    };
+    let hidden = named.hidden();
     let name = named.name()?;
     Ok(Wanted::Version { name, hash, hidden })
 }

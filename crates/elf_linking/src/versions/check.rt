@@ -1,8 +1,9 @@
 //! Whether the versions of a file can be read (LSB, "Symbol Versioning").
 
 ghost use Rattle.std.specs.Prelude.{◌≡◌, ◌↔◌, IsOk};
-ghost use Rattle.elf_linking.specs.VersionTables.{definitions_in, needs_in, version_tables};
-ghost use Rattle.elf_linking.specs.Versions.{CanBeRead, lacks_numbers, name_error, versions_error};
+ghost use Rattle.elf_linking.specs.VersionTables.{definitions_in, needs_in};
+ghost use Rattle.elf_linking.specs.Versions.{CanBeRead, lacks_numbers, name_error, version_list};
+ghost use Rattle.elf_linking.specs.Versions.{version_tables, versions_error};
 
 use crate::LinkError;
 use crate::versions::Versions;
@@ -16,8 +17,8 @@ impl Versions<'_> {
     /// `needs`, or of its name. A call goes through each list once.
     #[tactic(auto, using(crate::proofs::VersionChecks::error_read))]
     pub fn check(&self, symbol_count: usize) -> Result<(), LinkError>
-        ensures accepts { IsOk result ↔ CanBeRead (version_tables self.now) symbol_count }
-        ensures exact { result ≡ versions_error (version_tables self.now) symbol_count }
+        ensures accepts { IsOk result ↔ CanBeRead (version_list self.now) symbol_count }
+        ensures exact { result ≡ versions_error (version_list self.now) symbol_count }
     {
         if self.lacks_numbers(symbol_count) {
             return Err(LinkError::SymbolIndex);
@@ -30,7 +31,7 @@ impl Versions<'_> {
 
     // Whether the file has numbers of symbols, but fewer than symbols.
     fn lacks_numbers(&self, symbol_count: usize) -> bool
-        ensures { result ≡ lacks_numbers (version_tables self.now).numbers symbol_count }
+        ensures { result ≡ lacks_numbers (version_list self.now).numbers symbol_count }
     {
         match self.numbers {
             Some(numbers) => numbers.len() / 2 < symbol_count,

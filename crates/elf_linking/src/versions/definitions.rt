@@ -3,11 +3,12 @@
 ghost use Rattle.std.specs.Prelude.{◌≡◌, ◌+◌, ◌<◌, ◌≤◌, ◌^◌, length};
 ghost use Rattle.std.specs.Str.{bytes_eq};
 ghost use Rattle.elf_linking.specs.Loaded.{lent};
+ghost use Rattle.elf_linking.specs.VersionList.{is_base};
 ghost use Rattle.elf_linking.specs.VersionTables.{AreDefinitions, definition_at, definition_item};
 ghost use Rattle.elf_linking.specs.VersionTables.{definition_parts, definitions_in};
 ghost use Rattle.elf_linking.specs.VersionTables.{definitions_left, result_map, name_offset};
 ghost use Rattle.elf_linking.specs.VersionTables.{records_data};
-ghost use Rattle.elf_linking.specs.Versions.{bears_defined, is_base};
+ghost use Rattle.elf_linking.specs.Versions.{bears_defined};
 
 use crate::LinkError;
 use crate::versions::records::{Chain, Records};

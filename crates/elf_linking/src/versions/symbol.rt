@@ -3,11 +3,14 @@
 ghost use Rattle.std.specs.Prelude.{◌≡◌, Err, Ok, Option, option_map};
 ghost use Rattle.std.specs.Str.{bytes_eq};
 ghost use Rattle.elf_linking.specs.Loaded.{lent};
+ghost use Rattle.elf_linking.specs.VersionList.{entry_of, named_in, numbers_in};
+ghost use Rattle.elf_linking.specs.VersionList.{versions_in};
 ghost use Rattle.elf_linking.specs.VersionTables.{definition_parts, definitions_in};
-ghost use Rattle.elf_linking.specs.VersionTables.{result_map, need_parts, needs_in, version_tables};
-ghost use Rattle.elf_linking.specs.Versions.{IsVersion, bears_defined, bears_needed};
-ghost use Rattle.elf_linking.specs.Versions.{first_item, named_hash, named_name, named_of};
+ghost use Rattle.elf_linking.specs.VersionTables.{result_map, need_parts, needs_in};
+ghost use Rattle.elf_linking.specs.Versions.{IsVersion, bears_defined, bears_needed, entry_item};
+ghost use Rattle.elf_linking.specs.Versions.{first_item, item_with, named_at, named_entry};
 ghost use Rattle.elf_linking.specs.Versions.{named_parts, number_of, version_at, version_item};
+ghost use Rattle.elf_linking.specs.Versions.{version_list, version_tables};
 
 use crate::LinkError;
 use crate::versions::definitions::definition_at;
@@ -27,7 +30,7 @@ impl<'a> NamedVersion<'a> {
     /// The hash number of the name, that of the ELF standard's hash tables.
     #[inline(always)]
     pub fn hash(&self) -> u32
-        ensures { result ≡ named_hash (named_parts self.now) }
+        ensures { result ≡ (named_entry self.now).hash }
     {
         match self {
             NamedVersion::Defined(definition) => definition.hash,
@@ -35,11 +38,22 @@ impl<'a> NamedVersion<'a> {
         }
     }
 
+    /// Whether it is hidden: a need with bit 15 of its number set. A definition is not.
+    #[inline(always)]
+    pub fn hidden(&self) -> bool
+        ensures { result ≡ (named_entry self.now).hidden }
+    {
+        match self {
+            NamedVersion::Defined(_) => false,
+            NamedVersion::Needed(need) => need.hidden,
+        }
+    }
+
     /// The name; the errors are those of `Definition::name` and `Need::name`. There is none for what
     /// `Versions::version_of` returns, if `Versions::check` is Ok.
     #[inline(always)]
     pub fn name(&self) -> Result<&'a str, LinkError>
-        ensures { lent result ≡ named_name (named_parts self.now) }
+        ensures { lent result ≡ (named_entry self.now).name }
     {
         match self {
             NamedVersion::Defined(definition) => definition.name(),
@@ -51,7 +65,7 @@ impl<'a> NamedVersion<'a> {
     #[inline(always)]
     pub(crate) fn has_name(&self, name: &str) -> Result<bool, LinkError>
         ensures { result
-            ≡ result_map (λ other. bytes_eq other name.now) (named_name (named_parts self.now)) }
+            ≡ result_map (λ other. bytes_eq other name.now) (named_entry self.now).name }
     {
         match self {
             NamedVersion::Defined(definition) => definition.has_name(name),
@@ -78,7 +92,8 @@ impl<'a> Versions<'a> {
     /// The error is `SymbolIndex` if there is no number at this index.
     #[inline(always)]
     pub fn number(&self, index: u32) -> Result<Option<u16>, LinkError>
-        ensures { result ≡ number_of (version_tables self.now) index }
+        ensures tables { result ≡ number_of (numbers_in (version_tables self.now)) index }
+        ensures list { result ≡ number_of (version_list self.now).numbers index }
     {
         let Some(numbers) = self.numbers else {
             return Ok(None);
@@ -99,10 +114,19 @@ impl<'a> Versions<'a> {
     /// the version can be read. A call goes through both lists once at most, and reads no name. A
     /// definition with a number below 64 is found at once, if it is one of the first 64 and lies in
     /// the first 64 KiB of the table.
-    #[tactic(auto, using(crate::proofs::VersionSearch::version_means))]
     pub fn version_of(&self, index: u32) -> Result<Option<SymbolVersion<'a>>, LinkError>
-        ensures answer { IsVersion (version_tables self.now) index (version_item result) }
-        ensures exact { version_item result ≡ version_at (version_tables self.now) index }
+        ensures answer { IsVersion (version_list self.now) index (entry_item result) }
+        ensures exact { entry_item result ≡ version_at (version_list self.now) index }
+        ensures named { version_item result ≡ named_at (version_tables self.now) index }
+        ensures listed { version_list self.now ≡ versions_in (version_tables self.now) }
+    {
+        self.version_by_tables(index)
+    }
+
+    // The same by the tables.
+    #[inline(always)]
+    fn version_by_tables(&self, index: u32) -> Result<Option<SymbolVersion<'a>>, LinkError>
+        ensures { version_item result ≡ named_at (version_tables self.now) index }
     {
         let Some(raw) = self.number(index)? else {
             return Ok(None);
@@ -117,8 +141,8 @@ impl<'a> Versions<'a> {
 
     // The definition or need with a number.
     fn named(&self, number: u16) -> Result<Option<NamedVersion<'a>>, LinkError>
-        ensures { result_map (option_map named_parts) result
-            ≡ named_of (version_tables self.now) number }
+        ensures { result_map (option_map named_parts) result ≡ item_with
+            (λ named. (entry_of named).number) (named_in (version_tables self.now)) number }
     {
         if number < 2 {
             return Ok(None);

@@ -12,6 +12,7 @@ ghost use Rattle.elf_linking.specs.declared.view.tags.TheConstants.{DT_RPATH};
 ghost use Rattle.elf_linking.specs.declared.view.tags.TheConstants.{DT_RUNPATH, DT_SONAME};
 
 use crate::LinkError;
+use crate::segments::{Segment, Segments};
 use crate::view::entries::{DynamicEntries, Pairs};
 use crate::view::first_numbers::Entries;
 use crate::view::loaded::bytes_at;
@@ -21,7 +22,6 @@ use crate::view::tags::{
     DT_FLAGS, DT_RPATH, DT_RUNPATH, DT_SONAME, DT_STRSZ, DT_STRTAB, DT_SYMBOLIC,
 };
 use xmas_elf::ElfFile;
-use xmas_elf::program::{ProgramHeader, Type};
 
 /// The dynamic segment of a file, read without section headers.
 #[derive(Clone, Copy, Debug)]
@@ -30,21 +30,23 @@ pub struct DynamicView<'a> {
     strings: Result<&'a [u8], LinkError>,
 }
 
+const PT_DYNAMIC: u32 = 2;
+
 // Whether a segment has type Dynamic.
-fn is_dynamic(program: &ProgramHeader) -> bool
-    ensures { result ≡ is_dynamic program.now }
+fn is_dynamic(segment: &Segment) -> bool
+    ensures { result ≡ is_dynamic segment.now }
 {
-    program.get_type() == Ok(Type::Dynamic)
+    segment.kind == PT_DYNAMIC
 }
 
-/// The program header of the dynamic segment: the first of type Dynamic.
+/// The dynamic segment: the first of type Dynamic.
 #[tactic(auto, unfolding(crate::specs::DynamicView::dynamic_segment_of), using(crate::proofs::Firsts::find_none, crate::proofs::Firsts::find_hit, crate::proofs::Firsts::find_other))]
-pub fn dynamic_segment(file: &ElfFile<'_>) -> Option<ProgramHeader>
+pub fn dynamic_segment(file: &ElfFile<'_>) -> Option<Segment>
     ensures { result ≡ dynamic_segment_of file.now }
 {
-    for program in file.program_iter() {
-        if is_dynamic(&program) {
-            return Some(program);
+    for segment in Segments::of(file) {
+        if is_dynamic(&segment) {
+            return Some(segment);
         }
     }
     None
@@ -60,8 +62,9 @@ impl<'a> DynamicView<'a> {
     /// Reads the first segment of type Dynamic. Its entries end before the first with tag Null, or
     /// at the end of the segment.
     ///
-    /// Errors: `NoDynamic` if there is no such segment; `Elf` with `DataRange`, `UnknownClass` or
-    /// `NotMultiple`, as in `ProgramHeader::get_data`.
+    /// Errors: `NoDynamic` if there is no such segment; `Elf` with those of `Segment::bytes`,
+    /// `UnknownClass` if the class is neither 1 nor 2, and `NotMultiple` if the segment is no whole
+    /// number of entries.
     #[tactic(auto, unfolding(crate::specs::DynamicView::dynamic_entries_of))]
     pub fn read(file: &ElfFile<'a>) -> Result<DynamicView<'a>, LinkError>
         ensures exact { MatchResult result
@@ -71,10 +74,10 @@ impl<'a> DynamicView<'a> {
         ensures place { IfOk result (λ view.
             IfOk (view_table view) (LiesAsStrings file.now (view_entries view))) }
     {
-        let Some(program) = dynamic_segment(file) else {
+        let Some(segment) = dynamic_segment(file) else {
             return Err(LinkError::NoDynamic);
         };
-        let entries = Entries::new(Pairs::new(program.raw_data(file)?, file)?);
+        let entries = Entries::new(Pairs::new(segment.bytes(file)?, file)?);
         let strings = strings_by(file, entries.number(DT_STRTAB), entries.number(DT_STRSZ));
         Ok(DynamicView { entries, strings })
     }

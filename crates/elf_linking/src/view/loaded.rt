@@ -5,38 +5,38 @@ ghost use Rattle.elf_linking.specs.Loaded.{IsAt, IsFirstWithBytes, LiesAsLoaded,
 ghost use Rattle.elf_linking.specs.Loaded.{bytes_at_of, bytes_from_of, has_file_bytes, lent};
 ghost use Rattle.elf_linking.specs.Loaded.{segment_at_of, word_at_of};
 ghost use Rattle.elf_linking.specs.declared.error.LinkError.TheVariants.{Address};
-ghost use Rattle.xmas_elf.specs.ProgramHeader.{program_list};
+ghost use Rattle.elf_linking.specs.Segments.{segments_of};
 
 use crate::LinkError;
+use crate::segments::{Segment, Segments};
 use elf_base::bytes::Record;
 use elf_base::header::Class;
 use xmas_elf::ElfFile;
-use xmas_elf::program::{ProgramHeader, Type};
+
+const PT_LOAD: u32 = 1;
 
 // Whether a segment is loaded and the file contains its bytes at `address .. address + count`.
-fn has_file_bytes(program: &ProgramHeader, address: u64, count: u64) -> bool
-    ensures { result ≡ has_file_bytes address count program.now }
+fn has_file_bytes(segment: &Segment, address: u64, count: u64) -> bool
+    ensures { result ≡ has_file_bytes address count segment.now }
 {
-    let start = program.virtual_addr();
-    let size = program.file_size();
-    if program.get_type() != Ok(Type::Load) || address < start {
+    if segment.kind != PT_LOAD || address < segment.address {
         return false;
     }
-    let skipped = address - start;
-    skipped <= size && count <= size - skipped
+    let skipped = address - segment.address;
+    skipped <= segment.file_size && count <= segment.file_size - skipped
 }
 
 /// The first loaded segment for which the file contains the bytes at `address .. address + count`.
 #[tactic(auto, unfolding(crate::specs::Loaded::segment_at_of), using(crate::proofs::Firsts::find_none, crate::proofs::Firsts::find_hit, crate::proofs::Firsts::find_other))]
-pub fn segment_at(file: &ElfFile<'_>, address: u64, count: u64) -> Option<ProgramHeader>
+pub fn segment_at(file: &ElfFile<'_>, address: u64, count: u64) -> Option<Segment>
     ensures found { IfSome result (IsFirstWithBytes file.now address count) }
     ensures missing { IfNone result
-        (NoneHasFileBytes file.now address count (length (program_list file.now))) }
+        (NoneHasFileBytes file.now address count (length (segments_of file.now))) }
     ensures exact { result ≡ segment_at_of file.now address count }
 {
-    for program in file.program_iter() {
-        if has_file_bytes(&program, address, count) {
-            return Some(program);
+    for segment in Segments::of(file) {
+        if has_file_bytes(&segment, address, count) {
+            return Some(segment);
         }
     }
     None
@@ -46,23 +46,23 @@ pub fn segment_at(file: &ElfFile<'_>, address: u64, count: u64) -> Option<Progra
 /// They live as long as the input.
 ///
 /// Errors: `Address` if no loaded segment has all of them in the file; those of
-/// `ProgramHeader::raw_data` if that segment extends past the end of the input.
+/// `Segment::bytes` if that segment extends past the end of the input.
 #[tactic(auto, unfolding(crate::specs::Loaded::bytes_at_of))]
 pub fn bytes_at<'a>(file: &ElfFile<'a>, address: u64, count: u64) -> Result<&'a [u8], LinkError>
     ensures found { IfOk result (λ part. IsAt file.now address count part.now) }
     ensures place { IfOk result (LiesAsLoaded file.now address count) }
     ensures missing { IsErrOf result Address
-        ↔ NoneHasFileBytes file.now address count (length (program_list file.now)) }
+        ↔ NoneHasFileBytes file.now address count (length (segments_of file.now)) }
     ensures exact { lent result ≡ bytes_at_of file.now address count }
 {
-    let Some(program) = segment_at(file, address, count) else {
+    let Some(segment) = segment_at(file, address, count) else {
         return Err(LinkError::Address);
     };
-    let data = match program.raw_data(file) {
+    let data = match segment.bytes(file) {
         Ok(data) => data,
         Err(error) => return Err(LinkError::Elf(error)),
     };
-    let start = (address - program.virtual_addr()) as usize;
+    let start = (address - segment.address) as usize;
     Ok(&data[start..start + count as usize])
 }
 
@@ -75,14 +75,14 @@ pub fn bytes_from<'a>(file: &ElfFile<'a>, address: u64) -> Result<&'a [u8], Link
     ensures place { IfOk result (LiesAsLoaded file.now address 1) }
     ensures exact { lent result ≡ bytes_from_of file.now address }
 {
-    let Some(program) = segment_at(file, address, 1) else {
+    let Some(segment) = segment_at(file, address, 1) else {
         return Err(LinkError::Address);
     };
-    let data = match program.raw_data(file) {
+    let data = match segment.bytes(file) {
         Ok(data) => data,
         Err(error) => return Err(LinkError::Elf(error)),
     };
-    Ok(&data[(address - program.virtual_addr()) as usize..])
+    Ok(&data[(address - segment.address) as usize..])
 }
 
 /// The number in the word at an address, in the byte order of the file. A word is as wide as the

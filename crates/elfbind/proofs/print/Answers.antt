@@ -1,7 +1,7 @@
 use Rattle.std.proofs.Common.{sym, subst}
 use Rattle.elfbind.specs.Answers.{by_answer, by_input}
-use Rattle.elfbind.specs.Files.{AreObjectsOf}
-use Rattle.elfbind.proofs.Stops.{if_err_so}
+use Rattle.linking_programs.specs.Files.{AreObjectsOf}
+use Rattle.linking_programs.proofs.Objects.{if_err_so}
 use Rattle.elfbind.proofs.print.Goals as goal
 use Rattle.program_ends.proofs.Ends.{stop_so}
 

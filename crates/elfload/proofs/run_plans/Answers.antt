@@ -1,6 +1,6 @@
 use Rattle.std.proofs.Common.{◌≡◌, ◌<◌, length, arith}
 use Rattle.elfload.specs.Files.{AreBytesLoaded}
-use Rattle.elfload.specs.declared.files.Input.{Input}
+use Rattle.linking_programs.specs.declared.Input.{Input}
 use Rattle.elfload.proofs.Objects.{all_below, one_more_if}
 use Rattle.elfload.proofs.run_plans.Goals as goal
 

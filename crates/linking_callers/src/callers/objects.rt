@@ -3,17 +3,15 @@
 
 ghost use Rattle.std.specs.Prelude.{◌≡◌, ℕ, Err, MatchOption, MatchResult};
 ghost use Rattle.elf_linking.specs.AnyTable.{IsCheckBy, IsDefined, NoneDefined};
-ghost use Rattle.elf_linking.specs.DynamicObject.{IsObjectRefused, object_name, object_symbols};
-ghost use Rattle.elf_linking.specs.DynamicObject.{object_table, object_versions};
-ghost use Rattle.elf_linking.specs.VersionTables.{version_tables};
+ghost use Rattle.elf_linking.specs.DynamicObject.{object_symbols};
+ghost use Rattle.elf_linking.specs.DynamicObject.{object_table};
 ghost use Rattle.elf_linking.specs.declared.error.LinkError.{LinkError};
-ghost use Rattle.linking_callers.specs.LinkedName.{IsLinkedName, named_version, with_version};
+ghost use Rattle.linking_callers.specs.LinkedName.{IsLinkedName};
 
-use elf_linking::versions::SymbolVersion;
 use elf_linking::view::LinkedSymbol;
 use elf_linking::{DynamicObject, LinkError};
 use xmas_elf::ElfFile;
-use xmas_elf::symbol_table::{DynEntry32, DynEntry64};
+use xmas_elf::symbol_table::DynEntry64;
 
 /// The value of the symbol that is defined and has this name; `None` if each symbol with the name
 /// that look-ups must find is undefined. Returns an error as the check of the hash table does.
@@ -33,20 +31,6 @@ pub fn defined_value<E: LinkedSymbol>(
     }
 }
 
-/// The name of the symbol at an index, with its version. Returns an error as `name` does, and then
-/// as `version` does.
-pub fn name_and_version<'a, E: LinkedSymbol>(
-    object: &DynamicObject<'a, E>,
-    index: u32,
-) -> Result<(&'a str, Option<SymbolVersion<'a>>), LinkError>
-    ensures { named_version result ≡ with_version (object_name E.fields object.now index)
-        (version_tables (object_versions object.now)) index }
-{
-    let name = object.name(index)?;
-    let version = object.version(index)?;
-    Ok((name, version))
-}
-
 /// The name of the symbol at an index in a file of class 64. Returns an error as
 /// `DynamicObject::read` does, and then as `name` does.
 pub fn symbol_name<'a>(file: &ElfFile<'a>, index: u32) -> Result<&'a str, LinkError>
@@ -55,18 +39,5 @@ pub fn symbol_name<'a>(file: &ElfFile<'a>, index: u32) -> Result<&'a str, LinkEr
     match DynamicObject::<DynEntry64>::read(file) {
         Ok(object) => object.name(index),
         Err(error) => Err(error),
-    }
-}
-
-/// Why the dynamic symbols of a file can't be read as those of class 32; `None` if nothing is
-/// rejected.
-pub fn narrow_refusal(file: &ElfFile<'_>) -> Option<LinkError>
-    ensures { MatchOption result
-        ((error : LinkError) → IsObjectRefused 1 16 file.now error → ⊥)
-        (IsObjectRefused 1 16 file.now) }
-{
-    match DynamicObject::<DynEntry32>::read(file) {
-        Ok(_object) => None,
-        Err(error) => Some(error),
     }
 }

@@ -1,15 +1,14 @@
 //! Callers that read the versions of a file and of its symbols.
 
-ghost use Rattle.std.specs.Prelude.{◌≡◌, Option, length, option_map};
+ghost use Rattle.std.specs.Prelude.{◌≡◌, Option, option_map};
 ghost use Rattle.elf_linking.specs.Loaded.{lent};
 ghost use Rattle.elf_linking.specs.VersionTables.{definition_parts, definitions_in, result_map};
-ghost use Rattle.elf_linking.specs.VersionTables.{need_parts, needs_in, version_tables};
-ghost use Rattle.elf_linking.specs.Versions.{IsFirst, first_item, version_at};
-ghost use Rattle.linking_callers.specs.VersionNames.{Defines, NeedsOf, defines, is_name};
-ghost use Rattle.linking_callers.specs.VersionNames.{library_in, needs_of};
+ghost use Rattle.elf_linking.specs.Versions.{IsFirst, first_item, named_at, version_tables};
+ghost use Rattle.linking_callers.specs.VersionNames.{Defines, defines, is_name};
+ghost use Rattle.linking_callers.specs.VersionNames.{library_in};
 
 use elf_linking::LinkError;
-use elf_linking::versions::{Definition, NamedVersion, Need, Versions};
+use elf_linking::versions::{Definition, NamedVersion, Versions};
 
 // Whether a name can be read and is this.
 fn is_name(found: Result<&str, LinkError>, name: &str) -> bool
@@ -26,13 +25,6 @@ fn defines(definition: &Definition<'_>, name: &str) -> bool
     ensures { result ≡ defines name.now (definition_parts definition.now) }
 {
     !definition.is_base() && is_name(definition.name(), name)
-}
-
-// Whether a version is needed of the library with this name.
-fn needs_of(need: &Need<'_>, library: &str) -> bool
-    ensures { result ≡ needs_of library.now (need_parts need.now) }
-{
-    is_name(need.file(), library)
 }
 
 /// The definition of the version with this name, which isn't the base, if the file defines it. The
@@ -70,43 +62,11 @@ fn search_definitions<'a>(
     Ok(None)
 }
 
-/// The first version that the file needs of the library with this name, if there is one. The error
-/// is the one with which the needs end before it.
-#[tactic(auto, using(crate::proofs::VersionNames::needed_first))]
-pub fn first_need_of<'a>(
-    versions: &Versions<'a>,
-    library: &str,
-) -> Result<Option<Need<'a>>, LinkError>
-    ensures { IsFirst (NeedsOf library.now) (needs_in (version_tables versions.now).needs)
-        (result_map (option_map need_parts) result) }
-{
-    search_needs(versions, library)
-}
-
-// The first version that is needed of the library with this name, as a computed answer.
-#[tactic(auto, using(elf_linking::proofs::lemmas::FirstItems::search_end, elf_linking::proofs::lemmas::FirstItems::search_fault, elf_linking::proofs::lemmas::FirstItems::search_found, elf_linking::proofs::lemmas::FirstItems::search_other))]
-fn search_needs<'a>(versions: &Versions<'a>, library: &str) -> Result<Option<Need<'a>>, LinkError>
-    ensures { result_map (option_map need_parts) result ≡ first_item (needs_of library.now)
-        (needs_in (version_tables versions.now).needs) }
-{
-    for item in versions.needs() {
-        match item {
-            Ok(need) => {
-                if needs_of(&need, library) {
-                    return Ok(Some(need));
-                }
-            }
-            Err(error) => return Err(error),
-        }
-    }
-    Ok(None)
-}
-
 /// The library that a symbol's version is needed of, if it is needed of one. Rejected as
 /// `version_of` and `Need::file` are.
 pub fn library_of<'a>(versions: &Versions<'a>, index: u32) -> Result<Option<&'a str>, LinkError>
     ensures { result_map (option_map (λ name. name.now)) result
-        ≡ library_in (version_at (version_tables versions.now) index) }
+        ≡ library_in (named_at (version_tables versions.now) index) }
 {
     let version = match versions.version_of(index) {
         Ok(Some(version)) => version,
@@ -120,18 +80,4 @@ pub fn library_of<'a>(versions: &Versions<'a>, index: u32) -> Result<Option<&'a 
         },
         _ => Ok(None),
     }
-}
-
-/// How many versions a file defines, the base included, where what is cut off counts as one.
-pub fn definition_count(versions: &Versions<'_>) -> usize
-    ensures { result ≡ length (definitions_in (version_tables versions.now).definitions) }
-{
-    versions.definitions().count()
-}
-
-/// How many versions a file needs of libraries, where an error at the end counts as one.
-pub fn need_count(versions: &Versions<'_>) -> usize
-    ensures { result ≡ length (needs_in (version_tables versions.now).needs) }
-{
-    versions.needs().count()
 }

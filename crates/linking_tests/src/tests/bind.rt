@@ -10,12 +10,12 @@ use crate::tests::find::file::{
     DEFINITIONS, KINDS, Kind, Symbol, add_entry, drop_numbers, find_file, set_name, set_other,
     set_symbol,
 };
-use crate::tests::want::{open, want_at};
+use crate::tests::want::{open, want, want_at};
 use elf_base::ElfError;
 use elf_linking::references::Reference;
 use elf_linking::scope::Scope;
 use elf_linking::view::LinkedSymbol;
-use elf_linking::{DynamicObject, LinkError};
+use elf_linking::{CheckedObject, CheckedScope, DynamicObject, LinkError};
 use std::process::Abort;
 use worked_files::places::{header_64, set};
 use worked_files::versioned::{Field, set_fields};
@@ -393,10 +393,29 @@ fn bound_of<E: LinkedSymbol>(
         DynamicObject::<E>::read(&open(rt, program))?,
         DynamicObject::<E>::read(&open(rt, library))?,
     ];
-    match Scope::new(&objects).bind(from, reference) {
+    let answer = match Scope::new(&objects).bind(from, reference) {
         Ok(Some(bound)) => Ok(Some((bound.object, bound.index))),
         Ok(None) => Ok(None),
         Err(error) => Err(error),
+    };
+    if let Ok(bound) = checked_bound_of(objects[0], objects[1], from, reference) {
+        // A reference whose symbol or name can't be read gets none.
+        want(rt, bound, answer.unwrap_or(None));
+    }
+    answer
+}
+
+// What the reference gets after the checks of the files, or the first error of these.
+fn checked_bound_of<E: LinkedSymbol>(
+    program: DynamicObject<'_, E>,
+    library: DynamicObject<'_, E>,
+    from: usize,
+    reference: &Reference,
+) -> Answer {
+    let checked = [CheckedObject::of(program)?, CheckedObject::of(library)?];
+    match CheckedScope::new(&checked).bind(from, reference) {
+        Some(bound) => Ok(Some((bound.object, bound.index))),
+        None => Ok(None),
     }
 }
 

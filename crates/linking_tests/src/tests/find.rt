@@ -13,7 +13,7 @@ use crate::tests::want::{open, want, want_at};
 use elf_base::ElfError;
 use elf_linking::find::{Use, Wanted};
 use elf_linking::view::LinkedSymbol;
-use elf_linking::{DynamicObject, LinkError};
+use elf_linking::{CheckedObject, DynamicObject, LinkError};
 use std::process::Abort;
 use worked_files::versioned::{Field, set_fields};
 use xmas_elf::symbol_table::{DynEntry32, DynEntry64};
@@ -75,10 +75,27 @@ fn found_of<E: LinkedSymbol>(
 ) -> Found {
     let file = open(rt, bytes);
     let object = DynamicObject::<E>::read(&file)?;
-    match object.find(name, wanted, use_) {
+    let found = match object.find(name, wanted, use_) {
         Ok(Some((index, symbol))) => Ok(Some((index, symbol.value()))),
         Ok(None) => Ok(None),
         Err(error) => Err(error),
+    };
+    if let Ok(checked) = CheckedObject::of(object) {
+        want(rt, checked_found(&checked, name, wanted, use_), found);
+    }
+    found
+}
+
+// The same after the checks of the file.
+fn checked_found<E: LinkedSymbol>(
+    object: &CheckedObject<'_, E>,
+    name: &str,
+    wanted: &Wanted<'_>,
+    use_: Use,
+) -> Found {
+    match object.find(name, wanted, use_) {
+        Some((index, symbol)) => Ok(Some((index, symbol.value()))),
+        None => Ok(None),
     }
 }
 

@@ -304,14 +304,14 @@ fn reads_words(rt: HostRuntime) -> Result<(), LinkError> {
     Ok(())
 }
 
-// No program header of a file of another class can be read, so that no segment has the table.
+// The segments of a file of another class are read as those of class 64, but its relocations have no known size.
 #[test]
 fn refuses_relocations_of_another_class(rt: HostRuntime) -> Result<(), LinkError> {
     let bytes = reference_file(2, Order::Little, &[RELA_AT, RELA_SIZE]);
     let file = open(&rt, &bytes);
     let view = DynamicView::read(&file)?;
     let refused = view.references(&with_class(&file, 3)).err();
-    want(&rt, refused, Some(LinkError::Address));
+    want(&rt, refused, Some(LinkError::UnknownClass));
     Ok(())
 }
 

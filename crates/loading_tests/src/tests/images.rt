@@ -2,12 +2,12 @@
 //! first. What is accepted is worked out by hand from the list of errors.
 
 use crate::tests::relocated_files::{SIZE, TABLE, base_file};
-use crate::tests::rows::open;
+use crate::tests::rows::{LIMIT, open};
 use crate::tests::want::want_at;
 use elf_linking::scope::Scope;
 use elf_linking::view::LinkedSymbol;
 use elf_linking::{DynamicObject, LinkError};
-use elf_loading::{LoadError, LoadScope};
+use elf_loading::{LoadError, LoadPlan, LoadScope};
 use std::process::Abort;
 use worked_files::places::{Place, header_32, header_64, program_32, program_64, set};
 use xmas_elf::bytes::Order;
@@ -19,8 +19,11 @@ type Change = (usize, Place, u64);
 // Changes of a file, and the result of the check.
 type Row = (&'static [Change], Result<(), LoadError>);
 
-// A bit for each byte of the load.
-const MARKS: usize = SIZE / 8;
+// The size of a page: the load fills its pages.
+pub const PAGE: u64 = 128;
+
+// A bit for each byte of the span, which is that of the load.
+pub const MARKS: usize = SIZE / 8;
 
 // The program headers of the load and of the dynamic segment, of class 64.
 const LOAD: usize = 64;
@@ -68,13 +71,13 @@ const TAG: Place = Place(0, 8);
 // The first and the second relocation, and the slot: the address, and the type.
 const FIRST: usize = TABLE;
 
-const SECOND: usize = TABLE + 24;
+pub const SECOND: usize = TABLE + 24;
 
 const SLOT: usize = TABLE + 48;
 
-const KIND: Place = Place(8, 4);
+pub const KIND: Place = Place(8, 4);
 
-const SYMBOL: Place = Place(12, 4);
+pub const SYMBOL: Place = Place(12, 4);
 
 // The packed relocation.
 const ADDRESS: usize = TABLE + 96;
@@ -82,12 +85,12 @@ const ADDRESS: usize = TABLE + 96;
 // The size of the symbol that is copied, and the number of buckets.
 const SYMBOL_SIZE: usize = 0x138 + 16;
 
-const BUCKETS: usize = 0x1e0;
+pub const BUCKETS: usize = 0x1e0;
 
 const NARROW: Place = Place(0, 4);
 
 // A file for x86-64 whose words are at 0x1600, 0x1608, 0x1610 and 0x1618, of 8 bytes each.
-fn file_64() -> [u8; SIZE] {
+pub fn file_64() -> [u8; SIZE] {
     let mut file = base_file(2, 62, ENTRIES_64);
     for &(start, place, value) in &[
         (LOAD, program_64::MEM_SIZE, SIZE as u64),
@@ -119,7 +122,8 @@ fn checked<E: LinkedSymbol>(
     let file = open(rt, bytes);
     let one = DynamicObject::<E>::read(&file).expect(rt, "an object");
     let two = DynamicObject::<E>::read(&file).expect(rt, "an object");
-    Scope::new(&[one, two]).check_image(of, marks)
+    let plan = LoadPlan::check_load(&file, PAGE, LIMIT).expect(rt, "a plan");
+    LoadScope::new(Scope::new(&[one, two]), &[plan, plan]).check_image(of, marks)
 }
 
 // Wants these results of a file with changes.
@@ -374,6 +378,10 @@ fn marks_and_objects(rt: HostRuntime) {
     let found = checked::<DynEntry64>(&rt, &file, 2, &mut [0; MARKS]);
     let wanted = Err(LoadError::Link(LinkError::ObjectIndex));
     want_at(&rt, "third", found, wanted);
+    let own = open(&rt, &file);
+    let one = DynamicObject::<DynEntry64>::read(&own).expect(&rt, "an object");
+    let unplanned = LoadScope::new(Scope::new(&[one]), &[]).check_image(0, &mut [0; MARKS]);
+    want_at(&rt, "no plan", unplanned, wanted);
     let found = checked::<DynEntry64>(&rt, &file, 0, &mut [0; MARKS - 1]);
     want_at(&rt, "a byte less", found, Err(LoadError::FewMarks));
     let found = checked::<DynEntry64>(&rt, &file, 0, &mut [0; MARKS + 1]);

@@ -7,6 +7,8 @@ use crate::tests::want::want_at;
 use elf_loading::{Contents, LoadPlan, Loader, Mapping, Span, Tls};
 use std::process::Abort;
 use std::test::Fail;
+use worked_files::places::{header_64, program_64, set};
+use xmas_elf::bytes::Order;
 use xmas_elf::program::Flags;
 
 // The segments of /usr/bin/sleep of Debian that matter, and its size.
@@ -69,6 +71,36 @@ fn check_mappings(rt: &impl Abort, plan: &LoadPlan<'_>, by: Loader, lines: &[Lin
         want_at(rt, line.0, mappings.next(), Some(mapping_of(line)));
     }
     want_at(rt, "the end", mappings.next(), None);
+}
+
+// Its program header table is at offset 0: the first record begins with the ELF header, the second with the
+// number of entries, and the third is a load. Linux 6.18 runs such a program, and glibc 2.36 loads such a
+// library.
+#[test]
+fn plans_a_table_at_offset_0(rt: HostRuntime) -> Result<(), Fail> {
+    let mut bytes = file_64(rt.alloc(), 0x20c, 2, &[])?;
+    let changes = [
+        (0, header_64::PH_OFFSET, 0),
+        (0, header_64::PH_COUNT, 3),
+        (0, header_64::SH_ENTRY_SIZE, 1),
+        (112, program_64::TYPE, 1),
+        (112, program_64::FLAGS, 5),
+        (112, program_64::VIRTUAL_ADDR, 0x40_0000),
+        (112, program_64::FILE_SIZE, 0x20c),
+        (112, program_64::MEM_SIZE, 0x20c),
+        (112, program_64::ALIGN, 0x1000),
+    ];
+    for (start, place, value) in changes {
+        set(bytes.as_mut_slice(), start, place, value, Order::Little);
+    }
+    let file = open(&rt, &bytes);
+    let plan = LoadPlan::check_load(&file, 4096, LIMIT)?;
+    let wanted = Span {
+        start: 0x40_0000,
+        end: 0x40_1000,
+    };
+    want_at(&rt, "span", plan.span(), wanted);
+    Ok(())
 }
 
 #[test]

@@ -29,12 +29,23 @@ const CHANGES: &[(&[Change], Option<LoadError>)] = &[
     (&[], None),
     (&[(HEADER, header_64::TYPE, 1)], Some(LoadError::Type)),
     (&[(HEADER, header_64::TYPE, 4)], Some(LoadError::Type)),
+    // Larger entries: Linux 6.18 says ENOEXEC, and glibc 2.36 "ELF file's phentsize not the expected size".
+    (
+        &[(HEADER, header_64::PH_ENTRY_SIZE, 57)],
+        Some(LoadError::EntrySize),
+    ),
     (
         &[(HEADER, header_64::PH_ENTRY_SIZE, 64)],
         Some(LoadError::EntrySize),
     ),
     (&[(HEADER, header_64::PH_COUNT, 0)], Some(LoadError::Count)),
     (&[(HEADER, header_64::PH_COUNT, 74)], Some(LoadError::Count)),
+    // Linux says ENOEXEC, whatever section header 0 has (PN_XNUM): so many records are more than 64 KB.
+    (
+        &[(HEADER, header_64::PH_COUNT, 0xffff)],
+        Some(LoadError::Count),
+    ),
+    // A table cut by the end of the file: ENOEXEC, and "cannot read file data".
     (
         &[(HEADER, header_64::PH_OFFSET, 0x1eb1)],
         Some(LoadError::Table),

@@ -72,11 +72,12 @@ pub fn base_file_in(order: Order, class: u8, machine: u64, entries: &[(u64, u64)
     let mut file = [0; SIZE];
     let (program, width) = sizes(class);
     set_header(&mut file, class, order);
-    let place = if class == 1 {
-        header_32::MACHINE
+    let (kind, place) = if class == 1 {
+        (header_32::TYPE, header_32::MACHINE)
     } else {
-        header_64::MACHINE
+        (header_64::TYPE, header_64::MACHINE)
     };
+    set(&mut file, 0, kind, 3, order);
     set(&mut file, 0, place, machine, order);
     set_segment_end(&mut file, class, SIZE, order);
     let second = PROGRAMS.wrapping_add(program);

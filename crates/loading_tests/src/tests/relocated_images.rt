@@ -4,15 +4,16 @@
 use crate::tests::relocated_files::{
     SIZE, SYMBOLS, TABLE, WORD, base_file, base_file_in, put_rela, put_rela_in,
 };
-use crate::tests::rows::open;
+use crate::tests::rows::{LIMIT, open};
 use crate::tests::want::want_at;
 use elf_linking::scope::Scope;
 use elf_linking::view::LinkedSymbol;
 use elf_linking::{DynamicObject, LinkError};
-use elf_loading::{Binding, LoadError, LoadScope, Place as LoadedAt};
+use elf_loading::{Binding, LoadError, LoadPlan, LoadScope, Place as LoadedAt};
 use std::process::Abort;
 use worked_files::places::{Place, program_32, program_64, put, set};
 use worked_files::versioned::PROGRAMS;
+use xmas_elf::ElfFile;
 use xmas_elf::bytes::Order;
 use xmas_elf::symbol_table::{DynEntry32, DynEntry64};
 
@@ -21,7 +22,7 @@ const LITTLE: Order = Order::Little;
 const BIG: Order = Order::Big;
 
 // The size of a page: each page of the image is full.
-const PAGE: u64 = 16;
+const PAGE: u64 = 128;
 
 const MINUS_4: u64 = u64::MAX - 3;
 
@@ -30,7 +31,7 @@ const OLD: [u8; 16] = [0x77; 16];
 
 // Where the two objects are loaded: the second one's thread-local storage is -0x180 from the thread
 // pointer.
-const PLACES: &[LoadedAt] = &[
+pub const PLACES: &[LoadedAt] = &[
     LoadedAt {
         base: 0x7_0000_1000,
         module: 1,
@@ -73,6 +74,11 @@ fn file_32(order: Order, row: (u64, u64, u64)) -> [u8; SIZE] {
     file
 }
 
+// The plan of a file, whose span is its bytes.
+fn plan_of<'a>(rt: &impl Abort, file: &ElfFile<'a>) -> LoadPlan<'a> {
+    LoadPlan::check_load(file, PAGE, LIMIT).expect(rt, "a plan")
+}
+
 // A copy of a file, for an image.
 fn copy_of(bytes: &[u8; SIZE]) -> [u8; SIZE] {
     *bytes
@@ -96,7 +102,9 @@ fn relocate_second<E: LinkedSymbol>(
     let objects = [one, two];
     let mut image = copy_of(bytes);
     let others: [&[u8]; 2] = [&[], &[]];
-    let result = Scope::new(&objects).relocate(1, when, PAGE, PLACES, &others, &mut image);
+    let plans = [plan_of(rt, &file); 2];
+    let scope = LoadScope::new(Scope::new(&objects), &plans);
+    let result = scope.relocate(1, when, PLACES, &others, &mut image);
     let before = image.get(..WORD) == bytes.get(..WORD);
     want_at(rt, "before the word", before, true);
     let after = image.get(WORD + 16..) == bytes.get(WORD + 16..);
@@ -288,27 +296,28 @@ fn words_are_in_the_image(rt: HostRuntime) {
         let objects = [one];
         let mut image = copy_of(&bytes);
         let (places, others): (_, [&[u8]; 1]) = (first(PLACES, 1), [&[]]);
-        let found = Scope::new(&objects).relocate(
-            0,
-            Binding::Now,
-            PAGE,
-            places,
-            &others,
-            &mut image,
-        );
+        let plans = [plan_of(&rt, &file)];
+        let scope = LoadScope::new(Scope::new(&objects), &plans);
+        let found = scope.relocate(0, Binding::Now, places, &others, &mut image);
         want_at(&rt, address, found, wanted);
     }
 }
 
-// The index of the object, the numbers of places and of images, the size of the image, and the error.
-const SIZES: &[(usize, usize, usize, usize, LoadError)] = &[
-    (1, 1, 1, SIZE - 1, LoadError::Link(LinkError::ObjectIndex)),
-    (0, 1, 1, SIZE - 1, LoadError::ImageSize),
-    (0, 1, 1, 0, LoadError::ImageSize),
-    (0, 0, 1, SIZE, LoadError::ImageSize),
-    (0, 2, 1, SIZE, LoadError::ImageSize),
-    (0, 1, 0, SIZE, LoadError::ImageSize),
-    (0, 1, 2, SIZE, LoadError::ImageSize),
+const NO_OBJECT: LoadError = LoadError::Link(LinkError::ObjectIndex);
+
+// The index of the object, the numbers of plans, of places and of images, the size of the image, and
+// the error.
+const SIZES: &[(usize, [usize; 3], usize, LoadError)] = &[
+    (1, [1, 1, 1], SIZE - 1, NO_OBJECT),
+    (1, [2, 1, 1], SIZE, NO_OBJECT),
+    (0, [0, 1, 1], SIZE, NO_OBJECT),
+    (0, [1, 1, 1], SIZE - 1, LoadError::ImageSize),
+    (0, [1, 1, 1], 0, LoadError::ImageSize),
+    (0, [2, 1, 1], SIZE, LoadError::ImageSize),
+    (0, [1, 0, 1], SIZE, LoadError::ImageSize),
+    (0, [1, 2, 1], SIZE, LoadError::ImageSize),
+    (0, [1, 1, 0], SIZE, LoadError::ImageSize),
+    (0, [1, 1, 2], SIZE, LoadError::ImageSize),
 ];
 
 #[test]
@@ -317,13 +326,13 @@ fn sizes_are_those_of_the_scope(rt: HostRuntime) {
     let file = open(&rt, &bytes);
     let one = DynamicObject::<DynEntry64>::read(&file).expect(&rt, "an object");
     let objects = [one];
-    let scope = Scope::new(&objects);
-    let all: [&[u8]; 2] = [&[], &[]];
-    for &(of, places, images, size, error) in SIZES {
+    let (all_plans, all): (_, [&[u8]; 2]) = ([plan_of(&rt, &file); 2], [&[], &[]]);
+    for &(of, [plans, places, images], size, error) in SIZES {
         let mut image = copy_of(&bytes);
+        let scope = LoadScope::new(Scope::new(&objects), first(&all_plans, plans));
         let (places, others) = (first(PLACES, places), first(&all, images));
         let image_part = &mut image[..size.min(SIZE)];
-        let found = scope.relocate(of, Binding::Now, PAGE, places, others, image_part);
+        let found = scope.relocate(of, Binding::Now, places, others, image_part);
         want_at(&rt, (of, size), found, Err(error));
         want_at(&rt, (of, size), image == bytes, true);
     }
@@ -352,15 +361,16 @@ fn copies_are_of_relocated_words(rt: HostRuntime) {
     let one = DynamicObject::<DynEntry64>::read(&own).expect(&rt, "an object");
     let two = DynamicObject::<DynEntry64>::read(&other).expect(&rt, "an object");
     let objects = [one, two];
-    let scope = Scope::new(&objects);
+    let plans = [plan_of(&rt, &own), plan_of(&rt, &other)];
+    let scope = LoadScope::new(Scope::new(&objects), &plans);
     let mut source = copy_of(&library);
     let none: [&[u8]; 2] = [&[], &[]];
-    let found = scope.relocate(1, Binding::Now, PAGE, PLACES, &none, &mut source);
+    let found = scope.relocate(1, Binding::Now, PLACES, &none, &mut source);
     want_at(&rt, "the library", found, Ok(0));
     for &(size, result, bytes) in COPIED {
         let mut image = copy_of(&program);
         let others: [&[u8]; 2] = [&[], first(&source, size)];
-        let found = scope.relocate(0, Binding::Now, PAGE, PLACES, &others, &mut image);
+        let found = scope.relocate(0, Binding::Now, PLACES, &others, &mut image);
         want_at(&rt, size, found, result);
         let word = with_old(bytes);
         want_at(

@@ -14,7 +14,7 @@ use crate::tests::words::x86_64::X86_64;
 use elf_linking::DynamicObject;
 use elf_linking::scope::Scope;
 use elf_linking::view::LinkedSymbol;
-use elf_loading::{Binding, LoadError, LoadScope, Origin, Value, Word};
+use elf_loading::{Binding, LoadError, Origin, Value, Word, Words};
 use std::process::Abort;
 use xmas_elf::symbol_table::{DynEntry32, DynEntry64};
 
@@ -40,7 +40,7 @@ fn first_word<E: LinkedSymbol>(
     let one = DynamicObject::<E>::read(&file).expect(rt, "an object");
     let two = DynamicObject::<E>::read(&file).expect(rt, "an object");
     let objects = [one, two];
-    let mut words = Scope::new(&objects).words(1, when).expect(rt, "words");
+    let mut words = Words::new(Scope::new(&objects), 1, when).expect(rt, "words");
     words.next().expect(rt, "a relocation").word
 }
 

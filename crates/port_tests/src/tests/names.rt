@@ -5,7 +5,7 @@ use crate::tests::want::{open, want, want_at};
 use elf_callers::callers::names::name_by_bytes;
 use std::process::Abort;
 use worked_files::files::{dynstr_file, strtab_file};
-use worked_files::places::{put, section_32, set, symbol_32, symbol_64};
+use worked_files::places::{header_32, put, section_32, set, symbol_32, symbol_64};
 use xmas_elf::ElfError;
 use xmas_elf::bytes::{Order, Record, Table};
 use xmas_elf::symbol_table::{DynEntry32, Entry, Entry32, Entry64, SymbolTable};
@@ -30,12 +30,96 @@ fn names_of_sections_need_not_be_utf8(rt: HostRuntime) -> Result<(), ElfError> {
     want(&rt, section.name_bytes(&file), wanted);
     want(&rt, table.name_bytes_of(&section), wanted);
     want(&rt, file.get_shstr_bytes(9), wanted);
+    want(&rt, file.section_name(&section), wanted);
     want(&rt, section.get_name(&file), Err(ElfError::TextUtf8));
     want(&rt, name_by_bytes(&file, &section), Err(ElfError::TextUtf8));
     want(&rt, null.name_bytes(&file), Err(ElfError::NullName));
     want(&rt, table.name_bytes_of(&null), Err(ElfError::NullName));
     want(&rt, file.get_shstr_bytes(1), Ok(b".strtab".as_slice()));
     want(&rt, file.get_shstr_bytes(12), Err(ElfError::TextEnd));
+    Ok(())
+}
+
+// Null, a type of the table, one without a meaning, that of `.relr.dyn`, and of each reserved range one.
+const TYPES: &[u64] = &[
+    0,
+    3,
+    12,
+    19,
+    0x5fff_ffff,
+    0x6fff_fff6,
+    0x7000_0000,
+    0xffff_ffff,
+];
+
+// `readelf -SW` shows these names for each type.
+#[test]
+fn sections_of_any_type_have_names(rt: HostRuntime) -> Result<(), ElfError> {
+    for &kind in TYPES {
+        let mut bytes = strtab_file(LITTLE);
+        set(&mut bytes, 52, section_32::NAME, 9, LITTLE);
+        set(&mut bytes, 92, section_32::TYPE, kind, LITTLE);
+        let file = open(&rt, &bytes);
+        let (null, section) = (file.section_header(0)?, file.section_header(1)?);
+        want_at(&rt, kind, file.section_name(&null), Ok(b"ab".as_slice()));
+        want_at(
+            &rt,
+            kind,
+            file.section_name(&section),
+            Ok(b".strtab".as_slice()),
+        );
+    }
+    Ok(())
+}
+
+// The index of the section with the names, the link of section header 0, and the index of the name of
+// section 1 in the name table; and that name, as `readelf -SW` shows it, or the first of the errors.
+const NAMED: &[(u64, u64, u64, Result<&[u8], ElfError>)] = &[
+    (1, 0, 1, Ok(b".strtab")),
+    (1, 0, 2, Ok(b"strtab")),
+    (1, 0, 8, Ok(b"")),
+    (1, 0, 12, Err(ElfError::TextEnd)),
+    (1, 0, 13, Err(ElfError::TextStart)),
+    (0xffff, 1, 1, Ok(b".strtab")),
+    (0xffff, 0xffff, 1, Err(ElfError::ShortSectionHeader)),
+    (0xff00, 1, 1, Err(ElfError::ReservedIndex)),
+    (0xfffe, 1, 1, Err(ElfError::ReservedIndex)),
+    (3, 0, 1, Err(ElfError::ShortSectionHeader)),
+];
+
+#[test]
+fn sections_are_named_by_the_wide_index(rt: HostRuntime) -> Result<(), ElfError> {
+    for &(index, link, name, wanted) in NAMED {
+        let mut bytes = strtab_file(LITTLE);
+        set(&mut bytes, 0, header_32::SH_STR_INDEX, index, LITTLE);
+        set(&mut bytes, 52, section_32::LINK, link, LITTLE);
+        set(&mut bytes, 92, section_32::NAME, name, LITTLE);
+        let file = open(&rt, &bytes);
+        let section = file.section_header(1)?;
+        want_at(
+            &rt,
+            (index, link, name),
+            file.section_name(&section),
+            wanted,
+        );
+    }
+    Ok(())
+}
+
+#[test]
+fn no_names_past_the_end(rt: HostRuntime) -> Result<(), ElfError> {
+    for (offset, wanted) in [
+        (132, Ok(b".strtab".as_slice())),
+        (143, Err(ElfError::TextEnd)),
+        (144, Err(ElfError::TextStart)),
+        (145, Err(ElfError::ShortSectionOffset)),
+    ] {
+        let mut bytes = strtab_file(LITTLE);
+        set(&mut bytes, 92, section_32::OFFSET, offset, LITTLE);
+        let file = open(&rt, &bytes);
+        let section = file.section_header(1)?;
+        want_at(&rt, offset, file.section_name(&section), wanted);
+    }
     Ok(())
 }
 

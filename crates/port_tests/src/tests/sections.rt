@@ -86,11 +86,9 @@ fn callers_count_what_they_ask_for(rt: HostRuntime) {
     let file = open(&rt, &bytes);
     want(&rt, callers::readable_sections(&file), 4);
     want(&rt, callers::counted_sections(&file), 4);
-    want(&rt, callers::checked_section_count(&file), Ok(4));
-    want(&rt, callers::readable_segments(&file), 0);
-    want(&rt, callers::empty_sections(&file), 1);
-    let refused = callers::segment_data_len(&file, 0);
-    want(&rt, refused, Err(ElfError::NoProgramHeaders));
+    want(&rt, file.program_iter().count(), 0);
+    let refused = file.program_header(0).err();
+    want(&rt, refused, Some(ElfError::NoProgramHeaders));
 }
 
 #[test]
@@ -99,14 +97,9 @@ fn callers_get_the_sections_they_ask_for(rt: HostRuntime) -> Result<(), ElfError
     let file = open(&rt, &bytes);
     want(&rt, callers::section_at(&file, 365), Some(2));
     want(&rt, callers::section_at(&file, 366), None);
-    let found = callers::section_with_address(&file, 1);
-    want(&rt, found.is_none(), true);
-    want(
-        &rt,
-        callers::data_len(&file, file.section_header(2)?),
-        Ok(12),
-    );
-    let link = callers::named_section(&file, ".gnu_debuglink");
+    let data = file.section_header(2)?.raw_data(&file)?;
+    want(&rt, data.len(), 12);
+    let link = file.find_section_by_name(".gnu_debuglink");
     want(&rt, link.expect(&rt, "the link").size(), 12);
     Ok(())
 }

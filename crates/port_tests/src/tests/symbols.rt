@@ -3,10 +3,7 @@
 //! Numbers, meanings and names are in the rows of `elfanswers`, `symbols.rows`.
 
 use crate::tests::want::{open, want, want_at};
-use elf_callers::callers::symbols::{
-    dyn_name_or_refusal, first_name, name_at, name_by_table, name_bytes, name_in, name_of_any,
-    name_or_refusal, own_is_named, own_section, value_at,
-};
+use elf_callers::callers::symbols::{first_name, name_at, name_bytes, name_in, value_at};
 use elf_callers::own::Numbered;
 use std::alloc::Global;
 use std::fmt::Display;
@@ -51,7 +48,13 @@ const NAMES: &[(u64, Result<&str, ElfError>)] = &[
     (13, Err(ElfError::TextStart)),
 ];
 
-// Wants this name of symbols that are called by `.strtab`, each by a caller of its own.
+// The name of a symbol by the string table that is taken once for many.
+fn name_of_any<'a, E: Entry>(symbol: &E, file: &ElfFile<'a>) -> Result<&'a str, ElfError> {
+    let strings = E::string_table(file);
+    symbol.name_in(strings, file)
+}
+
+// Wants this name of symbols that are called by `.strtab`.
 fn check_names(
     rt: &impl Abort,
     file: &ElfFile<'_>,
@@ -62,8 +65,8 @@ fn check_names(
     let bytes = wide_bytes(place);
     let wide = symbol::<Entry64>(&bytes, LITTLE)?;
     want_at(rt, place, name_of_any(&narrow, file), name);
-    want_at(rt, place, name_or_refusal(&wide, file), name);
-    want_at(rt, place, name_by_table(file, &wide), name);
+    want_at(rt, place, wide.get_name(file), name);
+    want_at(rt, place, name_of_any(&wide, file), name);
     want_at(rt, place, first_name(file.input, &bytes, LITTLE), name);
     Ok(())
 }
@@ -77,7 +80,7 @@ fn check_dynamic_names(
 ) -> Result<(), ElfError> {
     let narrow = symbol::<DynEntry32>(&narrow_bytes(place), LITTLE)?;
     let wide = symbol::<DynEntry64>(&wide_bytes(place), LITTLE)?;
-    want_at(rt, place, dyn_name_or_refusal(&narrow, file), name);
+    want_at(rt, place, narrow.get_name(file), name);
     want_at(rt, place, name_of_any(&narrow, file), name);
     want_at(rt, place, name_of_any(&wide, file), name);
     Ok(())
@@ -193,9 +196,8 @@ fn check_own(rt: &impl Abort, symbol: &Numbered, file: &ElfFile<'_>, name: Resul
     want(rt, symbol.get_name(file), name);
     want(rt, symbol.get_binding(), Ok(Binding::Global));
     want(rt, symbol.value(), u64::from(symbol.number));
-    let section = own_section(symbol, file, 1);
+    let section = symbol.get_section_header(file, 1).err();
     want(rt, section, Some(ElfError::ReservedSymbolIndex));
-    want(rt, own_is_named(symbol, "zz", file), symbol.number == 2);
 }
 
 const OWN: &[u8; 12] = b"\0\0\0\x01\0\0\0\x02\0\0\0\x03";

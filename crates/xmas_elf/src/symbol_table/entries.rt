@@ -149,6 +149,8 @@ impl<K: Kept> Entry for K {
 
     ghost strings_in = { λ file. Some (symbol_strings_of K.DYNAMIC file) };
 
+    ghost strings_lie = { LiesAsSymbolStrings K.DYNAMIC };
+
     #[inline(always)]
     fn name(&self) -> u32 {
         match self.layout() {

@@ -2,6 +2,7 @@
 
 ghost use Rattle.std.specs.Prelude.{◌≡◌, ℕ, IfOk, IfSome, IsSomeAnd, List};
 ghost use Rattle.std.specs.Prelude.{MatchResult, None, Ok, Option, Result, Some};
+ghost use Rattle.std.specs.Borrow.{Bor};
 ghost use Rattle.std.proofs.Common.{rules};
 ghost use Rattle.elf_base.specs.Lent.{Answers};
 ghost use Rattle.elf_records.specs.SymbolNumbers.{visibility_raw};
@@ -33,6 +34,10 @@ pub trait Entry {
     /// The bytes of the string table of such symbols in a file, or the error for it; `None`, the
     /// default, if an implementation says nothing of it.
     ghost strings_in: { ElfFile → Option (Result (List ℕ) ElfError) } = { λ file. None };
+
+    /// The place of that string table in the input; any, the default, if an implementation says
+    /// nothing of it.
+    ghost strings_lie: { ElfFile → Bor (List ℕ) → Type 0 } = { λ file table. Unit {0} };
 
     /// The offset of the symbol's name in its string table, in bytes; 0 if it has none (st_name).
     fn name(&self) -> u32
@@ -74,7 +79,8 @@ pub trait Entry {
     /// is then `get_name`.
     fn string_table<'a>(file: &ElfFile<'a>) -> Option<Result<&'a [u8], ElfError>>
         ensures names { IfSome result (HoldsNames fields (λ entry. text_in entry file.now)) }
-        ensures says { IfSome (strings_in file.now) (λ table. IsSomeAnd result (Answers table)) };
+        ensures says { IfSome (strings_in file.now) (λ table. IsSomeAnd result (Answers table)) }
+        ensures lies { IfSome result (λ found. IfOk found (strings_lie file.now)) };
 
     /// The name of the symbol in a file, by the result of `string_table` for that file.
     ///

@@ -1,7 +1,7 @@
 //! Where the names of the symbols of a table are read (gABI, "Symbol Table", st_name, and "String
 //! Table").
 
-ghost use Rattle.std.specs.Prelude.{◌≡◌, IfSome, IsSomeAnd};
+ghost use Rattle.std.specs.Prelude.{◌≡◌, IfOk, IfSome, IsSomeAnd};
 ghost use Rattle.elf_base.specs.Lent.{Answers};
 
 use crate::symbol_table::Entry;
@@ -25,6 +25,7 @@ impl<'a> Names<'a> {
             ≡ E.text_in entry file.now }
         ensures says { IfSome (E.strings_in file.now)
             (λ table. IsSomeAnd (strings_by result) (Answers table)) }
+        ensures place { IfSome (strings_by result) (λ found. IfOk found (E.strings_lie file.now)) }
     {
         match E::string_table(file) {
             Some(found) => Names::Strings(found),

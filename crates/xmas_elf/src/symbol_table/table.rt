@@ -41,6 +41,8 @@ impl<'a, E: Entry + Record> SymbolTable<'a, E> {
         ensures table { carried_table result ≡ table.entry }
         ensures strings { IfSome (E.strings_in file.now)
             (λ strings. IsSomeAnd (carried_strings result) (Answers strings)) }
+        ensures place { IfSome (carried_strings result)
+            (λ found. IfOk found (E.strings_lie file.now)) }
     {
         Self {
             table,

@@ -11,7 +11,7 @@ use std::test::Fail;
 use worked_files::files::{put_symbols, strtab_file};
 use worked_files::places::{set, symbol_32};
 use xmas_elf::ElfFile;
-use xmas_elf::symbol_table::Entry32;
+use xmas_elf::symbol_table::{Entry32, SymbolTable};
 
 // Symbols of class 32: by their names, and all in section `shndx`;
 // symbol 0 has no name and no section.
@@ -47,17 +47,18 @@ struct Row<'a> {
 }
 
 // Wants these answers of both look-ups.
-fn check_answers(
+fn check_answers<'a>(
     rt: &impl Abort,
     row: &Row<'_>,
     table: &GnuHashTable<'_>,
-    symbols: &Table<'_, Entry32>,
-    file: &ElfFile<'_>,
+    symbols: &Table<'a, Entry32>,
+    file: &ElfFile<'a>,
     number: usize,
 ) {
     for (name, passes, answer) in row.answers {
         let passes = *passes;
-        let (found, count) = table.lookup_counted(name, symbols, file, |_| passes);
+        let named = SymbolTable::new(*symbols, file);
+        let (found, count) = table.lookup_counted_in(name, &named, |_| passes);
         let index = found.map(|found| found.map(|symbol| symbol.0));
         want_at(rt, (number, name), index, answer.0);
         want_at(rt, (number, name), count, answer.1);

@@ -1,10 +1,10 @@
 use Rattle.std.proofs.lemmas.Result.{err_from_is_err_and}
-use Rattle.elf_linking.proofs.lemmas.Objects.{symbols_of_object}
+use Rattle.elf_linking.proofs.lemmas.Objects.{versions_of_object}
 use Rattle.elf_c.specs.FoundSymbols.{refused, searched}
 use Rattle.elf_c.proofs.found_symbols.search.Goals as goal
 
 pub returns : goal.returns
-returns g c = searched _ _ (symbols_of_object c.in_ok-object.object _ g.E.Entry.fields c.args.file.now c.in_ok-object.ensures) (record {
+returns g c = searched _ _ (versions_of_object c.in_ok-object.object _ g.E.Entry.fields c.args.file.now c.in_ok-object.ensures) (record {
   wanted = c.wanted_of.result;
   found = c.find.result;
   is_wanted = c.wanted_of.ensures;

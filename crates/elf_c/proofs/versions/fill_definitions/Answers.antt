@@ -1,5 +1,6 @@
 use Rattle.std.proofs.Common.{subst}
-use Rattle.elf_linking.specs.VersionTables.{definitions_left, version_tables}
+use Rattle.elf_linking.specs.VersionTables.{definitions_left}
+use Rattle.elf_linking.specs.Versions.{version_tables}
 use Rattle.elf_c.proofs.VersionRecords.{definitions_filled, stored_definitions_lie}
 use Rattle.elf_c.specs.Batch.{Fills}
 use Rattle.elf_c.specs.Records.{found_in}

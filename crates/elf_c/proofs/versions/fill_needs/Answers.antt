@@ -1,5 +1,6 @@
 use Rattle.std.proofs.Common.{subst}
-use Rattle.elf_linking.specs.VersionTables.{needs_left, version_tables}
+use Rattle.elf_linking.specs.VersionTables.{needs_left}
+use Rattle.elf_linking.specs.Versions.{version_tables}
 use Rattle.elf_c.proofs.VersionRecords.{needs_filled, stored_needs_lie}
 use Rattle.elf_c.specs.Batch.{Fills}
 use Rattle.elf_c.specs.Records.{found_in}

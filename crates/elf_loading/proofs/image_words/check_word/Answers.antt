@@ -1,25 +1,25 @@
 use Rattle.std.proofs.Common.{◌∷◌, sym, ◌∙◌}
 use Rattle.std.proofs.lemmas.Bool.{ne_eqb}
-use Rattle.elf_loading.specs.Segments.{loads_of}
-use Rattle.elf_loading.proofs.ImageWord.{passed, refused_overlap, refused_table, word_room}
+use Rattle.elf_loading.specs.Plan.{plan_loads}
+use Rattle.elf_loading.proofs.ImageLoads.{word_room}
+use Rattle.elf_loading.proofs.ImageWord.{passed, refused_overlap, refused_table}
 use Rattle.elf_loading.proofs.Marks.{marks_with, taken_is}
 use Rattle.elf_loading.proofs.image_words.check_word.Goals as goal
-use Rattle.xmas_elf.specs.ProgramTable.{program_table_file}
 
 pub overflow_sub-word : goal.overflow_sub-word
-overflow_sub-word c = (word_room _ _ _ c.args.word.now c.in-Some.load c.requires (sym c.holder_of.ensures ∙ c.in-Some.is)).0
+overflow_sub-word c = (word_room c.args.room.now.plan.now _ _ c.args.word.now c.in-Some.load c.requires.start c.requires.marks (sym c.holder_of.ensures ∙ c.in-Some.is)).0
 
 pub mark_all-requires : goal.mark_all-requires
-mark_all-requires c = (word_room _ _ _ c.args.word.now c.in-Some.load c.requires (sym c.holder_of.ensures ∙ c.in-Some.is)).1
+mark_all-requires c = (word_room c.args.room.now.plan.now _ _ c.args.word.now c.in-Some.load c.requires.start c.requires.marks (sym c.holder_of.ensures ∙ c.in-Some.is)).1
 
 pub returns-then-mark_all-clause-exact : goal.returns-then-mark_all-clause-exact
 returns-then-mark_all-clause-exact c = λ before marks.
     let room = c.args.room.now in
     let word = c.args.word.now in
     let found = sym c.holder_of.ensures ∙ c.in-Some.is in
-    let within = word_room _ _ _ word c.in-Some.load c.requires found in
+    let within = word_room room.plan.now _ _ word c.in-Some.load c.requires.start c.requires.marks found in
     let taken = taken_is room.start word before c.args.marks.now within.0 marks within.1 in
-    refused_overlap (loads_of (program_table_file room.table)) room.text room.tables before word (ne_eqb word.width 0 c.if-word-eq0.false) c.in-Some.load found
+    refused_overlap (plan_loads room.plan.now) room.text room.tables before word (ne_eqb word.width 0 c.if-word-eq0.false) c.in-Some.load found
     (sym c.is_shut.ensures ∙ c.if-is_shut.false) (sym taken ∙ sym c.mark_all.ensures.was ∙ c.if-mark_all.true)
 
 pub returns-then-is_in_table-clause-exact : goal.returns-then-is_in_table-clause-exact
@@ -27,9 +27,9 @@ returns-then-is_in_table-clause-exact c = λ before marks.
     let room = c.args.room.now in
     let word = c.args.word.now in
     let found = sym c.holder_of.ensures ∙ c.in-Some.is in
-    let within = word_room _ _ _ word c.in-Some.load c.requires found in
+    let within = word_room room.plan.now _ _ word c.in-Some.load c.requires.start c.requires.marks found in
     let taken = taken_is room.start word before c.args.marks.now within.0 marks within.1 in
-    refused_table (loads_of (program_table_file room.table)) room.text room.tables before word (ne_eqb word.width 0 c.if-word-eq0.false) c.in-Some.load found
+    refused_table (plan_loads room.plan.now) room.text room.tables before word (ne_eqb word.width 0 c.if-word-eq0.false) c.in-Some.load found
     (sym c.is_shut.ensures ∙ c.if-is_shut.false) (sym taken ∙ sym c.mark_all.ensures.was ∙ c.if-mark_all.false) (sym c.is_in_table.ensures ∙ c.if-is_in_table.true)
 
 pub returns-clause-exact : goal.returns-clause-exact
@@ -37,10 +37,10 @@ returns-clause-exact c = λ before marks.
     let room = c.args.room.now in
     let word = c.args.word.now in
     let found = sym c.holder_of.ensures ∙ c.in-Some.is in
-    let within = word_room _ _ _ word c.in-Some.load c.requires found in
+    let within = word_room room.plan.now _ _ word c.in-Some.load c.requires.start c.requires.marks found in
     let taken = taken_is room.start word before c.args.marks.now within.0 marks within.1 in (
       word ∷ before,
-      passed (loads_of (program_table_file room.table)) room.text room.tables before word (ne_eqb word.width 0 c.if-word-eq0.false) c.in-Some.load found
+      passed (plan_loads room.plan.now) room.text room.tables before word (ne_eqb word.width 0 c.if-word-eq0.false) c.in-Some.load found
           (sym c.is_shut.ensures ∙ c.if-is_shut.false) (sym taken ∙ sym c.mark_all.ensures.was ∙ c.if-mark_all.false) (sym c.is_in_table.ensures ∙ c.if-is_in_table.false),
       marks_with room.start word before c.args.marks.now within.0 marks c.mark_all.new.marks c.mark_all.ensures.len c.mark_all.ensures.set,
     )

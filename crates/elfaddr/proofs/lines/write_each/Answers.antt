@@ -5,7 +5,7 @@ use Rattle.std.specs.Io.KnownBytes.{Appends}
 use Rattle.std.specs.List.{AllZip}
 use Rattle.elf_addresses.specs.Claims.{IsInnermost}
 use Rattle.elfaddr.specs.Lines.{IsLine}
-use Rattle.elfaddr.proofs.LineLists.{concat_one_more, zip_one_more}
+use Rattle.program_ends.proofs.LineLists.{concat_one_more, zip_one_more}
 use Rattle.elfaddr.proofs.lines.write_each.Goals as goal
 
 pub write_line-requires : goal.write_line-requires

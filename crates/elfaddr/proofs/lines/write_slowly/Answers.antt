@@ -4,7 +4,7 @@ use Rattle.std.proofs.lemmas.List.{take_more}
 use Rattle.std.specs.Io.KnownBytes.{Appends}
 use Rattle.std.specs.List.{AllZip}
 use Rattle.elfaddr.specs.Lines.{IsLine}
-use Rattle.elfaddr.proofs.LineLists.{concat_one_more, zip_one_more}
+use Rattle.program_ends.proofs.LineLists.{concat_one_more, zip_one_more}
 use Rattle.elfaddr.proofs.lines.write_slowly.Goals as goal
 
 pub loop-address-init : goal.loop-address-init

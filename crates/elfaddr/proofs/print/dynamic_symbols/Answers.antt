@@ -1,4 +1,4 @@
-use Rattle.std.proofs.Common.{rules, ap, sym, ◌∙◌}
+use Rattle.std.proofs.Common.{rules, sym, ◌∙◌}
 use Rattle.elfaddr.proofs.print.dynamic_symbols.Goals as goal
 
 pub returns : goal.returns

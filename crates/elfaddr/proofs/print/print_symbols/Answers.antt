@@ -1,11 +1,11 @@
 use Rattle.std.proofs.Common.{subst}
 use Rattle.std.specs.Prelude.{MatchResult, ⊤}
 use Rattle.elf_addresses.specs.SymbolClaims.{symbol_items}
-use Rattle.elfaddr.specs.Ends.{IsFault}
 use Rattle.elfaddr.specs.Lines.{AreLines, name_in}
 use Rattle.elfaddr.proofs.AskedParts.{same_claims}
 use Rattle.elfaddr.proofs.print.print_symbols.Goals as goal
 use Rattle.program_ends.specs.Appended.{AppendsSome}
+use Rattle.program_ends.specs.Ends.{IsFault}
 
 pub returns : goal.returns
 returns g c =

@@ -1,7 +1,7 @@
 use Rattle.std.proofs.Common.{rules, ◌<◌, List, ℕ, length, subst, arith}
 use Rattle.elfload.specs.Files.{AreStatic}
-use Rattle.elfload.specs.declared.files.Input.{Input}
-use Rattle.elfload.proofs.Objects.{at_index}
+use Rattle.linking_programs.specs.declared.Input.{Input}
+use Rattle.linking_programs.proofs.Objects.{at_index}
 use Rattle.elfload.proofs.files.all_dynamic.Goals as goal
 
 pub returns-then-not-is_dynamic : goal.returns-then-not-is_dynamic

@@ -5,7 +5,7 @@ use Rattle.program_ends.proofs.Ends.{stop_so}
 
 pub loop-index-preserved : goal.loop-index-preserved
 loop-index-preserved g c =
-    below_more (IsChecked g.E.Record.SIZE g.E.Entry.fields c.args.objects.now) c.loop-index.index c.loop-index.invariant c.in-Ok.ensures
+    below_more (IsChecked g.E.Record.SIZE g.E.Entry.fields c.args.objects.now c.args.plans.now) c.loop-index.index c.loop-index.invariant c.in-Ok.ensures
 
 pub returns-in-Err : goal.returns-in-Err
 returns-in-Err g c = stop_so _ _ _ _ _ _ c.in-Err.stop (λ refused told. record { index = c.loop-index.index; before = c.loop-index.invariant; why = told })

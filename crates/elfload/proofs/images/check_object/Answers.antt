@@ -10,10 +10,10 @@ pub returns-in-Ok : goal.returns-in-Ok
 returns-in-Ok g c =
     let objects = c.args.objects.now in
     let there = slice_get_read objects (length objects) c.args.index c.index-objects-index.result refl c.requires.below c.index-objects-index.is in
-    checked_ends g.E.Record.SIZE g.E.Entry.fields c.args.page c.args.inputs.now objects c.args.index c.index-objects-index.result there (c.in-Ok.ensures.accepts.0 refl) c.check_words.result c.check_words.ensures
+    checked_ends g.E.Record.SIZE g.E.Entry.fields c.args.inputs.now objects c.args.plans.now c.args.index c.index-objects-index.result there (c.in-Ok.ensures.accepts.0 refl) c.check_words.result c.check_words.ensures
 
 pub returns-in-Err : goal.returns-in-Err
 returns-in-Err g c =
     let objects = c.args.objects.now in
     let there = slice_get_read objects (length objects) c.args.index c.index-objects-index.result refl c.requires.below c.index-objects-index.is in
-    check_stops g.E.Record.SIZE g.E.Entry.fields c.args.page c.args.inputs.now objects c.args.index (Link c.in-Err.error) c.refusal_at.result (by_symbols c.index-objects-index.result c.in-Err.error there c.in-Err.ensures.exact) c.refusal_at.ensures
+    check_stops g.E.Record.SIZE g.E.Entry.fields c.args.inputs.now objects c.args.plans.now c.args.index (Link c.in-Err.error) c.refusal_at.result (by_symbols c.index-objects-index.result c.in-Err.error there c.in-Err.ensures.exact) c.refusal_at.ensures

@@ -1,6 +1,7 @@
 use Rattle.std.proofs.KnownBytes.{Appends-trans}
 use Rattle.elfload.proofs.Written.{on_ok_so, plan_written}
 use Rattle.elfload.proofs.plans.write_plan.Goals as goal
+use Rattle.elf_loading.specs.Plan.{plan_file}
 
 pub returns : goal.returns
 returns g c =
@@ -10,5 +11,5 @@ returns g c =
     let kernel = Appends-trans _ _ _ _ _ (Appends-trans _ _ _ _ _ head c.in_ok-write_all.ensures.bytes) c.in_ok-write_mappings.ensures in
     let glibc = Appends-trans _ _ _ _ _ kernel c.in_ok-write_all-2.ensures.bytes in
     on_ok_so c.write_mappings-2.result _ _ (λ more.
-    plan_written plan.page c.args.path plan.file c.args.file.now c.head_of.result interpreter _ _ _ _ c.requires c.head_of.ensures named
+    plan_written plan.page c.args.path (plan_file plan) c.args.file.now c.head_of.result interpreter _ _ _ _ c.requires c.head_of.ensures named
     c.mappings.ensures.all c.mappings-2.ensures.all (Appends-trans _ _ _ _ _ glibc more)) c.write_mappings-2.ensures

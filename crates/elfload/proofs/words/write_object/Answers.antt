@@ -6,9 +6,9 @@ use Rattle.elf_linking.specs.References.{file_machine}
 use Rattle.elf_loading.specs.WordsLeft.{AreWordsOf, words_left, words_of}
 use Rattle.elf_loading.specs.declared.error.LoadError.TheVariants.{Link}
 use Rattle.elfload.specs.Words.{IsTextError, by_relocations}
-use Rattle.elfload.specs.declared.files.Input.{Input}
+use Rattle.linking_programs.specs.declared.Input.{Input}
 use Rattle.elfload.proofs.ObjectWords.{object_ends}
-use Rattle.elfload.proofs.Objects.{at_index}
+use Rattle.linking_programs.proofs.Objects.{at_index}
 use Rattle.elfload.proofs.Stops.{error_stops}
 use Rattle.elfload.proofs.words.write_object.Goals as goal
 

@@ -5,7 +5,7 @@ use Rattle.std.specs.Io.KnownBytes.{Appends}
 use Rattle.std.specs.List.{AllZip}
 use Rattle.elf_linking.specs.DynamicObject.{object_dynamic_symbols}
 use Rattle.elfsym.specs.Lines.{IsLine, IsSearchError}
-use Rattle.elfsym.proofs.LineLists.{concat_one_more, zip_one_more}
+use Rattle.program_ends.proofs.LineLists.{concat_one_more, zip_one_more}
 use Rattle.elfsym.proofs.Stops.{stop_at}
 use Rattle.elfsym.proofs.lines.write_each.Goals as goal
 use Rattle.program_ends.specs.Stops.{IsStop}

@@ -7,7 +7,6 @@ use crate::tests::want::{open, want, want_at};
 use elf_linking::find::{Use, Wanted};
 use elf_linking::view::LinkedSymbol;
 use elf_linking::{DynamicObject, LinkError};
-use linking_callers::callers::find::{default_value, versioned_value};
 use std::process::Abort;
 use worked_files::linked::versions::{NARROW, WIDE};
 use xmas_elf::symbol_table::{DynEntry32, DynEntry64};
@@ -81,12 +80,18 @@ fn check_values<E: LinkedSymbol>(
     let object = DynamicObject::<E>::read(&file)?;
     object.check()?;
     object.check_versions()?;
-    want(rt, default_value(&object, "ab"), Some(values.1));
-    want(rt, default_value(&object, "outer"), None);
-    want(rt, versioned_value(&object, "ab", "V1"), Some(values.0));
-    want(rt, versioned_value(&object, "ab", "V2"), Some(values.1));
-    want(rt, versioned_value(&object, "ab", "w1"), None);
-    want(rt, versioned_value(&object, "call", "V1"), None);
+    let rows = [
+        ("ab", Wanted::Newest, Some(values.1)),
+        ("outer", Wanted::Newest, None),
+        ("ab", Wanted::version("V1"), Some(values.0)),
+        ("ab", Wanted::version("V2"), Some(values.1)),
+        ("ab", Wanted::version("w1"), None),
+        ("call", Wanted::version("V1"), None),
+    ];
+    for (row, (name, wanted, value)) in rows.iter().enumerate() {
+        let found = object.find(name, wanted, Use::Any)?;
+        want_at(rt, row, found.map(|(_, symbol)| symbol.value()), *value);
+    }
     Ok(())
 }
 

@@ -1,7 +1,7 @@
 use Rattle.std.proofs.Common.{◌≡◌, ◌%◌, Some, Ok, Err, sym, subst, ◌∙◌, arith}
 use Rattle.elf_records.specs.HashNumber.{hash_number}
 use Rattle.elf_linking.specs.Find.{IsAsked, IsFound, dynamic_symbols, faulty}
-use Rattle.elf_linking.specs.VersionTables.{version_tables}
+use Rattle.elf_linking.specs.Versions.{version_list}
 use Rattle.elf_linking.specs.declared.any_table.AnyTable.TheVariants.{Sysv}
 use Rattle.elf_linking.specs.declared.error.LinkError.TheVariants.{Elf}
 use Rattle.xmas_elf.specs.HashTable.{bucket_count_of, bucket_of, chain_of, chains_of, start_of, starts}
@@ -15,12 +15,12 @@ use Rattle.elf_linking.proofs.find.search.find_in_chain.Goals as goal
 pub returns-then-bucket_count-eq0 : goal.returns-then-bucket_count-eq0
 returns-then-bucket_count-eq0 g c =
     let none : bucket_count_of c.args.table.now ≡ 0 = cc in
-    found_none _ _ _ _ (seeks_no_bucket c.args.table.now (table_symbols c.args.symbols.now) (version_tables c.args.versions.now) c.args.name.now (start_none c.args.table.now c.args.name.now none))
+    found_none _ _ _ _ (seeks_no_bucket c.args.table.now (table_symbols c.args.symbols.now) (version_list c.args.versions.now) c.args.name.now (start_none c.args.table.now c.args.name.now none))
 
 pub returns-in-Err : goal.returns-in-Err
 returns-in-Err g c =
     let symbols = table_symbols c.args.symbols.now in
-    let versions = version_tables c.args.versions.now in
+    let versions = version_list c.args.versions.now in
     let some : bucket_count_of c.args.table.now ≡ 0 → ⊥ = λ none. c.if-bucket_count-eq0.false (cc) in
     let start : start_of c.args.table.now c.args.name.now ≡ Some (bucket_of c.args.table.now (hash_number c.args.name.now % bucket_count_of c.args.table.now)) = start_some c.args.table.now c.args.name.now some in
     let hash : c.hash.result ≡ hash_number c.args.name.now = c.hash.ensures.number in
@@ -39,7 +39,7 @@ loop-index-init g c =
       in_chains = omega arith;
       starts = cc;
       steps = starts;
-      comes = comes_first _ _ _ _ _ (missed_none c.args.table.now (table_symbols c.args.symbols.now) (version_tables c.args.versions.now) c.args.name.now c.in-Ok.first);
+      comes = comes_first _ _ _ _ _ (missed_none c.args.table.now (table_symbols c.args.symbols.now) (version_list c.args.versions.now) c.args.name.now c.in-Ok.first);
     }
 
 pub returns-in-Err-check_place : goal.returns-in-Err-check_place
@@ -47,19 +47,19 @@ returns-in-Err-check_place g c =
     let loop = c.loop-index.invariant in
     found_halt _ _ _ _ _ loop.starts _ _ loop.steps _ _ _ loop.comes c.in-Err-check_place.halt (omega arith) c.in-Err-check_place.ensures
 
-pub returns-in-Err-after : goal.returns-in-Err-after
-returns-in-Err-after g c =
+pub returns-in-End : goal.returns-in-End
+returns-in-End g c =
     let loop = c.loop-index.invariant in
     let (d, stands) = c.in-Ok-check_place.ensures.0 in
-    found_here _ _ _ _ _ loop.starts _ _ loop.steps _ _ _ loop.comes d stands c.in-Err-after.answer (c.in-Err-after.ensures (Sysv c.args.table.now))
+    found_here _ _ _ _ _ loop.starts _ _ loop.steps _ _ _ loop.comes d stands c.in-End.answer (c.in-End.ensures (Sysv c.args.table.now))
 
 pub returns-in-Err-get_chain : goal.returns-in-Err-get_chain
 returns-in-Err-get_chain g c =
     let loop = c.loop-index.invariant in
     let (d, stands) = c.in-Ok-check_place.ensures.0 in
     let refuses : chain_of c.args.table.now c.loop-index.index ≡ Err c.in-Err-get_chain.error = sym c.get_chain.ensures.exact ∙ c.in-Err-get_chain.is in
-    found_break _ _ _ _ _ loop.starts _ _ loop.steps _ _ c.in-Ok-after.kept d stands c.in-Err-get_chain.error refuses
-    (goes_behind _ _ _ _ _ loop.starts _ _ loop.steps _ _ _ loop.comes d stands c.in-Ok-after.kept (c.in-Ok-after.ensures (Sysv c.args.table.now)))
+    found_break _ _ _ _ _ loop.starts _ _ loop.steps _ _ c.in-On.kept d stands c.in-Err-get_chain.error refuses
+    (goes_behind _ _ _ _ _ loop.starts _ _ loop.steps _ _ _ loop.comes d stands c.in-On.kept (c.in-On.ensures (Sysv c.args.table.now)))
 
 pub overflow_add-passed : goal.overflow_add-passed
 overflow_add-passed g c = let small = c.in-Ok-check_place.ensures.2 in omega arith
@@ -74,12 +74,12 @@ loop-index-preserved g c =
       in_chains = omega arith;
       starts = loop.starts;
       steps = comes_next (chains_of c.args.table.now (table_symbols c.args.symbols.now).items) _ _ _ _ loop.steps (record { entry = d; stands = stands; next = next });
-      comes = goes_behind _ _ _ _ _ loop.starts _ _ loop.steps _ _ _ loop.comes d stands c.in-Ok-after.kept (c.in-Ok-after.ensures (Sysv c.args.table.now));
+      comes = goes_behind _ _ _ _ _ loop.starts _ _ loop.steps _ _ _ loop.comes d stands c.in-On.kept (c.in-On.ensures (Sysv c.args.table.now));
     }
 
 pub returns : goal.returns
 returns g c =
     let loop = c.loop-index.invariant in
-    let file = dynamic_symbols (Sysv c.args.table.now) (table_symbols c.args.symbols.now) (version_tables c.args.versions.now) in
+    let file = dynamic_symbols (Sysv c.args.table.now) (table_symbols c.args.symbols.now) (version_list c.args.versions.now) in
     subst (λ found. IsFound file c.args.name.now c.args.wanted.now c.args.use_ (Ok found)) (sym c.alone.ensures)
     (found_last _ _ _ _ _ loop.starts _ _ loop.steps _ _ _ loop.comes c.loop-index-test.false)

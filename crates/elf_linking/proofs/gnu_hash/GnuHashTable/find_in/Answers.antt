@@ -3,7 +3,7 @@ use Rattle.elf_linking.specs.Find.{IsFound, dynamic_symbols, faulty}
 use Rattle.elf_linking.specs.GnuHash.{EndsRun, HasChain, IsThere, Run, chain_of, chain_word, no_run, no_symbol, start_of, symbol_end, too_early}
 use Rattle.elf_linking.specs.Kept.{GoesOn}
 use Rattle.elf_linking.specs.Layouts.{gnu_hash_number}
-use Rattle.elf_linking.specs.VersionTables.{version_tables}
+use Rattle.elf_linking.specs.Versions.{version_list}
 use Rattle.elf_linking.specs.declared.any_table.AnyTable.TheVariants.{Gnu}
 use Rattle.elf_linking.specs.declared.error.LinkError.TheVariants.{ChainIndex, SymbolIndex}
 use Rattle.elf_linking.specs.declared.find.kept.Kept.TheVariants.{Nothing}
@@ -13,7 +13,7 @@ use Rattle.elf_linking.proofs.Kept.{Comes, comes_first, found_none}
 use Rattle.elf_linking.proofs.Runs.{run_first, run_next}
 use Rattle.elf_linking.proofs.Words.{chain_refused}
 use Rattle.elf_linking.proofs.gnu_hash.GnuHashTable.find_in.Goals as goal
-use Rattle.elf_linking.proofs.gnu_hash.GnuHashTable.find_in.Goals.{then-word-hash+in-Ok-after, else-word-hash}
+use Rattle.elf_linking.proofs.gnu_hash.GnuHashTable.find_in.Goals.{then-word-hash+in-On, else-word-hash}
 
 pub returns-in_default : goal.returns-in_default
 returns-in_default g c =
@@ -28,7 +28,7 @@ returns-then-from-first_symbol g c =
 pub loop-index-init : goal.loop-index-init
 loop-index-init g c =
     let symbols = table_symbols c.args.symbols.now in
-    let versions = version_tables c.args.versions.now in
+    let versions = version_list c.args.versions.now in
     let same : c.in-Some.from ≡ c.from-index.result = omega arith in
     record {
       run = subst (λ i. Run c.args.self.now (table_symbols c.args.symbols.now).items c.in-Some.from i) same (run_first c.args.self.now (table_symbols c.args.symbols.now).items c.in-Some.from);
@@ -46,15 +46,15 @@ returns-in-Err g c =
     found_fault _ _ _ _ _ starts (omega arith) _ c.loop-index.invariant.run _ _ _ c.loop-index.invariant.comes c.in-Err.error
     (chain_refused c.args.self.now items c.loop-index.index c.in-Err.error below (omega arith) refuses)
 
-pub returns-in-Err-after : goal.returns-in-Err-after
-returns-in-Err-after g c =
+pub returns-in-End : goal.returns-in-End
+returns-in-End g c =
     let starts : start_of c.args.self.now c.args.name.now ≡ Some c.in-Some.from = cc in
     let word : HasChain c.args.self.now c.loop-index.index = c.in-Ok.ensures.readable.0 refl in
     let there : IsThere c.args.self.now (table_symbols c.args.symbols.now).items c.loop-index.index = record { symbol = omega arith; word = word } in
     let same : c.in-Ok.word ≡ chain_word c.args.self.now c.loop-index.index = c.in-Ok.ensures.value in
     let hash : c.args.hash ≡ gnu_hash_number c.args.name.now = c.requires in
     let agrees : chain_word c.args.self.now c.loop-index.index / 2 ≡ gnu_hash_number c.args.name.now / 2 = cc in
-    found_here _ _ _ _ _ starts (omega arith) _ c.loop-index.invariant.run _ _ _ c.loop-index.invariant.comes there agrees c.in-Err-after.answer (c.in-Err-after.ensures (Gnu c.args.self.now))
+    found_here _ _ _ _ _ starts (omega arith) _ c.loop-index.invariant.run _ _ _ c.loop-index.invariant.comes there agrees c.in-End.answer (c.in-End.ensures (Gnu c.args.self.now))
 
 pub returns-then-word-eq1 : goal.returns-then-word-eq1
 returns-then-word-eq1 g c =
@@ -64,9 +64,9 @@ returns-then-word-eq1 g c =
     let same : c.in-Ok.word ≡ chain_word c.args.self.now c.loop-index.index = c.in-Ok.ensures.value in
     let hash : c.args.hash ≡ gnu_hash_number c.args.name.now = c.requires in
     let loop = c.loop-index.invariant in
-    let file = dynamic_symbols (Gnu c.args.self.now) (table_symbols c.args.symbols.now) (version_tables c.args.versions.now) in
+    let file = dynamic_symbols (Gnu c.args.self.now) (table_symbols c.args.symbols.now) (version_list c.args.versions.now) in
     let behind = goes_by c.args.self.now file.symbols file.versions _ _ starts (omega arith) _ loop.run _ _ _ loop.comes there c.in-Ok.word c.args.hash same hash c.if-word-hash.kept (elim c.if-word-hash.branch [
-      | then-word-hash+in-Ok-after w ↦ inl (w.if-word-hash.true, subst (GoesOn file c.args.name.now c.args.wanted.now c.args.use_ c.loop-index.kept c.loop-index.index) (sym w.kept-is) (w.in-Ok-after.ensures (Gnu c.args.self.now)))
+      | then-word-hash+in-On w ↦ inl (w.if-word-hash.true, subst (GoesOn file c.args.name.now c.args.wanted.now c.args.use_ c.loop-index.kept c.loop-index.index) (sym w.kept-is) (w.in-On.ensures (Gnu c.args.self.now)))
       | else-word-hash w ↦ inr (w.if-word-hash.false, w.kept-is)
     ]) in
     let ends : EndsRun c.args.self.now c.loop-index.index = subst (λ w. w % 2 ≡ 1) same c.if-word-eq1.true in
@@ -81,9 +81,9 @@ loop-index-preserved g c =
     let same : c.in-Ok.word ≡ chain_word c.args.self.now c.loop-index.index = c.in-Ok.ensures.value in
     let hash : c.args.hash ≡ gnu_hash_number c.args.name.now = c.requires in
     let loop = c.loop-index.invariant in
-    let file = dynamic_symbols (Gnu c.args.self.now) (table_symbols c.args.symbols.now) (version_tables c.args.versions.now) in
+    let file = dynamic_symbols (Gnu c.args.self.now) (table_symbols c.args.symbols.now) (version_list c.args.versions.now) in
     let behind = goes_by c.args.self.now file.symbols file.versions _ _ starts (omega arith) _ loop.run _ _ _ loop.comes there c.in-Ok.word c.args.hash same hash c.if-word-hash.kept (elim c.if-word-hash.branch [
-      | then-word-hash+in-Ok-after w ↦ inl (w.if-word-hash.true, subst (GoesOn file c.args.name.now c.args.wanted.now c.args.use_ c.loop-index.kept c.loop-index.index) (sym w.kept-is) (w.in-Ok-after.ensures (Gnu c.args.self.now)))
+      | then-word-hash+in-On w ↦ inl (w.if-word-hash.true, subst (GoesOn file c.args.name.now c.args.wanted.now c.args.use_ c.loop-index.kept c.loop-index.index) (sym w.kept-is) (w.in-On.ensures (Gnu c.args.self.now)))
       | else-word-hash w ↦ inr (w.if-word-hash.false, w.kept-is)
     ]) in
     record {

@@ -1,6 +1,6 @@
 use Rattle.std.proofs.Common.{◌≡◌}
-use Rattle.elf_linking.specs.VersionTables.{definitions_in, definitions_left, version_tables}
-use Rattle.elf_linking.specs.Versions.{name_error}
+use Rattle.elf_linking.specs.VersionTables.{definitions_in, definitions_left}
+use Rattle.elf_linking.specs.Versions.{version_tables, name_error}
 use Rattle.elf_linking.proofs.versions.Versions.check_definitions.Given as goal
 
 -- the check of the remaining definitions has the result of that of all

@@ -1,6 +1,6 @@
 use Rattle.std.proofs.Common.{◌≡◌}
-use Rattle.elf_linking.specs.VersionTables.{definitions_in, definitions_left, version_tables}
-use Rattle.elf_linking.specs.Versions.{bears_defined, first_item}
+use Rattle.elf_linking.specs.VersionTables.{definitions_in, definitions_left}
+use Rattle.elf_linking.specs.Versions.{version_tables, bears_defined, first_item}
 use Rattle.elf_linking.proofs.versions.Versions.definition_listed.Given as goal
 
 -- a search of the remaining definitions has the result of a search of all

@@ -1,6 +1,6 @@
 use Rattle.std.proofs.Common.{◌≡◌}
-use Rattle.elf_linking.specs.VersionTables.{needs_in, needs_left, version_tables}
-use Rattle.elf_linking.specs.Versions.{bears_needed, first_item}
+use Rattle.elf_linking.specs.VersionTables.{needs_in, needs_left}
+use Rattle.elf_linking.specs.Versions.{version_tables, bears_needed, first_item}
 use Rattle.elf_linking.proofs.versions.Versions.need_with.Given as goal
 
 -- a search of the remaining needs has the result of a search of all

@@ -53,5 +53,5 @@ clear-requires-clause-within c =
 pub returns-clause-bytes : goal.returns-clause-bytes
 returns-clause-bytes c = λ i.
     let plan = c.args.self.now in
-    let filled = load_filled plan.page plan.limit c.args.by c.args.load.now plan.file.input.now c.args.base i plan.paged c.requires.fits c.requires.begins _ (λ holds. c.requires.zeros i holds) in
+    let filled = load_filled plan.page plan.limit c.args.by c.args.load.now plan.input.now c.args.base i plan.paged c.requires.fits c.requires.begins _ (λ holds. c.requires.zeros i holds) in
     c.clear.ensures.bytes i ∙ rw (c.copy_file.ensures.bytes i, c.down.ensures, c.down-offset.ensures, c.mapped_end.ensures, c.zeroed_end.ensures) filled

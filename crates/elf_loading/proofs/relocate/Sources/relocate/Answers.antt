@@ -13,5 +13,5 @@ returns-in-Ok g c =
     let there : slice_get (scope_objects c.args.scope).now c.args.self.now.of ≡ Some own = ap (λ lent. slice_get lent.now c.args.self.now.of) c.requires.scope ∙ c.requires.own in
     let are : words_of (Some own) ≡ Ok (words_left c.in-Ok.words) = ap words_of (sym there) ∙ c.in-Ok.ensures.exact in
     let writing = rw (c.binds_lazily.ensures, c.view.ensures) at c.write_words.ensures in
-    is_written g.E.Entry.fields c.args.self.now own (binds_lazily (view_entries (object_view own)) c.args.when) c.args.image.now c.write_words.new.image c.write_words.result (words_left c.in-Ok.words)
+    is_written g.E.Entry.fields c.args.self.now own c.args.plan.now (binds_lazily (view_entries (object_view own)) c.args.when) c.args.image.now c.write_words.new.image c.write_words.result (words_left c.in-Ok.words)
     (search rules) are writing

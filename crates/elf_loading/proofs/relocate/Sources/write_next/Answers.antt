@@ -2,7 +2,8 @@ use Rattle.std.proofs.Common.{◌≡◌, ℕ, ◌+◌, Some, Ok, slice_index, re
 use Rattle.std.specs.Prelude.{IfOk}
 use Rattle.elf_linking.specs.DynamicObject.{object_file}
 use Rattle.elf_linking.specs.References.{file_machine}
-use Rattle.elf_loading.specs.RelativeWords.{relative_of, relative_word}
+use Rattle.elf_linking.specs.RelocationTypes.{relative_of}
+use Rattle.elf_loading.specs.RelativeWords.{relative_word}
 use Rattle.elf_loading.specs.Relocate.{word_byte}
 use Rattle.elf_loading.specs.WordsLeft.{words_file, words_lazy, words_own}
 use Rattle.elf_loading.proofs.RelativeWords.{relative_written}

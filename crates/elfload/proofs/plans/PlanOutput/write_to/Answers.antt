@@ -1,4 +1,4 @@
-use Rattle.elfload.proofs.Inputs.{of_header}
+use Rattle.linking_programs.proofs.Objects.{of_header}
 use Rattle.elfload.specs.Plans.{IsFilePlan, IsFileRefused, IsLoaded, no_file, no_header}
 use Rattle.elfload.proofs.plans.PlanOutput.write_to.Goals as goal
 use Rattle.program_ends.proofs.Ends.{ends_so}

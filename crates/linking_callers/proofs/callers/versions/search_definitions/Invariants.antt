@@ -1,6 +1,6 @@
 use Rattle.std.proofs.Common.{◌≡◌}
-use Rattle.elf_linking.specs.VersionTables.{definitions_in, definitions_left, version_tables}
-use Rattle.elf_linking.specs.Versions.{first_item}
+use Rattle.elf_linking.specs.VersionTables.{definitions_in, definitions_left}
+use Rattle.elf_linking.specs.Versions.{version_tables, first_item}
 use Rattle.linking_callers.specs.VersionNames.{defines}
 use Rattle.linking_callers.proofs.callers.versions.search_definitions.Given as goal
 

@@ -1,7 +1,8 @@
 use Rattle.std.proofs.Common.{◌≡◌, None, Some, Ok, Err, true, false, sym, ap, subst, ◌∙◌, slice_get}
 use Rattle.elf_linking.specs.Find.{IsCandidate, accepted, dynamic_symbols}
 use Rattle.elf_linking.specs.Kept.{GoesOn, keeps, passed}
-use Rattle.elf_linking.specs.VersionTables.{result_map, version_tables}
+use Rattle.elf_linking.specs.VersionTables.{result_map}
+use Rattle.elf_linking.specs.Versions.{version_list}
 use Rattle.xmas_elf.specs.SymbolTable.{table_symbols}
 use Rattle.elf_linking.proofs.find.kept.Kept.after.Goals as goal
 
@@ -12,7 +13,7 @@ returns-in_default g c = λ table.
 
 pub returns-then-not-is_candidate : goal.returns-then-not-is_candidate
 returns-then-not-is_candidate g c = λ table.
-    let versions = version_tables c.args.versions.now in
+    let versions = version_list c.args.versions.now in
     let file = dynamic_symbols table (table_symbols c.args.symbols.now) versions in
     let symbol : slice_get file.symbols.items c.args.index ≡ Some c.in-Some.symbol = sym c.get.ensures ∙ c.in-Some.is in
     let lacks : IsCandidate file c.args.name.now c.args.use_ c.in-Some.symbol → c.is_candidate.result ≡ true = (c.is_candidate.ensures table versions).1 in
@@ -23,7 +24,7 @@ returns-then-not-is_candidate g c = λ table.
 
 pub returns-in-Ok-true : goal.returns-in-Ok-true
 returns-in-Ok-true g c = λ table.
-    let versions = version_tables c.args.versions.now in
+    let versions = version_list c.args.versions.now in
     let is : accepted versions c.args.wanted.now c.args.index ≡ Ok true = sym c.accepts.ensures.exact ∙ c.in-Ok-true.is ∙ ap (λ b. Ok b) c.in-Ok-true.field-0-test in
     record {
       entry = c.in-Some.symbol;
@@ -34,7 +35,7 @@ returns-in-Ok-true g c = λ table.
 
 pub returns-then-is_shown : goal.returns-then-is_shown
 returns-then-is_shown g c = λ table.
-    let versions = version_tables c.args.versions.now in
+    let versions = version_list c.args.versions.now in
     let file = dynamic_symbols table (table_symbols c.args.symbols.now) versions in
     let is : accepted versions c.args.wanted.now c.args.index ≡ Ok false = sym c.accepts.ensures.exact ∙ c.in-Ok-false.is ∙ ap (λ b. Ok b) c.in-Ok-false.field-0-test in
     let candidate = (c.is_candidate.ensures table versions).0 c.if-not-is_candidate.false in
@@ -44,13 +45,13 @@ returns-then-is_shown g c = λ table.
 
 pub returns-else-is_shown : goal.returns-else-is_shown
 returns-else-is_shown g c = λ table.
-    let is : accepted (version_tables c.args.versions.now) c.args.wanted.now c.args.index ≡ Ok false = sym c.accepts.ensures.exact ∙ c.in-Ok-false.is ∙ ap (λ b. Ok b) c.in-Ok-false.field-0-test in
+    let is : accepted (version_list c.args.versions.now) c.args.wanted.now c.args.index ≡ Ok false = sym c.accepts.ensures.exact ∙ c.in-Ok-false.is ∙ ap (λ b. Ok b) c.in-Ok-false.field-0-test in
     let hidden = c.if-is_shown.false in
     passed (λ e at. (λ asked. asked.1 is, λ shown. (let so = c.is_shown.ensures.1 (shown.1.0, shown.1.1.0) in cc)))
 
 pub returns-in-Err : goal.returns-in-Err
 returns-in-Err g c = λ table.
-    let versions = version_tables c.args.versions.now in
+    let versions = version_list c.args.versions.now in
     let is : accepted versions c.args.wanted.now c.args.index ≡ Err c.in-Err.error = sym c.accepts.ensures.exact ∙ c.in-Err.is in
     record {
       entry = c.in-Some.symbol;

@@ -1,0 +1,315 @@
+-- The result of the relocation of a checked image, by the lists of its object.
+use Rattle.std.proofs.Common.{◌≡◌, ℕ, zero, suc, ◌-◌, ◌^◌, ◌==◌, ◌&&◌, ◌||◌, ◌++◌, not, is_none, min, Bool, true, false, List, [], ◌∷◌, length, map, slice_get, Option, None, Some, Result, Ok, Err, IsOk, if◌then◌else◌, cond, refl, sym, ap, ◌∙◌, subst, append-nil, arith}
+use Rattle.std.proofs.lemmas.List.{length-map}
+use Rattle.std.proofs.lemmas.List.Elements.{All-head, All-tail}
+use Rattle.std.specs.Borrow.{Bor}
+use Rattle.std.specs.List.{Contains, count_by}
+use Rattle.std.specs.Prelude.{All, MatchResult, filter_map, option_and_then, option_map, unwrap_or}
+use Rattle.std.specs.Result.{result_ok}
+use base.SetCodes.{SetCoded-set, coded}
+use base.Stored.{Coded}
+use mathlib.Core.Logic.{∥∥₁_elim}
+use Rattle.std.specs.Coded.{codes}
+use Rattle.elf_base.specs.Refusal.{and_then, unless}
+use Rattle.elf_base.specs.Table.{table_items}
+use Rattle.elf_linking.specs.CheckedScope.{bound_fields, bound_in}
+use Rattle.elf_linking.specs.DynamicObject.{object_dynamic_symbols, object_file, object_records}
+use Rattle.elf_linking.specs.Exports.{SymbolParts, object_parts, symbol_parts}
+use Rattle.elf_linking.specs.References.{file_machine}
+use Rattle.elf_linking.specs.RelocationTypes.{row_of}
+use Rattle.elf_linking.specs.declared.error.LinkError.{LinkError}
+use Rattle.elf_linking.specs.declared.object.DynamicObject.{DynamicObject}
+use Rattle.elf_linking.specs.declared.references.Reference.{Reference}
+use Rattle.elf_linking.specs.declared.references.types.Formula.{Formula}
+use Rattle.elf_linking.specs.declared.scope.Bound.{Bound}
+use Rattle.elf_linking.proofs.lemmas.CheckedBound.{own_symbols}
+use Rattle.elf_loading.specs.CheckedImage.{ImageParts, IsCheckedImage, fault_of, first_or, image_parts, image_result, image_words, is_fault, is_missing, is_size_wrong, is_without_source, load_error, with_addend}
+use Rattle.elf_loading.specs.ImageWords.{words_in}
+use Rattle.elf_loading.specs.Plan.{plan_size, plan_span}
+use Rattle.elf_loading.specs.Relocate.{IsRelocation, IsRelocationIn, IsWriting, all, has_no_number, image_in, is_absent, is_copy_outside, is_outside, is_unresolved, is_weak, is_wrong_size, lacks_number, sized_relocations, some, sources_of, start_at, write_item}
+use Rattle.elf_loading.specs.Words.{HasWord, IsBoundIf, addend_of, and_link, formula_word, own_size, symbol_in, value_word}
+use Rattle.elf_loading.specs.WordsLeft.{relocation_of, words_of}
+use Rattle.elf_loading.specs.declared.checked.image.ImageError.{ImageError}
+use Rattle.elf_loading.specs.declared.checked.image.ImageError.TheVariants as faults
+use Rattle.elf_loading.specs.declared.error.LoadError.{LoadError}
+use Rattle.elf_loading.specs.declared.error.LoadError.TheVariants as error
+use Rattle.elf_loading.specs.declared.in_order.Relocation.{Relocation}
+use Rattle.elf_loading.specs.declared.plan.LoadPlan.{LoadPlan}
+use Rattle.elf_loading.specs.declared.relocate.Place.{Place}
+use Rattle.elf_loading.specs.declared.relocate.Sources.{Sources}
+use Rattle.elf_loading.specs.declared.value.Value.{Value}
+use Rattle.elf_loading.specs.declared.value.Value.TheVariants as values
+use Rattle.elf_loading.specs.declared.words.Binding.TheVariants.{Now}
+use Rattle.elf_loading.specs.declared.words.Relocated.{Relocated}
+use Rattle.elf_loading.specs.declared.words.Word.{Word}
+use Rattle.elf_loading.proofs.CheckedWords.{count_first, word_once}
+use Rattle.elf_loading.proofs.CheckedImages.{image_words_are, item_word, same_words, start_is, symbol_is}
+use Rattle.elf_loading.proofs.ErrorsLeft.{at_place, inside}
+use Rattle.xmas_elf.specs.Symbol.{SymbolFields}
+
+-- a result with such an error
+abbrev pub as_load : Result ℕ ImageError → Result ℕ LoadError
+as_load (Ok count) = Ok count
+as_load (Err fault) = Err (load_error fault)
+
+-- what a word writes, or its fault
+abbrev or_fault : Option ImageError → Bool → Result Bool LoadError
+or_fault None lacks = Ok lacks
+or_fault (Some fault) lacks = Err (load_error fault)
+
+pub no_fault : (fault : Option ImageError) (lacks : Bool) → IsOk (or_fault fault lacks) → fault ≡ None
+no_fault None lacks ok = refl
+no_fault (Some fault) lacks ok = absurd (cc)
+
+pub its_fault : (fault : Option ImageError) (lacks : Bool) (reason : LoadError) → or_fault fault lacks ≡ Err reason → (found : ImageError) × (fault ≡ Some found) × (load_error found ≡ reason)
+its_fault None lacks reason is = absurd (cc)
+its_fault (Some found) lacks reason is = (found, refl, cc)
+
+by_tests : (unresolved outside copied lacks : Bool) → outside ≡ false
+    → ◌≡◌ {A = Result Bool LoadError} (if unresolved then Err error.Unresolved else unless ((outside, error.WordAddress) ∷ (copied, error.CopySource) ∷ []) lacks)
+    (or_fault (if unresolved then Some faults.Unresolved else (if copied then Some faults.CopySource else None)) lacks)
+by_tests true outside copied lacks inside_is = refl
+by_tests false true copied lacks inside_is = absurd (cc)
+by_tests false false true lacks inside_is = refl
+by_tests false false false lacks inside_is = refl
+
+and_false : (one : Bool) → (one && false) ≡ false
+and_false true = refl
+and_false false = refl
+
+module _ {E : Type 0} {r : _} (fields : E → SymbolFields) (objects : Bor (List (DynamicObject E r))) (plans : Bor (List LoadPlan)) (index : ℕ) (own : DynamicObject E r) (plan : LoadPlan) (places : Bor (List Place)) (images : Bor (List (Bor (List ℕ)))) where
+  abbrev lists : ImageParts
+  lists = image_parts fields objects.now plans.now index own plan
+
+  abbrev sources : Sources E r
+  sources = sources_of objects plans index places images own
+
+  abbrev Worded : Relocated E → Type 0
+  Worded item = HasWord fields objects.now (object_file own) own index false item
+
+  start : (object : ℕ) → start_at sources object ≡ unwrap_or (slice_get lists.starts object) 0
+  start object = start_is fields objects plans index own plan places images object
+
+  copied_is : (width : ℕ) (value : Value) → is_copy_outside sources width value ≡ is_without_source lists images.now width value
+  copied_is width (values.Copy object offset size) = ap (λ s. is_outside s (length (image_in (slice_get images.now object))) offset width) (start object)
+  copied_is width values.Unchanged = refl
+  copied_is width (values.Sum origin offset) = refl
+  copied_is width (values.Distance origin offset) = refl
+  copied_is width (values.Module object) = refl
+  copied_is width (values.Thread object offset) = refl
+  copied_is width (values.ThreadNegated object offset) = refl
+  copied_is width (values.Descriptor object offset) = refl
+
+  weak_by : (symbol : ℕ) (found : Option E) → is_weak fields found ≡ is_weak (λ (s : SymbolParts). s.fields) (option_map (symbol_parts (object_dynamic_symbols fields own) symbol) found)
+  weak_by symbol None = refl
+  weak_by symbol (Some one) = refl
+
+  weak_is : (symbol : ℕ) → is_weak fields (slice_get (table_items (object_records own)) symbol) ≡ is_weak (λ (s : SymbolParts). s.fields) (slice_get lists.own.symbols symbol)
+  weak_is symbol = weak_by symbol (slice_get (table_items (object_records own)) symbol) ∙ ap (is_weak (λ (s : SymbolParts). s.fields)) (sym (own_symbols fields own symbol))
+
+  module _ (law : IsCheckedImage fields objects.now plans.now index own plan) where
+    absent_by : (symbol : Option (Bound E)) (known : Option (Bound SymbolFields)) → bound_fields fields symbol ≡ known → is_absent {E = E} (Ok symbol) ≡ is_none known
+    absent_by None None is = refl
+    absent_by None (Some bound) is = absurd (cc)
+    absent_by (Some symbol) None is = absurd (cc)
+    absent_by (Some symbol) (Some bound) is = refl
+
+    -- a relocation lacks its symbol
+    missing_by : (takes weak : Bool) (reference : Reference) (bound : Result (Option (Bound E)) LinkError) → IsOk bound → IsBoundIf takes fields objects.now index reference bound
+        → (is_absent bound && takes && not weak) ≡ (is_none (bound_in lists.objects index reference) && takes && not weak)
+    missing_by true weak reference (Err e) ok is = absurd (cc)
+    missing_by true weak reference (Ok symbol) ok is =
+        ap (λ b. b && true && not weak) (absent_by symbol (bound_in lists.objects index reference) (symbol_is fields objects.now plans.now index own plan law true reference symbol is))
+    missing_by false weak reference bound ok is =
+        ap (λ b. b && not weak) (and_false (is_absent bound) ∙ sym (and_false (is_none (bound_in lists.objects index reference))))
+
+    -- a known word has a symbol that is known
+    bound_ok : (item : Relocated E) (word : Word) → Worded item → item.word ≡ Ok word → IsOk item.bound
+    bound_ok item word (bound, word_is) known =
+        let reference = item.relocation.reference in
+        by_formula (row_of (file_machine (object_file own)) reference.kind).formula item.bound (sym word_is ∙ known)
+      where
+        by_parts : (formula : Formula) (said : Result ℕ LinkError) (found : Result (Option (Bound E)) LinkError)
+            → and_link said (λ addend. and_link found (λ symbol. Ok (value_word fields (record {
+              own = index;
+              address = item.relocation.reference.offset;
+              addend = addend;
+              size = own_size fields own item.relocation.reference.symbol;
+              width = (row_of (file_machine (object_file own)) item.relocation.reference.kind).width;
+            }) symbol formula))) ≡ Ok word → IsOk found
+        by_parts formula (Err e) found is = absurd (cc)
+        by_parts formula (Ok addend) (Err e) is = absurd (cc)
+        by_parts formula (Ok addend) (Ok symbol) is = refl
+
+        by_formula : (formula : Option Formula) (found : Result (Option (Bound E)) LinkError)
+            → formula_word fields (object_file own) own index (item.relocation.in_place || false) item.relocation.reference found formula ≡ Ok word → IsOk found
+        by_formula None found is = absurd (cc)
+        by_formula (Some formula) found is = by_parts formula (addend_of (object_file own) (item.relocation.in_place || false) formula item.relocation.reference) found is
+
+    missing_is : (item : Relocated E) (word : Word) → Worded item → item.word ≡ Ok word → is_unresolved fields own false item ≡ is_missing lists (with_addend own item.relocation)
+    missing_is item word has known =
+        let reference = item.relocation.reference in
+        let takes = symbol_in (row_of (file_machine (object_file own)) reference.kind).formula in
+        ap (λ weak. is_absent item.bound && takes && not weak) (weak_is reference.symbol)
+        ∙ missing_by takes (is_weak (λ (s : SymbolParts). s.fields) (slice_get lists.own.symbols reference.symbol)) reference item.bound (bound_ok item word has known) has.0
+
+    module _ (len : ℕ) where
+      -- what an item writes, by the lists
+      pub item_result : (item : Relocated E) (word : Word) → Worded item → item.word ≡ Ok word → is_outside (start_at sources index) len word.address word.width ≡ false
+          → write_item fields sources own false len item ≡ or_fault (fault_of lists images.now (with_addend own item.relocation)) (has_no_number word.value)
+      item_result item word has known inside_is =
+          let outside = is_outside (start_at sources index) len word.address word.width in
+          let missing = is_missing lists (with_addend own item.relocation) in
+          let step : Result Word LoadError → Result Bool LoadError = λ some_word. and_then some_word (λ w. if is_unresolved fields own false item then Err error.Unresolved
+          else unless ((is_outside (start_at sources index) len w.address w.width, error.WordAddress) ∷ (is_copy_outside sources w.width w.value, error.CopySource) ∷ []) (has_no_number w.value)) in
+          let word_is = item_word fields objects.now plans.now index own plan law item word has known in
+          let by_word : Option Word → Bool → Option ImageError = λ found missing. if missing then Some faults.Unresolved
+          else option_and_then (λ w. if is_without_source lists images.now w.width w.value then Some faults.CopySource else None) found in
+          ap step known
+          ∙ by_tests (is_unresolved fields own false item) outside (is_copy_outside sources word.width word.value) (has_no_number word.value) inside_is
+          ∙ ap (λ b. or_fault (if b then Some faults.Unresolved else (if is_copy_outside sources word.width word.value then Some faults.CopySource else None)) (has_no_number word.value)) (missing_is item word has known)
+          ∙ ap (λ b. or_fault (if missing then Some faults.Unresolved else (if b then Some faults.CopySource else None)) (has_no_number word.value)) (copied_is word.width word.value)
+          ∙ ap (λ found. or_fault (by_word found missing) (has_no_number word.value)) (sym word_is)
+
+      abbrev Written : Relocated E → Type 0
+      Written item = IsOk (write_item fields sources own false len item)
+
+      abbrev fault_for : Relocation → Option ImageError
+      fault_for relocation = fault_of lists images.now (with_addend own relocation)
+
+      abbrev faults_in : List Relocation → List ImageError
+      faults_in relocations = filter_map (fault_of lists images.now) (map (with_addend own) relocations)
+
+      none_first : (relocation : Relocation) (rest : List Relocation) → fault_for relocation ≡ None → faults_in (relocation ∷ rest) ≡ faults_in rest
+      none_first relocation rest none = rw none refl
+
+      some_first : (relocation : Relocation) (rest : List Relocation) (fault : ImageError) → fault_for relocation ≡ Some fault → faults_in (relocation ∷ rest) ≡ fault ∷ faults_in rest
+      some_first relocation rest fault some_is = rw some_is refl
+
+      -- relocations whose words are written have no fault
+      past : (items : List (Relocated E)) (rest : List Relocation) (checked : List (Relocated E)) (words : List Word) → map relocation_of checked ≡ map relocation_of items ++ rest
+          → words_in checked ≡ map (λ word. Ok word) words → All Worded checked → All Worded items → ((w : Word) → Contains words w → is_outside (start_at sources index) len w.address w.width ≡ false)
+          → All Written items → faults_in (map relocation_of items ++ rest) ≡ faults_in rest
+      past [] rest checked words same known also has held written = refl
+      past (item ∷ items) rest [] words same known also has held written = absurd (cc)
+      past (item ∷ items) rest (one ∷ checked) [] same known also has held written = absurd (cc)
+      past (item ∷ items) rest (one ∷ checked) (word ∷ words) same known also has held written =
+          let first : item.relocation ≡ one.relocation = cc in
+          let others : map relocation_of checked ≡ map relocation_of items ++ rest = cc in
+          let word_is : one.word ≡ Ok word = cc in
+          let words_are : words_in checked ≡ map (λ some. Ok some) words = cc in
+          let has_first = All-head Worded item items has in
+          let also_first = subst (λ rel. HasWord fields objects.now (object_file own) own index false (record { relocation = rel; bound = one.bound; word = one.word })) (sym first) (All-head Worded one checked also) in
+          let known_is : item.word ≡ Ok word = word_once fields objects.now own index false item.relocation item.bound one.bound item.word one.word has_first also_first ∙ word_is in
+          let result = item_result item word has_first known_is (held word (zero, omega arith, refl)) in
+          let none = no_fault (fault_for item.relocation) (has_no_number word.value) (subst (λ result. IsOk result) result (All-head Written item items written)) in
+          let held_rest : (w : Word) → Contains words w → is_outside (start_at sources index) len w.address w.width ≡ false = λ w in_rest. let (k, below, is) = in_rest in held w (suc k, omega (arith, below), is) in
+          none_first item.relocation (map relocation_of items ++ rest) none
+          ∙ past items rest checked words others words_are (All-tail Worded one checked also) (All-tail Worded item items has) held_rest (All-tail Written item items written)
+
+    counted_by : (items : List (Relocated E)) (words : List Word) → words_in items ≡ map (λ word. Ok word) words
+        → count_by (λ item. lacks_number item.word) items ≡ count_by (λ word. has_no_number word.value) words
+    counted_by [] [] are = refl
+    counted_by [] (word ∷ words) are = absurd (cc)
+    counted_by (item ∷ items) [] are = absurd (cc)
+    counted_by (item ∷ items) (word ∷ words) are =
+        let first : item.word ≡ Ok word = cc in
+        let rest : words_in items ≡ map (λ some. Ok some) words = cc in
+        let lacks : lacks_number item.word ≡ has_no_number word.value = ap lacks_number first in
+        let one = count_first (λ (item : Relocated E). lacks_number item.word) item items in
+        let other = count_first (λ (word : Word). has_no_number word.value) word words in
+        let same : ◌≡◌ {A = ℕ} (cond (lacks_number item.word) 1 0) (cond (has_no_number word.value) 1 0) = ap (λ b. cond b 1 0) lacks in
+        let more = counted_by items words rest in
+        omega (arith, one, other, same, more)
+
+    module _ (before after : List ℕ) (right : is_wrong_size sources plan (length before) ≡ false) where
+      abbrev count_of : List Word → ℕ
+      count_of words = min (count_by (λ word. has_no_number word.value) words) (2 ^ 64 - 1)
+
+      references_are : (relocations : List Relocation) → words_of (Some own) ≡ Ok relocations → filter_map (fault_of lists images.now) lists.references ≡ faults_in (length before) relocations
+      references_are relocations are = ap (λ said. filter_map (fault_of lists images.now) (map (with_addend own) (unwrap_or (result_ok said) []))) are
+
+      held : (word : Word) → Contains law.apart.words word → is_outside (start_at sources index) (length before) word.address word.width ≡ false
+      held word has = inside fields sources own plan before after law.plan_is law.apart right word has
+
+      by_ok : {A B : Type 0} {x y : A} → ◌≡◌ {A = Result A B} (Ok x) (Ok y) → x ≡ y
+      by_ok is = cc
+
+      written_is : (relocations : List Relocation) (result : Result ℕ LoadError) → words_of (Some own) ≡ Ok relocations → IsWriting fields sources own false relocations before after result
+          → result ≡ as_load (first_or (filter_map (fault_of lists images.now) lists.references) (count_of (image_words lists)))
+      written_is relocations result are (all items count is written done) =
+          let same : map relocation_of law.apart.items ≡ map relocation_of items ++ [] = by_ok (sym law.apart.relocations_are ∙ are) ∙ is ∙ sym (append-nil (map relocation_of items)) in
+          let none : faults_in (length before) (map relocation_of items ++ []) ≡ [] =
+          past (length before) items [] law.apart.items law.apart.words same law.apart.words_are law.apart.have_words written.have_words held written.can_be in
+          let faults_are : filter_map (fault_of lists images.now) lists.references ≡ [] =
+          references_are relocations are ∙ ap (faults_in (length before)) (is ∙ sym (append-nil (map relocation_of items))) ∙ none in
+          let words = same_words fields objects.now plans.now index own plan items law.apart.items (sym (same ∙ append-nil (map relocation_of items))) written.have_words law.apart.have_words ∙ law.apart.words_are in
+          let count_is : count ≡ count_of (image_words lists) = written.counted ∙ ap (λ n. min n (2 ^ 64 - 1)) (counted_by items law.apart.words words)
+          ∙ ap count_of (sym (image_words_are fields objects.now plans.now index own plan law)) in
+          done ∙ ap (λ n. Ok n) count_is ∙ ap (λ all_faults. as_load (first_or all_faults (count_of (image_words lists)))) (sym faults_are)
+      written_is relocations result are (some items count item rest why is written has can_not stopped) =
+          let same : map relocation_of law.apart.items ≡ map relocation_of items ++ (item.relocation ∷ rest) = by_ok (sym law.apart.relocations_are ∙ are) ∙ is in
+          let found = at_place fields sources own plan before after law.plan_is (map relocation_of items) item.relocation rest law.apart.items law.apart.words same law.apart.words_are law.apart.have_words in
+          let word_is : item.word ≡ Ok found.word = word_once fields objects.now own index false item.relocation item.bound found.one.bound item.word found.one.word has
+          (subst (λ rel. HasWord fields objects.now (object_file own) own index false (record { relocation = rel; bound = found.one.bound; word = found.one.word })) found.same found.has) ∙ found.known in
+          let result_is = item_result (length before) item found.word has word_is (held found.word found.place) in
+          let (fault, fault_is, error_is) = its_fault (fault_for (length before) item.relocation) (has_no_number found.word.value) why (sym result_is ∙ can_not) in
+          let skipped = past (length before) items (item.relocation ∷ rest) law.apart.items law.apart.words same law.apart.words_are law.apart.have_words written.have_words held written.can_be in
+          let faults_are : filter_map (fault_of lists images.now) lists.references ≡ fault ∷ faults_in (length before) rest =
+          references_are relocations are ∙ ap (faults_in (length before)) is ∙ skipped ∙ some_first (length before) item.relocation rest fault fault_is in
+          stopped ∙ ap (λ e. Err e) (sym error_is) ∙ ap (λ all_faults. as_load (first_or all_faults (count_of (image_words lists)))) (sym faults_are)
+
+    -- the sizes are those of the lists
+    pub size_same : (len : ℕ) → is_wrong_size sources plan len ≡ is_size_wrong lists places.now images.now len
+    size_same len =
+        let given = λ (n m : ℕ). not (len == plan_size plan) || (not (m == n) || (not (length places.now == n) || not (length images.now == n))) in
+        ap (λ n. given n (length plans.now)) (sym (length-map objects.now (object_parts fields)))
+        ∙ ap (given (length lists.objects)) (sym (length-map plans.now (λ plan. (plan_span plan).start)))
+
+    abbrev rest_is : Result ℕ ImageError
+    rest_is = first_or (filter_map (fault_of lists images.now) lists.references) (min (count_by (λ word. has_no_number word.value) (image_words lists)) (2 ^ 64 - 1))
+
+    relocated_is : (before after : List ℕ) (result : Result ℕ LoadError) → IsRelocation fields sources own plan false before after result → result ≡ as_load (image_result lists places.now images.now (length before))
+    relocated_is before after result relocation = by_size (is_wrong_size sources plan (length before)) refl
+      where
+        by_size : (wrong : Bool) → is_wrong_size sources plan (length before) ≡ wrong → result ≡ as_load (image_result lists places.now images.now (length before))
+        by_size true is =
+            let sized : sized_relocations sources own plan (length before) ≡ Err error.ImageSize = rw is refl in
+            let (refused, same) = subst (λ said. MatchResult said (λ relocations. IsWriting fields sources own false relocations before after result) (λ why. (result ≡ Err why) × (after ≡ before))) sized relocation in
+            refused ∙ ap (λ wrong. as_load (if wrong then Err faults.Size else rest_is)) (sym is ∙ size_same (length before))
+        by_size false is =
+            let relocations = map relocation_of law.apart.items in
+            let sized : sized_relocations sources own plan (length before) ≡ Ok relocations = rw (is, law.apart.relocations_are) refl in
+            let writing = subst (λ said. MatchResult said (λ some_of. IsWriting fields sources own false some_of before after result) (λ why. (result ≡ Err why) × (after ≡ before))) sized relocation in
+            written_is before after is relocations result law.apart.relocations_are writing
+            ∙ ap (λ wrong. as_load (if wrong then Err faults.Size else rest_is)) (sym is ∙ size_same (length before))
+
+  pub result_is : ∥ IsCheckedImage fields objects.now plans.now index own plan ∥₁ → (before after : List ℕ) (result : Result ℕ LoadError)
+      → IsRelocationIn fields objects plans index Now places images before after result → result ≡ as_load (image_result lists places.now images.now (length before))
+  result_is known before after result relocation = let code : Coded (Result ℕ LoadError) = hlevel (codes) in
+      ∥∥₁_elim known (SetCoded-set (coded code) _ _) (λ law. relocated_is law before after result (by_both law))
+    where
+      by_both : IsCheckedImage fields objects.now plans.now index own plan → IsRelocation fields sources own plan false before after result
+      by_both law = rw (law.own_is, law.plan_is) at relocation
+
+-- What a call returns, by the result of the scope.
+
+pub ok_is : (known : Result ℕ ImageError) (count : ℕ) → Ok count ≡ as_load known → Ok count ≡ known
+ok_is (Ok n) count is = let same : count ≡ n = cc in ap (λ n. Ok n) same
+ok_is (Err fault) count is = absurd (cc)
+
+same_fault : (one other : ImageError) → load_error one ≡ load_error other → one ≡ other
+same_fault faults.Size faults.Size is = refl
+same_fault faults.Unresolved faults.Unresolved is = refl
+same_fault faults.CopySource faults.CopySource is = refl
+same_fault _ _ is = absurd (cc)
+
+pub fault_is : (known : Result ℕ ImageError) (fault : ImageError) → Err (load_error fault) ≡ as_load known → Err fault ≡ known
+fault_is (Ok n) fault is = absurd (cc)
+fault_is (Err other) fault is = let same : load_error fault ≡ load_error other = cc in ap (λ f. Err f) (same_fault fault other same)
+
+pub left_by : (known : Result ℕ ImageError) (reason : LoadError) → Err reason ≡ as_load known → is_fault reason ≡ true
+left_by (Ok n) reason is = absurd (cc)
+left_by (Err faults.Size) reason is = let same : reason ≡ error.ImageSize = cc in ap is_fault same
+left_by (Err faults.Unresolved) reason is = let same : reason ≡ error.Unresolved = cc in ap is_fault same
+left_by (Err faults.CopySource) reason is = let same : reason ≡ error.CopySource = cc in ap is_fault same

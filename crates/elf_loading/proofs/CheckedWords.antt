@@ -1,0 +1,246 @@
+-- The words of a relocation have the bytes of those that were checked.
+use Rattle.std.proofs.Common.{◌≡◌, ℕ, zero, suc, ◌+◌, ◌<◌, ◌≤◌, ◌&&◌, ◌||◌, ◌⊎◌, nat_le, nat_lt, Bool, true, false, List, [], ◌∷◌, map, slice_get, Option, Some, Result, Ok, Err, if◌then◌else◌, inl, inr, cond, refl, sym, ap, ◌∙◌, subst, arith}
+use Rattle.std.specs.Prelude.{All}
+use Rattle.std.specs.List.{count_by}
+use Rattle.std.proofs.lemmas.Bool.{and_parts, leb-true, ltb-true}
+use Rattle.std.proofs.lemmas.List.Elements.{All-head, All-tail}
+use Rattle.std.proofs.lemmas.List.Sums.{sum_by-append}
+use Rattle.elf_linking.specs.DynamicObject.{object_file}
+use Rattle.elf_linking.specs.References.{file_machine}
+use Rattle.elf_linking.specs.declared.error.LinkError.{LinkError}
+use Rattle.elf_linking.specs.declared.object.DynamicObject.{DynamicObject}
+use Rattle.elf_linking.specs.declared.references.Reference.{Reference}
+use Rattle.elf_linking.specs.declared.scope.Bound.{Bound}
+use Rattle.elf_linking.proofs.lemmas.Bound.{reference_once}
+use Rattle.elf_linking.specs.RelocationTypes.{row_of}
+use Rattle.elf_linking.specs.declared.references.types.Row.{Row}
+use Rattle.elf_linking.proofs.lemmas.RelocationTypes.{row_passes}
+use Rattle.elf_loading.specs.ImageWords.{AreWordsApart, IsIn, covers, words_in}
+use Rattle.elf_loading.specs.OneWord.{is_of_word, is_over}
+use Rattle.elf_loading.specs.Values.{bytes_of, value_of}
+use Rattle.elf_loading.specs.Words.{HasWord, IsBoundIf, addend_of, and_link, formula_word, is_lazy, own_size, symbol_in, value_word}
+use Rattle.elf_loading.specs.WordsLeft.{relocation_of, words_of}
+use Rattle.elf_loading.specs.declared.error.LoadError.{LoadError}
+use Rattle.elf_linking.specs.declared.references.types.Formula.{Formula}
+use Rattle.elf_linking.specs.declared.references.types.Formula.TheVariants as formulas
+use Rattle.elf_loading.specs.declared.in_order.Relocation.{Relocation}
+use Rattle.elf_loading.specs.declared.value.Terms.{Terms}
+use Rattle.elf_loading.specs.declared.words.Relocated.{Relocated}
+use Rattle.elf_loading.specs.declared.words.Word.{Word}
+use Rattle.xmas_elf.specs.Symbol.{SymbolFields}
+use Rattle.elf_linking.specs.declared.segments.Segment.{Segment}
+
+pub count_first : {A : Type 0} (p : A → Bool) (x : A) (xs : List A) → count_by p (x ∷ xs) ≡ cond (p x) 1 0 + count_by p xs
+count_first p x xs =
+    let sum : count_by p (x ∷ xs) ≡ (0 + cond (p x) 1 0) + count_by p xs = sum_by-append (λ y. cond (p y) 1 0) (x ∷ []) xs in
+    omega (arith, sum)
+
+-- At most one of the words that are checked has a byte.
+
+module _ (address : ℕ) where
+  is_in : (word : Word) → covers address word ≡ true → IsIn word.address word.width address
+  is_in word hit =
+      let (from, to) = and_parts (nat_le word.address address) (nat_lt address (word.address + word.width)) hit in
+      (leb-true _ _ from, ltb-true _ _ to)
+
+  none_of : (words : List Word) → ((j : ℕ) (other : Word) → slice_get words j ≡ Some other → covers address other ≡ true → ⊥)
+      → count_by (covers address) words ≡ 0
+  none_of [] never = refl
+  none_of (word ∷ words) never = by_first (covers address word) refl (none_of words (λ j other is hit. never (suc j) other is hit))
+    where
+      by_first : (b : Bool) → covers address word ≡ b → count_by (covers address) words ≡ 0 → count_by (covers address) (word ∷ words) ≡ 0
+      by_first true hit more = absurd (never zero word refl hit)
+      by_first false miss more =
+          let count = count_first (covers address) word words in
+          let none : ◌≡◌ {A = ℕ} (cond (covers address word) 1 0) 0 = rw miss refl in
+          omega (arith, count, none, more)
+
+  one_of : (words : List Word) → ((i j : ℕ) (one other : Word) → i < j → slice_get words i ≡ Some one → slice_get words j ≡ Some other
+      → covers address one ≡ true → covers address other ≡ true → ⊥) → count_by (covers address) words ≤ 1
+  one_of [] apart = let none : count_by (covers address) [] ≡ 0 = refl in omega (arith, none)
+  one_of (word ∷ words) apart = by_first (covers address word) refl
+      (one_of words (λ i j one other less is also. apart (suc i) (suc j) one other (omega (arith, less)) is also))
+    where
+      by_first : (b : Bool) → covers address word ≡ b → count_by (covers address) words ≤ 1 → count_by (covers address) (word ∷ words) ≤ 1
+      by_first true hit least =
+          let count = count_first (covers address) word words in
+          let one : ◌≡◌ {A = ℕ} (cond (covers address word) 1 0) 1 = rw hit refl in
+          let more = none_of words (λ j other is also. apart zero (suc j) word other (omega arith) refl is hit also) in
+          omega (arith, count, one, more)
+      by_first false miss least =
+          let count = count_first (covers address) word words in
+          let none : ◌≡◌ {A = ℕ} (cond (covers address word) 1 0) 0 = rw miss refl in
+          omega (arith, count, none, least)
+
+  pub known_count : {E : Type 0} (items : List (Relocated E)) (words : List Word) → words_in items ≡ map (λ word. Ok word) words
+      → count_by (is_over address) items ≡ count_by (covers address) words
+  known_count [] [] are = refl
+  known_count [] (word ∷ words) are = absurd (cc)
+  known_count (item ∷ items) [] are = absurd (cc)
+  known_count (item ∷ items) (word ∷ words) are =
+      let first : item.word ≡ Ok word = cc in
+      let rest : words_in items ≡ map (λ some. Ok some) words = cc in
+      let hits : is_over address item ≡ covers address word = ap (is_of_word address) first in
+      let one = count_first (is_over address) item items in
+      let other = count_first (covers address) word words in
+      let same : ◌≡◌ {A = ℕ} (cond (is_over address item) 1 0) (cond (covers address word) 1 0) = ap (λ b. cond b 1 0) hits in
+      let more = known_count items words rest in
+      omega (arith, one, other, same, more)
+
+-- The bytes of the word of a relocation are those of the word that was checked.
+
+-- a jump slot is of the formula S or S + A
+abbrev is_symbol : Option Formula → Bool
+is_symbol (Some formulas.SymbolAlone) = true
+is_symbol (Some formulas.Symbol) = true
+is_symbol _ = false
+
+abbrev has_symbol : Row → Bool
+has_symbol row = if row.slot then is_symbol row.formula else true
+
+module _ {E : Type 0} {r : _} (fields : E → SymbolFields) (objects : List (DynamicObject E r)) (own : DynamicObject E r) (of : ℕ) where
+  bound_by : (takes : Bool) (reference : Reference) (one other : Result (Option (Bound E)) LinkError)
+      → IsBoundIf takes fields objects of reference one → IsBoundIf takes fields objects of reference other → one ≡ other
+  bound_by true reference one other is also = reference_once fields objects of reference one other is also
+  bound_by false reference one other is also = is ∙ sym also
+
+  -- the parts of an item have the word of its relocation, whose symbol is looked for later or not
+  abbrev HasParts : Bool → Relocation → Result (Option (Bound E)) LinkError → Result Word LoadError → Type 0
+  HasParts later relocation bound word =
+      let machine = file_machine (object_file own) in
+      let formula = if later then Some formulas.Base else (row_of machine relocation.reference.kind).formula in
+      IsBoundIf (symbol_in formula) fields objects of relocation.reference bound
+      × (word ≡ formula_word fields (object_file own) own of (relocation.in_place || later) relocation.reference bound formula)
+
+  pub word_once : (later : Bool) (relocation : Relocation) (one other : Result (Option (Bound E)) LinkError) (word word' : Result Word LoadError)
+      → HasParts later relocation one word → HasParts later relocation other word' → word ≡ word'
+  word_once later relocation one other word word' (is, word_is) (also, word_also) =
+      let machine = file_machine (object_file own) in
+      let formula = if later then Some formulas.Base else (row_of machine relocation.reference.kind).formula in
+      let same = bound_by (symbol_in formula) relocation.reference one other is also in
+      word_is ∙ ap (λ bound. formula_word fields (object_file own) own of (relocation.in_place || later) relocation.reference bound formula) same ∙ sym word_also
+
+  -- a word of the number of bytes of its type is where its relocation says
+  abbrev terms_of : Reference → ℕ → Terms
+  terms_of reference addend = record {
+    own = of;
+    address = reference.offset;
+    addend = addend;
+    size = own_size fields own reference.symbol;
+    width = (row_of (file_machine (object_file own)) reference.kind).width;
+  }
+
+  abbrev IsPlain : Formula → Type 0
+  IsPlain formula = (terms : Terms) (symbol : Option (Bound E)) → bytes_of terms.width (value_of fields terms symbol formula) ≡ terms.width
+
+  extent_of : (formula : Formula) (in_place : Bool) (reference : Reference) (bound : Result (Option (Bound E)) LinkError) (word : Word) → IsPlain formula
+      → formula_word fields (object_file own) own of in_place reference bound (Some formula) ≡ Ok word
+      → (word.address ≡ reference.offset) × (word.width ≡ (row_of (file_machine (object_file own)) reference.kind).width)
+  extent_of formula in_place reference bound word plain is = by_parts (addend_of (object_file own) in_place formula reference) bound is
+    where
+      by_parts : (said : Result ℕ LinkError) (found : Result (Option (Bound E)) LinkError)
+          → and_link said (λ addend. and_link found (λ symbol. Ok (value_word fields (terms_of reference addend) symbol formula))) ≡ Ok word
+          → (word.address ≡ reference.offset) × (word.width ≡ (row_of (file_machine (object_file own)) reference.kind).width)
+      by_parts (Err e) found is = absurd (cc)
+      by_parts (Ok addend) (Err e) is = absurd (cc)
+      by_parts (Ok addend) (Ok symbol) is =
+          let same : value_word fields (terms_of reference addend) symbol formula ≡ word = cc in
+          (sym (ap (λ (w : Word). w.address) same), sym (ap (λ (w : Word). w.width) same) ∙ plain (terms_of reference addend) symbol)
+
+  slot_formula : (m k : ℕ) → (row_of m k).slot ≡ true → ((row_of m k).formula ≡ Some formulas.SymbolAlone) ⊎ ((row_of m k).formula ≡ Some formulas.Symbol)
+  slot_formula m k slot = by_slot (row_of m k).slot (row_of m k).formula (row_passes has_symbol refl refl refl m k refl) slot
+    where
+      by_formula : (formula : Option Formula) → is_symbol formula ≡ true → (formula ≡ Some formulas.SymbolAlone) ⊎ (formula ≡ Some formulas.Symbol)
+      by_formula (Some formulas.SymbolAlone) is = inl refl
+      by_formula (Some formulas.Symbol) is = inr refl
+      by_formula _ is = absurd (cc)
+
+      by_slot : (slot : Bool) (formula : Option Formula) → (if slot then is_symbol formula else true) ≡ true → slot ≡ true
+          → (formula ≡ Some formulas.SymbolAlone) ⊎ (formula ≡ Some formulas.Symbol)
+      by_slot true formula is so = by_formula formula is
+      by_slot false formula is so = absurd (cc)
+
+  module _ (address : ℕ) where
+    covers_same : (one other : Word) → one.address ≡ other.address → one.width ≡ other.width → covers address one ≡ true → covers address other ≡ true
+    covers_same one other start size hit = rw (sym start, sym size) hit
+
+    -- a word whose slot gets its symbol later is where the slot is
+    over_later : (relocation : Relocation) (one other : Result (Option (Bound E)) LinkError) (word : Result Word LoadError) (known : Word)
+        → (row_of (file_machine (object_file own)) relocation.reference.kind).slot ≡ true → HasParts true relocation one word → HasParts false relocation other (Ok known)
+        → is_of_word address word ≡ true → covers address known ≡ true
+    over_later relocation one other (Err e) known slot has also hit = absurd (cc)
+    over_later relocation one other (Ok word) known slot (is, word_is) (is', word_is') hit =
+        let (start, size) = extent_of formulas.Base (relocation.in_place || true) relocation.reference one word (λ terms symbol. refl) (sym word_is) in
+        let machine = file_machine (object_file own) in
+        let formula = (row_of machine relocation.reference.kind).formula in
+        let there : (found : Option Formula) → formula ≡ found → formula_word fields (object_file own) own of (relocation.in_place || false) relocation.reference other found ≡ Ok known
+        = λ found same. ap (formula_word fields (object_file own) own of (relocation.in_place || false) relocation.reference other) (sym same) ∙ sym word_is' in
+        let extent : (known.address ≡ relocation.reference.offset) × (known.width ≡ (row_of machine relocation.reference.kind).width)
+        = elim (slot_formula machine relocation.reference.kind slot) [
+          | inl alone ↦ extent_of formulas.SymbolAlone (relocation.in_place || false) relocation.reference other known (λ terms symbol. refl) (there (Some formulas.SymbolAlone) alone)
+          | inr symbol ↦ extent_of formulas.Symbol (relocation.in_place || false) relocation.reference other known (λ terms symbol. refl) (there (Some formulas.Symbol) symbol)
+        ] in
+        covers_same word known (start ∙ sym extent.0) (size ∙ sym extent.1) hit
+
+    over_by : (lazy later : Bool) (relocation : Relocation) (one other : Result (Option (Bound E)) LinkError) (word : Result Word LoadError) (known : Word)
+        → is_lazy (row_of (file_machine (object_file own)) relocation.reference.kind) lazy relocation ≡ later → HasParts later relocation one word → HasParts false relocation other (Ok known)
+        → is_of_word address word ≡ true → covers address known ≡ true
+    over_by lazy false relocation one other word known is has also hit =
+        let same : word ≡ Ok known = word_once false relocation one other word (Ok known) has also in
+        ap (is_of_word address) (sym same) ∙ hit
+    over_by lazy true relocation one other word known is has also hit =
+        let slot = (and_parts relocation.slot ((row_of (file_machine (object_file own)) relocation.reference.kind).slot)
+        (and_parts lazy (relocation.slot && (row_of (file_machine (object_file own)) relocation.reference.kind).slot) is).1).1 in
+        over_later relocation one other word known slot has also hit
+
+    over_same : (lazy : Bool) (item checked : Relocated E) (known : Word) → item.relocation ≡ checked.relocation → checked.word ≡ Ok known
+        → HasWord fields objects (object_file own) own of lazy item → HasWord fields objects (object_file own) own of false checked
+        → is_over address item ≡ true → is_over address checked ≡ true
+    over_same lazy item checked known same known_is has also hit =
+        let there : HasParts false item.relocation checked.bound (Ok known) =
+        subst (λ rel. HasParts false rel checked.bound (Ok known)) (sym same) (subst (HasParts false checked.relocation checked.bound) known_is also) in
+        ap (is_of_word address) known_is
+        ∙ over_by lazy (is_lazy (row_of (file_machine (object_file own)) item.relocation.reference.kind) lazy item.relocation) item.relocation item.bound checked.bound item.word known refl has there hit
+
+    count_least : (one other : Bool) → (one ≡ true → other ≡ true) → ◌≤◌ (cond one 1 0) (cond other 1 0)
+    count_least true other so = rw (so refl) (omega arith)
+    count_least false true so = omega arith
+    count_least false false so = omega arith
+
+    count_le : (lazy : Bool) (items checked : List (Relocated E)) (words : List Word) → map relocation_of items ≡ map relocation_of checked
+        → words_in checked ≡ map (λ word. Ok word) words → All (HasWord fields objects (object_file own) own of lazy) items
+        → All (HasWord fields objects (object_file own) own of false) checked → count_by (is_over address) items ≤ count_by (is_over address) checked
+    count_le lazy [] checked words same known has also = let none : count_by (is_over {E = E} address) [] ≡ 0 = refl in omega (arith, none)
+    count_le lazy (item ∷ items) [] words same known has also = absurd (cc)
+    count_le lazy (item ∷ items) (one ∷ checked) [] same known has also = absurd (cc)
+    count_le lazy (item ∷ items) (one ∷ checked) (word ∷ words) same known has also =
+        let first : item.relocation ≡ one.relocation = cc in
+        let rest : map relocation_of items ≡ map relocation_of checked = cc in
+        let word_is : one.word ≡ Ok word = cc in
+        let words_are : words_in checked ≡ map (λ some. Ok some) words = cc in
+        let worded = HasWord fields objects (object_file own) own of lazy in
+        let known_so = HasWord fields objects (object_file own) own of false in
+        let count = count_first (is_over address) item items in
+        let other = count_first (is_over address) one checked in
+        let least = count_least (is_over address item) (is_over address one) (over_same lazy item one word first word_is (All-head worded item items has) (All-head known_so one checked also)) in
+        let more = count_le lazy items checked words rest words_are (All-tail worded item items has) (All-tail known_so one checked also) in
+        omega (arith, count, other, least, more)
+
+  -- no more than one word has the byte at an address
+  pub checked_once : (loads : List Segment) (lazy : Bool) (address : ℕ) (items : List (Relocated E)) → words_of (Some own) ≡ Ok (map relocation_of items)
+      → All (HasWord fields objects (object_file own) own of lazy) items → AreWordsApart fields objects of own loads
+      → count_by (is_over address) items ≤ 1
+  checked_once loads lazy address items are has law =
+      let same : map relocation_of items ≡ map relocation_of law.items = by_ok (sym are ∙ law.relocations_are) in
+      let least = count_le address lazy items law.items law.words same law.words_are has law.have_words in
+      let known = known_count address law.items law.words law.words_are in
+      let one = one_of address law.words (λ i j one other less is also hit hits. law.apart i j one other address less is also (is_in address one hit) (is_in address other hits)) in
+      omega (arith, least, known, one)
+    where
+      by_ok : {A B : Type 0} {x y : A} → ◌≡◌ {A = Result A B} (Ok x) (Ok y) → x ≡ y
+      by_ok is = cc
+
+  -- no more than one of the words that are checked has the byte at an address
+  pub apart_once : (loads : List Segment) (address : ℕ) (law : AreWordsApart fields objects of own loads) → count_by (covers address) law.words ≤ 1
+  apart_once loads address law =
+      one_of address law.words (λ i j one other less is also hit hits. law.apart i j one other address less is also (is_in address one hit) (is_in address other hits))

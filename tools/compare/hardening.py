@@ -1,0 +1,108 @@
+#!/usr/bin/env python3
+"""Compares what the package for Python says of the hardening of files with what checksec prints, and the features of the property
+note (CET, BTI, PAC) with those of readelf; and what the example hardening.rs of the Rust crate prints with the package.
+
+    tools/compare/hardening.py [--kept FILE] FILE..
+
+It needs Debian's package checksec, and the package as tools/exports/python.sh builds it. The words are those of docs/HARDENING.md.
+checksec takes half a second for each file: with --kept its lines are kept in a file, and taken from there by the next run. At
+the end it says how many files were compared, and the processor seconds of the package and of checksec."""
+import concurrent.futures
+import json
+import os
+import re
+import resource
+import subprocess
+import sys
+import tempfile
+
+from comparing import ABOUT, ROOT, Tally, files_of, parser_of, read_elf, run
+
+sys.path.insert(0, str(ROOT / "bindings/python"))
+from xmas_elf import hardening_row  # noqa: E402
+
+LIBC = "/lib/x86_64-linux-gnu/libc.so.6"
+FEATURES = {"ibt": "IBT", "shstk": "SHSTK", "bti": "BTI", "pac": "PAC"}
+
+
+def checksec(path: str) -> str:
+    """The line of JSON that checksec prints of a file."""
+    return run(["checksec", "--format=json", f"--file={path}"]).output.replace("\n", "")
+
+
+def wanted(path: str, line: str) -> dict:
+    """What checksec and readelf say of a file, in the words of the package."""
+    (said,) = json.loads(line).values()
+    features = re.findall(r"(?:x86|AArch64) feature: (.*)", run(["readelf", "-nW", "--", path]).output)
+    return {
+        **{name: said[name] == "yes" for name in ("canary", "nx", "rpath", "runpath", "symbols", "fortify_source")},
+        "relro": {"no": "none"}.get(said["relro"], said["relro"]),
+        "pie": {"not_elf": "none"}.get(said["pie"], said["pie"]),
+        "fortified": int(said["fortified"]),
+        "fortifiable": int(said["fortify-able"]),
+        **{name: any(re.search(rf"\b{word}\b", it) for it in features) for name, word in FEATURES.items()},
+    }
+
+
+def by_crate(paths: list[str]) -> dict:
+    """What the example of the Rust crate prints, by the path."""
+    archive = os.environ.get("XMAS_ELF_ARCHIVE", str(ROOT / "crates/elf_c/out"))
+    rows = {}
+    with tempfile.TemporaryDirectory() as room:
+        command = ["cargo", "build", "--quiet", "--offline", "--release", "--manifest-path", "bindings/rust/Cargo.toml", "--example", "hardening"]
+        subprocess.run(command, cwd=ROOT, env={**os.environ, "XMAS_ELF_ARCHIVE": archive, "CARGO_TARGET_DIR": room}, check=True)
+        for first in range(0, len(paths), 200):
+            printed = run([f"{room}/release/examples/hardening", LIBC, *paths[first : first + 200]]).output
+            names, *lines = printed.splitlines()
+            for line in lines:
+                values = dict(zip(names.split(","), line.split(",", names.count(","))))
+                rows[values["path"]] = values
+    return rows
+
+
+def as_text(value: object) -> str:
+    if isinstance(value, bool):
+        return "yes" if value else "no"
+    return "" if value is None else str(value)
+
+
+def processor_seconds(of: int) -> float:
+    used = resource.getrusage(of)
+    return used.ru_utime + used.ru_stime
+
+
+def main() -> int:
+    parser = parser_of((__doc__ or "") + ABOUT, files="+")
+    parser.add_argument("--kept", metavar="FILE")
+    given, tally = parser.parse_args(), Tally("the package", "files", "words")
+    paths = [it for it in files_of(given.files) if read_elf(it)]
+    if given.kept and os.path.exists(given.kept):
+        with open(given.kept, encoding="utf-8", errors="surrogateescape") as stream:
+            kept = {next(iter(json.loads(line))): line for line in stream if line.strip()}
+    else:
+        with concurrent.futures.ThreadPoolExecutor() as pool:
+            kept = dict(zip(paths, pool.map(checksec, paths)))
+    theirs, ours = processor_seconds(resource.RUSAGE_CHILDREN), processor_seconds(resource.RUSAGE_SELF)
+    rows = {path: hardening_row(path) for path in paths if path in kept}
+    ours = processor_seconds(resource.RUSAGE_SELF) - ours
+    crate = by_crate(list(rows))
+    for path, row in rows.items():
+        tally["files"] += 1
+        for name, value in wanted(path, kept[path]).items():
+            tally["words"] += 1
+            own = bool(row[name]) if name in ("rpath", "runpath") else row[name]
+            if row["error"] or own != value:
+                tally.fault(f"{path}: {name}: the package says {row['error'] or own}, checksec says {value}")
+        for name, value in crate.get(path, {}).items():
+            tally["words of the crate"] += 1
+            if as_text(row[name]) != value:
+                tally.fault(f"{path}: {name}: the package says {row[name]}, the crate says {value}")
+    if given.kept and not os.path.exists(given.kept):
+        with open(given.kept, "w", encoding="utf-8", errors="surrogateescape") as stream:
+            stream.writelines(f"{line}\n" for line in kept.values())
+    print(f"processor seconds: {ours:.1f} of the package, {theirs:.1f} of checksec")
+    return tally.ended()
+
+
+if __name__ == "__main__":
+    sys.exit(main())
