@@ -3,20 +3,13 @@
 
     tools/compare/addresses.py [--libraries N] [--addresses N] [--each N] [FILE..]
 
-With dladdr: the first N shared libraries of /usr/lib/x86_64-linux-gnu that can be loaded (--libraries, 60), at up to N
-addresses of each (--addresses): before, at, in, at the end of and after dynamic symbols, and anywhere in the segments. Addresses
-at which it names another object, or none, are counted as outside. elfaddr runs with --dladdr.
+With dladdr: the first N shared libraries of /usr/lib/x86_64-linux-gnu that can be loaded (--libraries, 60), at up to N addresses of
+each (--addresses): before, at, in, at the end of and after dynamic symbols, and anywhere in the segments. Addresses at which it names
+another object, or none, are counted as outside. elfaddr runs with --dladdr.
 
-With eu-addr2line, gdb, llvm-symbolizer, nm and addr2line, as far as they are here: the files FILE, else 15 of the system and of
-this repository, at N addresses of each (--each). elfaddr runs without an option. The answers are counted by cause:
-
-    same           the same name
-    alias          a symbol with the same range that elfaddr does not name
-    outer          another symbol that covers the address, and is not further in
-    uncovered      a symbol that does not cover the address
-    missed         no name, where a symbol covers the address
-    further in     a symbol that is further in than that of elfaddr: a difference
-    found          a symbol that covers the address, where elfaddr names none: a difference
+With eu-addr2line, gdb, llvm-symbolizer, nm and addr2line, as far as they are here: the files FILE, else 15 of the system and of this
+repository, at N addresses of each (--each). elfaddr runs without an option. Their names are counted by cause (`cause_of`): a symbol
+that is further in than that of elfaddr, or one that covers the address where elfaddr names none, is a difference.
 """
 import bisect
 import collections
@@ -33,8 +26,6 @@ from typing import Callable
 from comparing import CONTROLS, INDIRECT, LOAD, LOCAL, ROOT, Symbol, Tally, dynamic_symbols, llvm, parser_of, parts, raw, read_elf, symbol_of
 from loading import named
 
-# Control characters as elfaddr writes them.
-CONTROLS = {it: f"^{chr(it + 64)}" for it in (*range(32), 127)}
 # Types of symbols that name addresses: none, an object, a function, an indirect function. A section index from RESERVED on is none.
 TYPES, RESERVED = (0, 1, 2, INDIRECT), 0xFF00
 

@@ -5,10 +5,9 @@
     tools/compare/all.py --sample     each over a few files, some seconds each
     tools/compare/all.py .. NAME..    these alone, as `readelf dlsym`
 
-The programs and the archive are those that `rt run` and `rt lib` leave in crates/*/out. XMAS_ELF_CRATE: a folder with the files of
-the Rust crate, where Cargo has no registry. A comparison that needs what isn't here is skipped, and the line says what is
-missing. Between `<!-- oracles -->` and `<!-- /oracles -->` the page has a table of the counts of each comparison, below its commit,
-its command and the machine; one that was skipped or failed keeps its table. The exit status is 1 if one found a difference.
+The programs and the archive are those that `rt run` and `rt lib` leave in crates/*/out. XMAS_ELF_CRATE: a folder with the files of the
+Rust crate, where Cargo has no registry. A comparison that needs what isn't here is skipped, and one that was skipped or failed keeps
+its table in the page. The exit status is 1 if one found a difference.
 """
 import argparse
 import collections

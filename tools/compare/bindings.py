@@ -3,16 +3,13 @@
 
     tools/compare/bindings.py [--elfbind PATH] [--times N] FILE..
 
-The programs are the dynamically linked ones among the files, and in the folders among them. elfbind is run on a program and its
-libraries in the order in which the linker lists them, without linux-vdso; the linker binds all references at once and prints
-each (BINDINGS), and runs nothing. The two are compared as sets of a file, the file it is bound to, the name and the version,
-without the linker's own look-ups. Status 1 of elfbind and an undefined symbol for the linker must come together.
-
-Another binding is a line with its cause: `unique`, since glibc merges symbols of type STB_GNU_UNIQUE by name over the
-process; `ifunc`, an indirect function; or `unexplained`, which is a difference.
-
---times N prints for the N programs with most
-bindings the least time of five runs of elfbind, and of the linker, with and without binding.
+The programs are the dynamically linked ones among the files and folders. elfbind is run on a program and its libraries in the order
+in which the linker lists them, without linux-vdso; the linker binds all references at once and prints each (BINDINGS), and runs
+nothing. The two are compared as sets of a file, the file it is bound to, the name and the version, without the linker's own look-ups.
+Status 1 of elfbind and an undefined symbol for the linker must come together. Another binding is a line with its cause: `unique`,
+since glibc merges symbols of type STB_GNU_UNIQUE by name over the process; `ifunc`, an indirect function; or `unexplained`, which is
+a difference. --times N prints for the N programs with most bindings the least time of five runs of elfbind, and of the linker with
+and without binding.
 """
 import functools
 import os
@@ -32,7 +29,6 @@ BINDINGS = {**TRACE, "LD_DEBUG": "bindings", "LD_BIND_NOW": "1", "LD_WARN": "1"}
 
 Key = tuple[str, str, str]
 real = functools.lru_cache(maxsize=None)(os.path.realpath)
-
 
 # A program, the linker that it names, and its files in the order of the scope.
 Program = namedtuple("Program", "path linker files")

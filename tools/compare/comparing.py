@@ -32,7 +32,6 @@ LOAD = 1
 # Control characters as the programs write them in names.
 CONTROLS = {it: f"^{chr(it + 64)}" for it in (*range(32), 127)}
 
-
 # What a program that ran to its end has left.
 Finished = namedtuple("Finished", "status output errors")
 
@@ -69,9 +68,6 @@ class Tally(collections.Counter):
         """Prints the counts, and gives the status."""
         print(self)
         return 1 if self["differences"] else 0
-
-
-ended = Tally.ended
 
 
 def run(command: list[str], seconds=600, **variables: str) -> Finished:

@@ -3,15 +3,12 @@
 
     tools/compare/dlsym.py [--jobs N] [FILE..]
 
-Takes the shared libraries FILE, else those of the system: /usr/lib/x86_64-linux-gnu/*.so.*; N side by side (2). Each is loaded in
-a process of its own; one that can't be loaded, or whose process doesn't end by itself, is counted. Asked for are each name of
-`llvm-readelf --dyn-syms` without a version, and with each version listed with it; and each name that has a version with two
-versions of other names of the file, which should find nothing. Compared are whether a symbol is found in the library itself,
-and its address less that at which the library is loaded.
-
-Counted apart are indirect functions, for which dlsym calls the function that chooses one; thread-local symbols, which have an
-address in each thread; names that dlsym finds in another library, which it searches after this one; and unique symbols
-(STB_GNU_UNIQUE) of another library, since the dynamic linker keeps the first of each name for the whole process.
+Takes the shared libraries FILE, else those of the system, N side by side (2). Each is loaded in a process of its own. Asked for are
+each name of `llvm-readelf --dyn-syms` without a version, and with each version listed with it; and each name that has a version with
+two versions of other names of the file, which should find nothing. Compared are whether a symbol is found in the library itself, and
+its address less that at which the library is loaded. Counted apart are indirect functions, for which dlsym calls the function that
+chooses one; thread-local symbols; names that dlsym finds in another library, which it searches after this one; and unique symbols of
+another library, since the dynamic linker keeps the first of each name for the whole process.
 
 The static library is called by way of bindings/python, whose shared object bindings/python/wheel_backend.py links.
 """
@@ -24,7 +21,6 @@ from comparing import ABSOLUTE, INDIRECT, ROOT, THREAD, UNDEFINED, UNIQUE, Tally
 from loading import asked
 
 sys.path.insert(1, str(ROOT / "bindings" / "python"))
-
 
 # What a look-up counts as, by its verdict.
 FOUND = {"same": "found", "elsewhere": "found in another library", "unique": "of unique symbols", "indirect": "of indirect functions",

@@ -4,13 +4,11 @@ with what nm and readelf print.
 
     tools/compare/dump.py [FILE..]
 
-Takes FILE, else 300 files spread over the small ones of the system. Compared are, of each file and of a copy without section
-headers: the needed libraries, the name and the run path, the build id, the dynamic symbols with their versions, the versions
-needed and defined, the dynamic entries and the relocations; of each file besides its sections; and for up to 200 names with a
-version the symbol that is found by both, and by the name alone where the version is the default one: that of the same name
-without a version, if there is one. The programs in C print the build id, these symbols, and the entries and relocations of the
-dynamic segment. A file without sections, of debugging data alone, or with a dynamic segment without symbols, is passed over.
-The archive is that of crates/elf_c/out, or of the folder that XMAS_ELF_ARCHIVE names."""
+Takes FILE, else 300 files spread over the small ones of the system. Compared are all parts that docs/TESTS.md names (new users), of
+each file and of a copy without section headers; of each file besides its sections, and for up to 200 names with a version the symbol
+that is found by both, and by the name alone where the version is the default one. A file without sections, of debugging data alone, or
+with a dynamic segment without symbols, is passed over. The archive is that of crates/elf_c/out, or of XMAS_ELF_ARCHIVE.
+"""
 import concurrent.futures
 import functools
 import itertools

@@ -39,10 +39,8 @@ COMPILED = (
         int call(int x) { return outer(x); }""", "V1 { global: ab; local: *; }; V2 { global: call; } V1;", "libv.so", ("libw.so",)),
 )
 
-
 # The flag DF_SYMBOLIC of the entry DT_FLAGS.
 SYMBOLIC = 2
-
 
 # A number at a place of a file, by its format, and what it becomes.
 Change = namedtuple("Change", "what place form number")

@@ -2,11 +2,10 @@
 """Compares what the package for Python says of the hardening of files with what checksec prints, and the features of the property
 note (CET, BTI, PAC) with those of readelf; and what the example hardening.rs of the Rust crate prints with the package.
 
-    tools/compare/hardening.py [--kept FILE] FILE..
+    tools/compare/hardening.py FILE..
 
 It needs Debian's package checksec, and the package as tools/exports/python.sh builds it. The words are those of docs/HARDENING.md.
-checksec takes half a second for each file: with --kept its lines are kept in a file, and taken from there by the next run. At
-the end it says how many files were compared, and the processor seconds of the package and of checksec."""
+At the end it says how many files were compared, and the processor seconds of the package and of checksec."""
 import concurrent.futures
 import json
 import os
@@ -72,18 +71,12 @@ def processor_seconds(of: int) -> float:
 
 
 def main() -> int:
-    parser = parser_of((__doc__ or "") + ABOUT, files="+")
-    parser.add_argument("--kept", metavar="FILE")
-    given, tally = parser.parse_args(), Tally("the package", "files", "words")
+    given, tally = parser_of((__doc__ or "") + ABOUT, files="+").parse_args(), Tally("the package", "files", "words")
     paths = [it for it in files_of(given.files) if read_elf(it)]
-    if given.kept and os.path.exists(given.kept):
-        with open(given.kept, encoding="utf-8", errors="surrogateescape") as stream:
-            kept = {next(iter(json.loads(line))): line for line in stream if line.strip()}
-    else:
-        with concurrent.futures.ThreadPoolExecutor() as pool:
-            kept = dict(zip(paths, pool.map(checksec, paths)))
+    with concurrent.futures.ThreadPoolExecutor() as pool:
+        kept = dict(zip(paths, pool.map(checksec, paths)))
     theirs, ours = processor_seconds(resource.RUSAGE_CHILDREN), processor_seconds(resource.RUSAGE_SELF)
-    rows = {path: hardening_row(path) for path in paths if path in kept}
+    rows = {path: hardening_row(path) for path in paths}
     ours = processor_seconds(resource.RUSAGE_SELF) - ours
     crate = by_crate(list(rows))
     for path, row in rows.items():
@@ -97,9 +90,6 @@ def main() -> int:
             tally["words of the crate"] += 1
             if as_text(row[name]) != value:
                 tally.fault(f"{path}: {name}: the package says {row[name]}, the crate says {value}")
-    if given.kept and not os.path.exists(given.kept):
-        with open(given.kept, "w", encoding="utf-8", errors="surrogateescape") as stream:
-            stream.writelines(f"{line}\n" for line in kept.values())
     print(f"processor seconds: {ours:.1f} of the package, {theirs:.1f} of checksec")
     return tally.ended()
 

@@ -3,24 +3,20 @@
 
     tools/compare/loads.py [--elfload PATH] [--damaged N] [--seed N] FILE..
 
-The programs are the dynamically linked ones among the files, and in the folders among them. Each is run in a process that is
-stopped by ptrace, and never comes to its own code:
+Each dynamically linked program among the files and folders is run in a process that is stopped by ptrace, and never comes to its own
+code: at exec, where Linux has mapped it and its interpreter; before the linker makes anything read-only, with all libraries mapped;
+and before the first constructor, where relocation is done and `relro` of each file is read-only.
 
-- at exec, where Linux has mapped the program and its interpreter (the lines under `kernel`);
-- before the linker makes anything read-only, with all libraries mapped (the lines under `glibc`);
-- before the first constructor, where relocation is done and `relro` of each file is read-only.
+At each stop every mapping of /proc/PID/maps must be as elfload says: its pages, its permissions, and its offset in the file; and no
+other page of the file is mapped. Of each file once at each stop, read-only bytes, and at exec all bytes, must be those of the file,
+or zero where the file has ended; at exec the last bytes of writable pages may be zero instead.
 
-At each stop every mapping of /proc/PID/maps must be as elfload says: its pages, its permissions, and its offset in the
-file; and no other page of the file is mapped. Of each file once at each stop, read-only bytes, and at exec all bytes, must be
-those of the file at that offset, or zero where the file has ended; at exec the last bytes of writable pages may be zero instead.
+--damaged N runs elfload on N copies of the smallest program and of its smallest library with bytes of headers changed, at random
+from the seed. It must end within two seconds with status 0 or 1. The copies that it accepts are run, or loaded by LD_PRELOAD, and
+stopped in the same way. Where one isn't loaded, the cause is counted; the only ones allowed are those of ALLOWED.
 
---damaged N runs elfload on N damaged copies of the smallest of the programs, and as many of the smallest of its libraries,
-at random from the seed: bytes of the ELF header and of program headers are changed. It must end within two seconds with
-status 0 or 1. The copies that it accepts are run, or loaded by LD_PRELOAD, and stopped in the same way. Where Linux or the
-linker doesn't load one, the cause is counted; the only ones allowed are those of ALLOWED.
-
-A difference is a line, and the exit status is then 1. It needs ptrace on x86-64: where that is not allowed or the machine is
-another, the script says so, and passes.
+A difference is a line, and the exit status is then 1. It needs ptrace on x86-64: where that is not allowed or the machine is another,
+the script says so, and passes.
 """
 import bisect
 import dataclasses
@@ -33,8 +29,9 @@ import struct
 import sys
 import tempfile
 import time
+from collections import namedtuple
 from pathlib import Path
-from typing import Dict, Iterator, List, NamedTuple, Optional, Set, Tuple
+from typing import Dict, Iterator, List, Optional, Set, Tuple
 
 from bindings import linker_of, programs_in, real
 from comparing import Finished, Tally, parser_of, read_elf, run
@@ -53,13 +50,8 @@ ALLOWED = {
     "stack or threads": r"executable stack|cannot handle TLS|TLS",
 }
 
-
-class Plan(NamedTuple):
-    """What elfload prints of a file."""
-
-    relro: Optional[Tuple[int, int]]
-    start: int
-    by: Dict[str, List[Mapping]]
+# What elfload prints of a file: the range that is read-only, or None, the first address, and the mappings by their loader.
+Plan = namedtuple("Plan", "relro start by")
 
 
 def plan_of(text: str) -> Plan:

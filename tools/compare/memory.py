@@ -1,36 +1,28 @@
 #!/usr/bin/env python3
 """Compare what elfload says of memory with that of programs that Linux and the dynamic linker have loaded.
 
-    tools/compare/memory.py [--elfload PATH] [--lazy 1] [--root FOLDER] [--step N] [--seconds N] PROGRAM..
+    tools/compare/memory.py [--elfload PATH] [--lazy 1] [--root FOLDER] [--step N] PROGRAM..
 
-The programs are the dynamically linked ones among the files, and in the folders among them; with --step each Nth, and after
---seconds those that are left are only counted. Each is run in a process that ptrace stops before the first constructor
-(`to_relocated`). Its files are those of the linker's list, in that order, without linux-vdso. Two things are compared:
-
-- each word that elfload prints of these files, with the bases of the list, and with the numbers of thread-local storage that
-  glibc chooses (`thread_offsets`). A word with a function that the linker calls, and a descriptor, has no number;
-- each byte of memory: that of a word, otherwise that of the file, or zero (`image_of`, which reads the program headers itself).
-
-Jump slots get their symbols at once (LD_BIND_NOW), or with --lazy 1 when they are called first (elfload --lazy).
+The programs are the dynamically linked ones among the files, and in the folders among them; with --step each Nth. Each is run in a
+process that ptrace stops before the first constructor (`to_relocated`). Its files are those of the linker's list, in that order,
+without linux-vdso. Compared are each word that elfload prints of these files, with the bases of the list and the numbers of
+thread-local storage that glibc chooses (`thread_offsets`), and each byte of memory: that of a word, otherwise that of the file, or
+zero (`image_of`, which reads the program headers itself). Jump slots get their symbols at once (LD_BIND_NOW), or with --lazy 1 when
+they are called first (elfload --lazy).
 
 --root names a folder with the files of another system, in which the programs are. Those of AArch64 are run by qemu-aarch64
-(`processes.py`). Those of 386 are run by this system's linker of class 32, which finds their libraries by LD_LIBRARY_PATH.
+(`processes.py`), those of 386 by this system's linker of class 32, which finds their libraries by LD_LIBRARY_PATH.
 
-Each difference is counted by its cause: `unique`, since glibc merges symbols of type STB_GNU_UNIQUE by name; `linker`, the
-data of the linker itself; `early libc`, what the C library writes before the first constructor; `dynamic`, where the linker adds
-the base to an entry of a dynamic segment, or writes DT_DEBUG; `resolver`, what the functions of a file that the linker calls for
-its words write into its zeros, as libgcc does into `__cpu_model`. With --lazy 1 also `lazy`, the two words at DT_PLTGOT that are
-the linker's, and `bound`, slots that have their symbols: those of the linker, and those that the C library has called. Another
-difference is a line, and the exit status is then 1. It needs ptrace on x86-64: where that is not allowed or the machine is
-another, the script says so, and passes.
+docs/TESTS.md lists the causes by which differences are counted. Another one is a line, and the exit status is then 1. It needs
+ptrace on x86-64: where that is not allowed or the machine is another, the script says so, and passes.
 """
 import functools
 import os
 import re
 import struct
 import sys
-import time
-from typing import Dict, Iterator, List, NamedTuple, Optional, Set, Tuple
+from collections import namedtuple
+from typing import Dict, Iterator, List, Optional, Set, Tuple
 
 import damage
 from bindings import linker_of, programs_in, real
@@ -54,21 +46,16 @@ AARCH64, BLOCK = 183, 16
 # The folders of libraries of 386.
 LIBRARIES = ("lib/i386-linux-gnu", "usr/lib/i386-linux-gnu")
 
-
-class Segment(NamedTuple):
-    """A program header."""
-
-    kind: int
-    flags: int
-    offset: int
-    address: int
-    file_size: int
-    size: int
-    align: int
-
-
-# The names of these fields in damage.py.
-FIELDS = ("type", "flags", "offset", "vaddr", "filesz", "memsz", "align")
+# A program header, by the names of its fields in damage.py.
+Segment = namedtuple("Segment", "type flags offset vaddr filesz memsz align")
+# A file in a process: its path, its base, and whether Linux has mapped it.
+File = namedtuple("File", "path base is_by_kernel")
+# A word that elfload prints.
+Word = namedtuple("Word", "address width kind value")
+# The thread-local storage of a file: its index, its size and alignment, and how far its start is below an aligned address.
+Storage = namedtuple("Storage", "index size align first")
+# A process that is stopped where relocation is done, and the words of its files if all slots get their symbols at once.
+Process = namedtuple("Process", "program process files linker numbers at_once")
 
 
 def layout_of(path: str) -> damage.Layout:
@@ -88,36 +75,19 @@ def segments_of(path: str) -> Tuple[Segment, ...]:
     content, layout = content_of(path), layout_of(path)
     start, count = (layout.get(content, 0, layout.header[name]) for name in ("phoff", "phnum"))
     places = (start + layout.segment_size * index for index in range(count))
-    return tuple(Segment(*(layout.get(content, place, layout.segment[name]) for name in FIELDS)) for place in places)
+    return tuple(Segment(*(layout.get(content, place, layout.segment[name]) for name in Segment._fields)) for place in places)
 
 
 def last_of(path: str, kind: int) -> Optional[Segment]:
-    return next((it for it in reversed(segments_of(path)) if it.kind == kind and it.size), None)
+    return next((it for it in reversed(segments_of(path)) if it.type == kind and it.memsz), None)
 
 
 @functools.lru_cache(maxsize=None)
 def entries_of(path: str) -> Tuple[Tuple[int, int], ...]:
     """The tags and values of the dynamic segment."""
     segment = last_of(path, DYNAMIC)
-    held = content_of(path)[segment.offset :][: segment.file_size] if segment else b""
+    held = content_of(path)[segment.offset :][: segment.filesz] if segment else b""
     return tuple(struct.iter_unpack("<" + 2 * layout_of(path).address, held))
-
-
-class File(NamedTuple):
-    """A file in a process: its path, its base, and whether Linux has mapped it."""
-
-    path: str
-    base: int
-    is_by_kernel: bool
-
-
-class Word(NamedTuple):
-    """A word that elfload prints."""
-
-    address: int
-    width: int
-    kind: str
-    value: str
 
 
 def down(address: int) -> int:
@@ -130,31 +100,22 @@ def up(address: int) -> int:
 
 def image_of(file: File, load: Segment) -> bytearray:
     """What a load segment has in memory, in whole pages, before relocation."""
-    start, inside = down(load.address), load.address % PAGE
-    held = bytearray(up(load.address + load.size) - start)
-    if load.file_size:
-        part = content_of(file.path)[down(load.offset) :][: up(load.address + load.file_size) - start]
+    start, inside = down(load.vaddr), load.vaddr % PAGE
+    held = bytearray(up(load.vaddr + load.memsz) - start)
+    if load.filesz:
+        part = content_of(file.path)[down(load.offset) :][: up(load.vaddr + load.filesz) - start]
         held[: len(part)] = part
     # Behind the zeros, glibc leaves the bytes of the file, and Linux none.
-    end = len(held) if file.is_by_kernel and load.size > load.file_size else inside + load.size
-    held[inside + load.file_size : end] = bytes(end - inside - load.file_size)
+    end = len(held) if file.is_by_kernel and load.memsz > load.filesz else inside + load.memsz
+    held[inside + load.filesz : end] = bytes(end - inside - load.filesz)
     return held
-
-
-class Storage(NamedTuple):
-    """The thread-local storage of a file: its index, its size and alignment, and how far its start is below an aligned address."""
-
-    index: int
-    size: int
-    align: int
-    first: int
 
 
 def storages_of(files: List[File]) -> Iterator[Storage]:
     for index, file in enumerate(files):
         if segment := last_of(file.path, THREAD_LOCAL):
             align = max(segment.align, 1)
-            yield Storage(index, segment.size, align, -segment.address % align)
+            yield Storage(index, segment.memsz, align, -segment.vaddr % align)
 
 
 def thread_offsets(files: List[File]) -> Dict[int, int]:
@@ -228,10 +189,8 @@ def words_of(text: str) -> List[List[Word]]:
     return found
 
 
-class Root(NamedTuple):
+class Root(namedtuple("Root", "path")):
     """The folder of the system in which programs are: that of this one is empty."""
-
-    path: str
 
     def start(self, program: str, is_lazy: bool) -> Stopped:
         """Starts a process, which stops before its first instruction."""
@@ -297,8 +256,8 @@ def cause_of_word(files: List[File], of: int, word: Word, linker: str) -> Option
 def cause_of_byte(file: File, address: int, is_writable: bool, held: bytes, linker: str) -> Optional[str]:
     """Why a byte that is of no word is another; `held` are the bytes of the address in whose middle it may be."""
     entries, dynamic, size = dict(entries_of(file.path)), last_of(file.path, DYNAMIC), len(held)
-    if dynamic and dynamic.address <= address < dynamic.address + dynamic.size:
-        tag, value = entries_of(file.path)[(address - dynamic.address) // (2 * size)]
+    if dynamic and dynamic.vaddr <= address < dynamic.vaddr + dynamic.memsz:
+        tag, value = entries_of(file.path)[(address - dynamic.vaddr) // (2 * size)]
         return "dynamic" if tag == DEBUG or int.from_bytes(held, "little") == (value + file.base) % 256**size else None
     got = entries.get(PLT_GOT)
     if got is not None and got + size <= address < got + 3 * size:
@@ -311,17 +270,6 @@ def cause_of_byte(file: File, address: int, is_writable: bool, held: bytes, link
 def has_calls(words: List[Word]) -> bool:
     """Whether the linker calls a function of a file for one of its words."""
     return any(it.value.startswith("call(") for it in words)
-
-
-class Process(NamedTuple):
-    """A process that is stopped where relocation is done, and the words of its files if all slots get their symbols at once."""
-
-    program: str
-    process: Stopped
-    files: List[File]
-    linker: str
-    numbers: Numbers
-    at_once: List[List[Word]]
 
 
 def compare_words(of: Process, index: int, words: List[Word], tally: Tally) -> Dict[int, bytes]:
@@ -358,9 +306,9 @@ def compare_load(
     of: Process, file: File, load: Segment, words: Dict[int, bytes], calls: bool, compared: Set[Tuple[str, int]], tally: Tally
 ) -> None:
     """Compares the bytes of a load segment; of one without words that can't be written once for all processes."""
-    start, wanted, size = down(load.address), image_of(file, load), address_size(file.path)
+    start, wanted, size = down(load.vaddr), image_of(file, load), address_size(file.path)
     is_writable = bool(load.flags & WRITABLE)
-    inside = {at: held for at, held in words.items() if load.address <= at < load.address + load.size}
+    inside = {at: held for at, held in words.items() if load.vaddr <= at < load.vaddr + load.memsz}
     if not inside and not is_writable and (file.path, start) in compared:
         return
     compared.add((file.path, start))
@@ -374,10 +322,10 @@ def compare_load(
     resolved = 0
     for place in differing(memory, bytes(wanted)):
         relro = last_of(file.path, RELRO)
-        is_open = is_writable and not (relro and down(relro.address) <= start + place < down(relro.address + relro.size))
+        is_open = is_writable and not (relro and down(relro.vaddr) <= start + place < down(relro.vaddr + relro.memsz))
         first = (start + place) // size * size - start
         cause = cause_of_byte(file, start + place, is_open, memory[first : first + size], of.linker)
-        if calls and is_open and not cause and start + place >= load.address + load.file_size and resolved < RESOLVED:
+        if calls and is_open and not cause and start + place >= load.vaddr + load.filesz and resolved < RESOLVED:
             cause, resolved = "resolver", resolved + 1
         if cause:
             tally[f"bytes: {cause}"] += 1
@@ -393,7 +341,7 @@ def compare_memory(of: Process, text: str, compared: Set[Tuple[str, int]], tally
     for index, file in enumerate(of.files):
         found = compare_words(of, index, words[index], tally)
         for load in segments_of(file.path):
-            if load.kind == LOAD:
+            if load.type == LOAD:
                 compare_load(of, file, load, found, has_calls(words[index]), compared, tally)
     tally["programs"] += 1
     tally["files"] += len(of.files)
@@ -420,19 +368,17 @@ def compare(program: str, root: Root, is_lazy: bool, compared: Set[Tuple[str, in
 
 
 def main() -> int:
-    parser = parser_of(__doc__, "elfload", files="+", lazy=0, step=1, seconds=0)
+    parser = parser_of(__doc__, "elfload", files="+", lazy=0, step=1)
     parser.add_argument("--root", default="", metavar="FOLDER")
     given = parser.parse_args()
     if not can_trace():
         print("0 programs, 0 differences: no process can be stopped by ptrace here")
         return 0
-    root, began = Root(given.root and real(given.root)), time.monotonic()
+    root = Root(given.root and real(given.root))
     tally = Tally(given.elfload, "programs", "programs not loaded", "files", "words", "words equal", "words without a number", "bytes")
     compared: Set[Tuple[str, int]] = set()
     for program in [it for it in programs_in(given.files) if root.holds(it)][:: given.step]:
-        if given.seconds and time.monotonic() - began > given.seconds:
-            tally["left for want of time"] += 1
-        elif is_aarch64(program) and not can_emulate():
+        if is_aarch64(program) and not can_emulate():
             tally["left for want of an emulator"] += 1
         else:
             compare(program, root, bool(given.lazy), compared, tally)

@@ -21,8 +21,9 @@ import struct
 import subprocess
 import tempfile
 import time
+from collections import namedtuple
 from pathlib import Path
-from typing import List, NamedTuple, Optional, Tuple
+from typing import List, Optional, Tuple
 
 from comparing import UNDEFINED, dynamic_symbols
 
@@ -36,15 +37,9 @@ MPROTECT, NARROW_MPROTECT, READ_ALONE = 10, 125, 1
 THIRD, NUMBER, LINKER_BASE = 12, 15, 7
 
 
-class Mapping(NamedTuple):
-    """A mapping: its addresses, its permissions, its offset in the file, and what it holds: for elfload `file`, `zero` or `none`,
-    in /proc/PID/maps the path of a file."""
-
-    start: int
-    end: int
-    flags: str
-    offset: int
-    holds: str
+# A mapping: its addresses, its permissions, its offset in the file, and what it holds: for elfload `file`, `zero` or `none`, in
+# /proc/PID/maps the path of a file.
+Mapping = namedtuple("Mapping", "start end flags offset holds")
 
 
 def mapping_of(found: "re.Match") -> Mapping:

@@ -4,10 +4,9 @@
     tools/compare/readelf.py [--elfinfo PATH] FILE..
     readelf.sections("/usr/bin/ls")                  for bindings/web/tests: rows in the form in which the page has them
 
-`llvm-readelf -hSl` has the numbers of the ELF header, the name and type of each section, and the type of each segment. Here they
-are written as elfinfo must print them. What elfinfo refuses by design is counted as an expected error. The results of elfinfo's
-own checks aren't compared: the check line, what follows the type of a segment, and the hash line. With extended numbering the
-fields of the ELF header are compared as they stand there, and the lists go by section 0.
+The numbers of the ELF header, the name and type of each section, and the type of each segment are written as elfinfo must print them.
+What elfinfo refuses by design is counted as an expected error. Its own checks aren't compared. With extended numbering the fields of
+the ELF header are compared as they stand there, and the lists go by section 0.
 """
 import re
 import sys

@@ -17,6 +17,7 @@ from collections import Counter
 from pathlib import Path
 
 from comparing import LOAD, ROOT, SECTION, Tally, build_ids, llvm, nm, parser_of, parts, raw, relocation_tables, texts_of
+from sizes import Symbol, runs_of
 
 SYSTEM = ["/bin/ls", "/usr/bin/readelf", "/bin/bash", "/lib/x86_64-linux-gnu/libc.so.6", "/lib/x86_64-linux-gnu/libm.so.6"]
 OURS = ["crates/elfnm/data/add.o", "crates/elfrecipes/data/prog", "crates/elfsym/data/stripped.so"]
@@ -124,14 +125,12 @@ def largest(path: str) -> list:
     for section in parts(said, "Sections", "Section"):
         if not section["Flags"]["RawFlags"] & EXECUTED:
             continue
-        inside = [it for it in kept if raw(it["Section"]) == section["Index"] and raw(it["Type"]) in NAMED]
-        here = [(it["Value"], it["Size"], raw(it["Type"]) != FUNCTION) for it in inside]
-        sized = sorted({it for it in here if it[1]}, key=lambda it: (-it[0], it[1], it[2]))
-        edges = sorted({edge for value, size, _ in sized for edge in (value, value + size)})
-        for begin, end in zip(edges, edges[1:]):
-            owner = next((it for it in sized if it[0] <= begin < it[0] + it[1]), None)
-            if owner and not owner[2]:
-                found[owner] += end - begin
+        inside = [it for it in kept if raw(it["Section"]) == section["Index"] and raw(it["Type"]) in NAMED and it["Size"]]
+        sized = [Symbol(at, 0, it["Value"], it["Size"], raw(it["Type"]), raw(it["Binding"]), True) for at, it in enumerate(inside)]
+        for owner, begin, end in runs_of(sized):
+            symbol = sized[int(owner.split()[1])]
+            if symbol.type == FUNCTION:
+                found[section["Index"], symbol.value, symbol.size] += end - begin
     return sorted(found.values(), reverse=True)[:10]
 
 

@@ -3,11 +3,10 @@
 
     tools/compare/sections.py FILE..
 
-Of each section of notes `llvm-readelf -n` says how many there are, and of each the type, the name and the size of the
-description, but for the names of GNU's build attributes, which hold other bytes. `readelf -rW` has the addresses of each
-section of packed relocations. The check of GNU's hash table must be OK. Each name that `llvm-readelf --dyn-syms` lists as
-defined and not local must be found at an index at which it is listed so, whatever its version. Each other name must not be
-found, or at an index at which it is listed: linkers put some undefined symbols of programs into the table.
+`llvm-readelf -n` says how many notes a section has, and of each the type, the name and the size of the description, but for the names
+of GNU's build attributes. `readelf -rW` has the addresses of packed relocations. The check of GNU's hash table must be OK. Each name
+that `llvm-readelf --dyn-syms` lists as defined and not local must be found at an index at which it is listed so; each other name must
+not be found, or at an index at which it is listed: linkers put some undefined symbols of programs into the table.
 
 The static library is called by way of bindings/python, whose shared object bindings/python/wheel_backend.py links.
 """
@@ -28,7 +27,6 @@ TYPES = {
 UNKNOWN_TYPE = re.compile(r"Unknown \(0x([0-9A-Fa-f]+)\)")
 # Types of sections.
 NOTES, RELR, GNU_HASH = 7, 19, 0x6FFFFFF6
-
 
 # A note: its type, its name up to the first zero where it is text, and the size of its description.
 Note = collections.namedtuple("Note", "kind name size")

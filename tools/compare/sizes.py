@@ -3,28 +3,15 @@
 
     tools/compare/sizes.py [--elfsize PATH] [--damaged N] [--seed S] [--most N] [--symbols] [FILE..]
 
-Of each ELF file of the files and folders FILE (/usr), the lines are to be the largest first, with shares that are rounded
-down, and to sum to the size of the file exactly. Beside docs/SIZES.md, which is a script here: the same bytes for the same
-parts, in files with at most 3000 sections and segments. Beside `llvm-readelf -S`: the name of each section. Beside
-`readelf -SW`: the size of each section, where it is in the file and no other part owns bytes of it. Those with another size
-are counted by cause:
+Of each ELF file of the files and folders FILE (/usr), the lines are to be the largest first, with shares that are rounded down,
+and to sum to the size of the file exactly. The owner of each byte is that of docs/SIZES.md, which is a script here, in files with
+at most 3000 sections and segments. `llvm-readelf -S` has the name of each section, `readelf -SW` its size. --symbols compares
+`elfsize --symbols` of the files with a section of type SHT_SYMTAB, beside `nm -S`, whose symbols with the same range and section
+are counted once. Parts with another size are counted by cause: `NOBITS`, bytes of other parts, the end of the file or of the
+section, and symbols of a type or a name that names no addresses.
 
-    without bytes in the file      SHT_NOBITS, or of size 0
-    with bytes of other parts      bytes that another part owns: a section in it, a table of headers
-    cut off by the end of the file
-
---symbols compares the lines of `elfsize --symbols`, of the files with a section of type SHT_SYMTAB: with the definition, and
-beside `nm -S`, whose symbols with the same range and section are counted once. The range of one of them has as many bytes as
-the symbol owns. Those with another size are counted by cause:
-
-    in sections without bytes      no bytes in the file
-    of symbols of other types      thread-local symbols, and those of a type of the processor
-    of symbols without a name      labels and mapping symbols, which name no addresses
-    with bytes of other symbols    one in it, or that crosses it; or another section
-    past the end of the section
-
---damaged N compares N damaged files (tools/compare/damage.py) with the definition, at random from the seed S. --most N stops
-after N files. The last line has the counts, and the exit status is 1 if there is a difference.
+--damaged N compares N damaged files (tools/compare/damage.py) with the definition, at random from the seed S. --most N stops after
+N files. The last line has the counts, and the exit status is 1 if there is a difference.
 """
 import collections
 import heapq
@@ -35,10 +22,10 @@ import re
 import struct
 import sys
 import tempfile
-from typing import Dict, Iterator, List, NamedTuple, Optional, Tuple
+from typing import Dict, Iterator, List, Optional, Tuple
 
 import damage
-from comparing import CONTROLS, Tally, ended, files_of, llvm, parser_of, parts, read_elf, run
+from comparing import CONTROLS, Tally, files_of, llvm, parser_of, parts, read_elf, run
 
 LINE = re.compile(
     r"^(\d+) (\d+\.\d\d)% "
@@ -50,25 +37,14 @@ SYMBOL_TABLE, INDICES, OBJECT_FILE, MOST_ADDRESS = 2, 18, 1, 2**64 - 1
 # The letters of mapping symbols, by the machine: Arm, Arm 64-bit, RISC-V and C-SKY.
 MAPPING = {40: b"adt", 183: b"dx", 243: b"d", 252: b"dt"}
 
-
-class Part(NamedTuple):
-    """A part of a file and its bytes."""
-
-    name: str
-    begin: int
-    end: int
+# A part of a file and its bytes.
+Part = collections.namedtuple("Part", "name begin end")
+# The size and the name of each part.
+Sizes = collections.namedtuple("Sizes", "sizes names")
 
 
-class Symbol(NamedTuple):
+class Symbol(collections.namedtuple("Symbol", "index section value size type binding has_name")):
     """A symbol with a section and a size."""
-
-    index: int
-    section: int
-    value: int
-    size: int
-    type: int
-    binding: int
-    has_name: bool
 
     @property
     def names_addresses(self) -> bool:
@@ -230,13 +206,6 @@ def lines_of(output: str) -> Iterator[Tuple[int, str, str, str]]:
         yield int(matched[1]), matched[2], matched[3] or matched[5], matched[4] or ""
 
 
-class Sizes(NamedTuple):
-    """The size and the name of each part."""
-
-    sizes: Dict[str, int]
-    names: Dict[str, str]
-
-
 def sizes_of(path: str, program: str, length: int, tally: Tally, *options: str) -> Optional[Sizes]:
     """The sizes that elfsize prints of a file, once their order, their shares and their sum have been compared."""
     output = tally.output(path, program, *options, path)
@@ -339,28 +308,18 @@ def cause_of(definition: Definition, section: int, value: int, size: int, all: L
     return "ranges with bytes of other symbols" if any(it.begin < part.end and part.begin < it.end for it in inside) else None
 
 
-def compare_symbols(path: str, program: str, tally: Tally) -> None:
-    content = read_elf(path)
-    found = sizes_of(path, program, len(content), tally, "--symbols")
-    if found is not None:
-        tally["files"] += 1
-        beside_definition(path, found.sizes, content, tally, by_symbols=True)
-        beside_nm(path, found.sizes, content, tally)
-        compare_names(path, found.names, tally)
-
-
 def has_symbols(path: str) -> bool:
     content = read_elf(path)
     return bool(content) and any(Definition(content).symbols())
 
 
-def compare(path: str, program: str, tally: Tally) -> None:
+def compare(path: str, program: str, by_symbols: bool, tally: Tally) -> None:
     content = read_elf(path)
-    found = sizes_of(path, program, len(content), tally)
+    found = sizes_of(path, program, len(content), tally, *(["--symbols"] if by_symbols else []))
     if found is not None:
         tally["files"] += 1
-        beside_definition(path, found.sizes, content, tally)
-        beside_readelf(path, found.sizes, content, tally)
+        beside_definition(path, found.sizes, content, tally, by_symbols)
+        (beside_nm if by_symbols else beside_readelf)(path, found.sizes, content, tally)
         compare_names(path, found.names, tally)
 
 
@@ -385,13 +344,13 @@ def main() -> int:
     parser.add_argument("--symbols", action="store_true")
     given = parser.parse_args()
     tally = Tally("elfsize")
-    is_asked, one = (has_symbols, compare_symbols) if given.symbols else (read_elf, compare)
-    for path in itertools.islice(filter(is_asked, files_of(given.files or ["/usr"])), given.most):
-        one(path, given.elfsize, tally)
+    asked = filter(has_symbols if given.symbols else read_elf, files_of(given.files or ["/usr"]))
+    for path in itertools.islice(asked, given.most):
+        compare(path, given.elfsize, given.symbols, tally)
     compare_damaged(given.elfsize, given.damaged, given.seed, tally)
     first = ("files", "bytes", "parts as defined", *(() if given.symbols else ("sections of the same size",)))
     tally.names = (*first, *(name for name in tally if name not in (*first, "differences")), "differences")
-    return ended(tally)
+    return tally.ended()
 
 
 if __name__ == "__main__":

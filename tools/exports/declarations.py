@@ -26,7 +26,6 @@ FIRST, LAST = "/* The structs and functions, written by tools/exports/declaratio
 WIDTH = 118
 ALL_STATUSES = tuple(name for name, _, _ in statuses.statuses())
 
-
 # How a parameter of each kind stands in C, in a declaration and in a safe call of Rust, in what that hands on, and in the
 # sources.
 C, DECLARED, SAFE, HANDED, SOURCE = range(5)
@@ -210,7 +209,6 @@ pub(crate) fn every(asked: &Asked<'_>, mut heard: impl FnMut(&str, Result<(), Er
     let (address_index, numbers) = (&asked.addresses, &[asked.index, asked.section]);
     let objects = &[LoadObject { file: input.into(), ..LoadObject::default() }];
 """
-
 
 # What is handed to a parameter: of numbers but the one named `section` the index, of records but these a part of the input, and
 # of slices but these a name.

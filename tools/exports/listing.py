@@ -30,7 +30,6 @@ Function = namedtuple("Function", "name parameters result statuses item_statuses
 # A number of the ELF standard: its group's comment, and the prefix of the names there.
 Constant = namedtuple("Constant", "name value type group prefix is_flag comment")
 
-
 LENT, LENT_IN_RUST = "&[u8]", "Lent<{}>"
 C_NUMBERS = {"u8": "uint8_t", "u16": "uint16_t", "u32": "uint32_t", "u64": "uint64_t", "usize": "size_t"}
 

@@ -1,16 +1,13 @@
 """The list of statuses for tools/exports/declarations.py: in bindings/include/xmas_elf.h and bindings/rust/src/error.rs.
 
-The numbers of `ElfError` are those that its variants are declared with; those of `LinkError`, `LoadError` and `IndexError`
-stand beside their texts in src/error.rt of their crates, and the others in crates/elf_c/src/status.rt; the other texts are
-those of crates/elf_base and crates/elf_c. A number never changes: bindings/statuses.txt has each name with its number, and
-lines are only added to it. Where a refusal has another number than there, or a name there is no refusal's, this fails, and
-nothing is written.
+The numbers of `ElfError` are those that its variants are declared with; those of `LinkError`, `LoadError` and `IndexError` stand
+beside their texts in src/error.rt of their crates, and the others in crates/elf_c/src/status.rt. A number never changes:
+bindings/statuses.txt has each name with its number, and lines are only added to it.
 
-It also compares the statuses that bindings/exports.toml lists for each export with the definitions in its contract. From the
-words of an export's `ensures` clauses it follows the definitions in crates/*/specs (tools/pages/definitions.py), and collects
-the errors that they name. A definition may name an error that the export never returns, since another call takes it up: the
-list has these under `never`. It may return one that a value holds, such as the versions of an object, and that no
-definition names: the list has these under `held` too. So no status that a contract allows is missing in the list."""
+The statuses that bindings/exports.toml lists for each export are compared with the errors that the definitions name to which its
+`ensures` clauses lead (tools/pages/definitions.py). A definition may name an error that the export never returns, since another call
+takes it up (`never` of the list), and the export may return one that a value holds and no definition names (`held`).
+"""
 import functools
 import re
 
@@ -20,7 +17,6 @@ from pages.definitions import Reader
 
 PINNED = ROOT / "bindings/statuses.txt"
 FIRST, LAST = "/* The statuses, written by tools/exports/declarations.py. */", "/* End of the statuses. */"
-
 
 ENUMS = {"ElfError": "", "LinkError": "Link", "LoadError": "Load", "IndexError": "Index", "Refusal": ""}
 # Variants that hold an error of another enum.

@@ -3,13 +3,13 @@
 
     tools/gate/budget.py run COMMAND..   runs a part of `.ci/run`, and says behind its output what it took
     tools/gate/budget.py write OUTPUT..  writes the part of docs/GATE.md between `<!-- gate -->` and `<!-- /gate -->` from the
-                                         stored output of `.ci/run`, or of its parts
-    tools/gate/budget.py check           fails where that table's total passes the budget, or its numbers don't add up
+                                         stored output of `.ci/run`, or of its parts, and into README.md the kit that it names
+    tools/gate/budget.py check           fails where that table's total passes the budget, or its numbers don't add up, and where
+                                         README.md names another kit than the one that is here
 
-`rt ci` doesn't say what each of its parts took. So while it runs, the processes below it are looked at twice a second: a prover's
-command line names the crate, and whether it proves the tests; its folder tells a must-fail edit. What lies between two looks
-counts as `rest`. `tools/gate/wrong_bodies.py` says itself what the checks of each crate took. Other load may double the seconds,
-so a short loop is timed now and then, and the page says what it took.
+While `rt ci` runs, the processes below it are looked at twice a second: a prover's command line names the crate, and whether it proves
+the tests; its folder tells a must-fail edit. What lies between two looks counts as `rest`. Other load may double the seconds, so a
+short loop is timed now and then, and the page says what it took.
 """
 import collections
 import contextlib
@@ -23,7 +23,8 @@ import threading
 import time
 
 ROOT = pathlib.Path(__file__).resolve().parents[2]
-PAGE = ROOT / "docs" / "GATE.md"
+PAGE, README = ROOT / "docs" / "GATE.md", ROOT / "README.md"
+NAMED_KIT = re.compile(r"(?<=whose `rt version` is\n\n        ).*")
 PLACE = re.compile(r"(?<=<!-- gate -->\n).*(?=\n<!-- /gate -->)", re.S)
 
 # In processor minutes: 130 for what there was when this was set, and 60 for later crates.
@@ -40,6 +41,7 @@ BATCHES = re.compile(r"^([\w-]+|the crates as they stand): (\d+) processor secon
 PAGES = re.compile(r"^-- huge pages: (\w+)$", re.M)
 LOOP = re.compile(r"^--   a loop: ([\d.]+) ms in (\d+) times, ([\d.]+) at best$", re.M)
 DONE = re.compile(r"done in this run: (\d+ of the \d+) proofs")
+KIT = re.compile(r"^-- kit: (.*)$", re.M)
 MACHINE = re.compile(r"^-- (\d+) processors, (.*)$", re.M)
 TOTAL = re.compile(r"^\| \*\*total\*\* \|.*\| ([\d.]+) \|$", re.M)
 KINDS = ("proof", "tests", "must-fail", "batches")
@@ -124,6 +126,14 @@ def run(words: list) -> int:
     return started.returncode if started.returncode >= 0 else 1
 
 
+def said(*words: str) -> str:
+    return subprocess.run(words, cwd=ROOT, capture_output=True, text=True, check=False).stdout.strip()
+
+
+def kit_of(output: str) -> str:
+    return found[1] if (found := KIT.search(output)) else said("rt", "version")
+
+
 def minutes(seconds: float) -> str:
     return f"{seconds / 60:.1f}"
 
@@ -139,7 +149,7 @@ def parts_of(output: str) -> tuple:
     rows = {name: [*(cells[name][kind] for kind in KINDS), 0] for name in cells}
     # What stands in no row of a crate: the scripts, and of the two watched parts what is left.
     for what, _, seconds in TOOK.findall(output):
-        is_batches = what.startswith("tools/gate/wrong_bodies.py") and "--self-test" not in what
+        is_batches = what.startswith("tools/gate/wrong_bodies.py --gate")
         own = sum(sums[:3]) if what == "rt ci" else sums[3] if is_batches else 0
         rows[f"`{what}`" + (", the rest" if own else "")] = [0, 0, 0, 0, max(int(seconds) - own, 0)]
     return rows, sums
@@ -168,8 +178,7 @@ def measured(output: str) -> str:
     if loops:
         mean = sum(it[0] * it[1] for it in loops) / sum(it[1] for it in loops)
         share += f" A fixed loop, run beside it to see other load, took {min(it[2] for it in loops):.0f} ms at best, {mean:.0f} ms on average."
-    said = lambda *words: subprocess.run(words, cwd=ROOT, capture_output=True, text=True, check=False).stdout.strip()
-    commit, kit = said("git", "rev-parse", "--short", "HEAD"), said("rt", "version").split(" ")[0]
+    commit, kit = said("git", "rev-parse", "--short", "HEAD"), kit_of(output).split(" ")[0]
     huge = f", with transparent huge pages `{pages[1]}`" if pages else ""
     took = f"{minutes(wall)} minutes, {how}{huge}; {kit}, {datetime.date.today()}."
     return f"Measured at {commit} by `.ci/run` on x86-64 with {where}: {took} The table lists processor minutes by part.{share}"
@@ -180,13 +189,17 @@ def write(paths) -> int:
     if not TOOK.search(output):
         print(f"{', '.join(paths)}: no part of the gate stands there")
         return 1
+    README.write_text(NAMED_KIT.sub(lambda _: kit_of(output), README.read_text(encoding="utf-8")), encoding="utf-8")
     page = PAGE.read_text(encoding="utf-8")
     PAGE.write_text(PLACE.sub(lambda _: f"{measured(output)}\n\n{table(output)}", page), encoding="utf-8")
     return check()
 
 
 def check() -> int:
-    page = PAGE.read_text(encoding="utf-8")
+    page, named, kit = PAGE.read_text(encoding="utf-8"), NAMED_KIT.search(README.read_text(encoding="utf-8"))[0], said("rt", "version")
+    if named != kit:
+        print(f"README.md names the kit {named}, and this is {kit}: prove with it, and tools/gate/budget.py write names it")
+        return 1
     total, rows = TOTAL.search(page), re.findall(r"^\| (?!\*\*total|Part).*\| ([\d.]+) \|$", page, re.M)
     if not total:
         print("docs/GATE.md: the table has no total")

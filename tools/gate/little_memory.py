@@ -1,14 +1,13 @@
 #!/usr/bin/env python3
-"""Has each request for memory, and each read and write, of the built elfinfo, elfsym, elfaddr, elfsize, elfbind and elfload fail in
-turn.
+"""Has each request for memory, and each read and write, of the built programs fail in turn.
+
+    tools/gate/little_memory.py [PROGRAM..]     at the top of the repository, once the programs are built
 
 Over some files and each build of a program, until a run makes no more such calls. With memory refused it says that it cannot read
-its arguments, then that it cannot read the file, then that memory is short; with a read failed that it cannot read the file;
-each with status 1 and without output, but for what elfload has written before it asks for more memory. With a write failed it
-ends with 1, and what was written before is the front of the output, whether the next write works again or all fail. The last run
-is as if nothing failed. The runs make as few reads and writes as they like, or a few bytes each. A library made by gcc stands
-before the C library's calls. Run it at the top of the repository, once the programs are built: tools/gate/little_memory.py
-[PROGRAM..]
+its arguments, then that it cannot read the file, then that memory is short; with a read failed that it cannot read the file; each
+with status 1 and without output, but for what elfload has written before it asks for more memory. With a write failed it ends with 1,
+and what was written before is the front of the output. The last run is as if nothing failed. The runs make as few reads and writes
+as they like, or a few bytes each. A library made by gcc stands before the C library's calls.
 """
 import collections
 import itertools

@@ -27,6 +27,11 @@ def data(path: str) -> bytes:
     return (CRATES / path).read_bytes()
 
 
+def expected(name: str) -> str:
+    """An output that was worked out by hand, of oracle/wanted/ends."""
+    return (TOP / "oracle/wanted/ends" / f"{name}.txt").read_text(encoding="utf-8")
+
+
 STRTAB, REPORT = data("elfinfo/data/strtab.elf"), data("elfinfo/stdout")
 LINKED, SYMBOLS = data("elfsym/data/versions.so"), data("elfsym/stdout")
 # A shared object that needs a library, without section headers: that of `worked_files::linked::small`, where its source and
@@ -237,55 +242,10 @@ PAGES_MAPS = b"0-4000 r-xp 0 file\n4000-c000 rw-p 0 file\n"
 LIBRARY_WORDS = PLANS[PLANS.index(b"words library.so\n") :].replace(b"base(1)", b"base(0)")
 
 
-def plan_text(path: str, width: int, kind: int, machine: int, entry: str, span: str, tls: str, interpreter: str, maps: str) -> str:
-    """The plan of a file without relro, whose pages are the same for both loaders."""
-    head = f"{path}\nclass {width}\ntype {kind}\nmachine {machine}\nentry {entry}\nspan {span}\nrelro none\ntls {tls}\nstack rw-\n"
-    return f"{head}interpreter {interpreter}\nkernel\n{maps}glibc\n{maps}"
-
-
 # The program and its libraries in crates/elfbind/data, by what `readelf -hlW` shows; the words are by `readelf -rDW` and `-sDW`,
-# and by the symbols in crates/elfbind/stdout. Lazy slots hold the word in the file.
-CALLER_PLAN = plan_text("caller", 64, 2, 62, "400406", "400000-402000", "none", "/lib64/ld-linux-x86-64.so.2",
-    "400000-401000 r-xp 0 file\n401000-402000 rw-p 0 file\n")
-LIBRARY_MAPS = "0-1000 r-xp 0 file\n1000-2000 rw-p 0 file\n"
-BOUND_PLANS = (CALLER_PLAN + plan_text("libfirst.so", 64, 3, 62, "0", "0-2000", "1528 8 8 4", "none", LIBRARY_MAPS)
-    + plan_text("libsecond.so", 64, 3, 62, "0", "0-2000", "14f8 0 4 4", "none", LIBRARY_MAPS))
-NARROW_PLAN = plan_text("caller_32", 32, 2, 3, "80482c6", "8048000-804a000", "none", "/lib/ld-linux.so.2",
-    "8048000-8049000 r-xp 0 file\n8049000-804a000 rw-p 0 file\n")
-BOUND_WORDS = """words caller
-word 0x401608 4 COPY = copy(1, 0x16d4, 4)
-word 0x4015e8 8 JUMP_SLOT = base(1) + 0x4e9
-word 0x4015f0 8 JUMP_SLOT = base(1) + 0x4fb
-word 0x4015f8 8 JUMP_SLOT = base(1) + 0x4ef
-word 0x401600 8 JUMP_SLOT = base(1) + 0x4f5
-words libfirst.so
-word 0x16e8 8 RELATIVE = base(1) + 0x4dd
-word 0x1690 8 DTPMOD64 = module(1)
-word 0x1698 8 DTPOFF64 = 0x4
-word 0x16a0 8 GLOB_DAT = base(0) + 0x401608
-word 0x16e0 8 64 = base(1) + 0x4d7
-word 0x16f0 8 64 = base(0) + 0x400400
-word 0x16c0 8 JUMP_SLOT = base(0) + 0x400400
-word 0x16c8 8 JUMP_SLOT = base(1) + 0x4f5
-words libsecond.so
-word 0x1668 8 GLOB_DAT = base(2) + 0x16d0
-word 0x1670 8 TPOFF64 = thread(1) + 0x0
-word 0x1678 8 GLOB_DAT = 0x0
-word 0x16e0 8 64 = base(0) + 0x4003d0
-word 0x16f0 8 64 = base(0) + 0x40160c
-word 0x16f8 8 64 = base(0) + 0x401604
-word 0x16a0 8 JUMP_SLOT = base(1) + 0x4e9
-word 0x16a8 8 JUMP_SLOT = base(1) + 0x4fb
-word 0x16b0 16 TLSDESC = descriptor(2, 0x0)
-word 0x16c0 16 TLSDESC = descriptor(1, 0x4)
-"""
-LAZY_WORDS = BOUND_WORDS
-for place, now, lazy in (
-        ("4015e8", "1) + 0x4e9", "0) + 0x4003c6"), ("4015f0", "1) + 0x4fb", "0) + 0x4003d6"),
-        ("4015f8", "1) + 0x4ef", "0) + 0x4003e6"), ("401600", "1) + 0x4f5", "0) + 0x4003f6"),
-        ("16c0", "0) + 0x400400", "1) + 0x4b6"), ("16c8", "1) + 0x4f5", "1) + 0x4c6"),
-        ("16a0", "1) + 0x4e9", "2) + 0x456"), ("16a8", "1) + 0x4fb", "2) + 0x466")):
-    LAZY_WORDS = LAZY_WORDS.replace(f"{place} 8 JUMP_SLOT = base({now}\n", f"{place} 8 JUMP_SLOT = base({lazy}\n")
+# and by the symbols in crates/elfbind/stdout. Lazy slots hold the word in the file. The program of class 32 is alone.
+BOUND, BOUND_LAZY, NARROW_PLAN = expected("bound"), expected("bound_lazy"), expected("narrow")
+CALLER_PLAN = BOUND[: BOUND.index("libfirst.so\n")]
 LOAD_HELP = f"""usage: {LOAD_USAGE}
 Prints the header of each file, what else a loader asks for, and what Linux (kernel) and glibc map;
 then, if each has a dynamic segment, what relocations write, for a program and its libraries in the order in which they are loaded.
@@ -299,8 +259,8 @@ LOAD.misused({
     "a size that is no power of two": "--page 4097 counter", "a size that is no number": "--page 0x1000 counter"})
 LOAD.prints({
     "help": ("--help", LOAD_HELP), "two files": ("counter library.so", PLANS),
-    "words of a program and its libraries": (WIDE_BOUND, BOUND_PLANS + BOUND_WORDS),
-    "words with lazy slots": (f"--lazy {WIDE_BOUND}", BOUND_PLANS + LAZY_WORDS),
+    "words of a program and its libraries": (WIDE_BOUND, BOUND),
+    "words with lazy slots": (f"--lazy {WIDE_BOUND}", BOUND_LAZY),
     "slots of files that ask for their symbols at once": ("--lazy --page 4096 counter library.so", PLANS),
     "a file without a whole page that is read-only after relocation": (
         "relro.elf", COUNTER_ALONE.replace(b"counter", b"relro.elf").replace(b"relro 1000-2000", b"relro none")),
@@ -329,49 +289,9 @@ after more than one file the bytes of all by kind of part.
 --segments  as if the file had no sections
 --symbols   bytes in sections by symbol; the line of a section is for the bytes in no symbol
 """
-# places.so without its section headers, by what `readelf -lW` shows of its segments.
-PLACES_SEGMENTS = """places.so
-1088 60.17% after all parts
-240 13.27% segment 0
-224 12.38% program headers
-176 9.73% segment 2
-64 3.53% ELF header
-16 0.88% segment 1
-1808 100.00% sum
-"""
-# The same with the bytes of sections by symbol, by what `readelf -SW` and `readelf -sW` show: `alias` has the range of `last`.
-PLACES_SYMBOLS = """places.so
-704 38.93% section headers
-240 13.27% section 8 .symtab
-224 12.38% program headers
-176 9.73% section 6 .dynamic
-144 7.96% section 2 .dynsym
-84 4.64% section 10 .shstrtab
-64 3.53% ELF header
-56 3.09% section 1 .gnu.hash
-54 2.98% section 9 .strtab
-30 1.65% section 3 .dynstr
-8 0.44% section 7 .data
-8 0.44% symbol 9 value
-6 0.33% between parts
-4 0.22% symbol 8 outer
-2 0.11% symbol 5 last
-2 0.11% symbol 6 inner
-1 0.05% segment 0
-1 0.05% section 4 .text
-1808 100.00% sum
-"""
-# A file whose section headers are cut off, by what `readelf -hlW` shows.
-SHORT_SIZES = """short.so
-576 34.28% section headers
-384 22.85% between parts
-240 14.28% segment 0
-224 13.33% program headers
-176 10.47% segment 2
-64 3.80% ELF header
-16 0.95% segment 1
-1680 100.00% sum
-"""
+# places.so without its section headers, by what `readelf -lW` shows of its segments; the same with the bytes of sections by symbol,
+# by `readelf -SW` and `-sW`: `alias` has the range of `last`; and a file whose section headers are cut off, by `readelf -hlW`.
+PLACES_SEGMENTS, PLACES_SYMBOLS, SHORT_SIZES = expected("places_segments"), expected("places_symbols"), expected("short")
 SIZE = Program("elfsize", SIZE_USAGE, [], ["places.so"], PLACES_SIZES, PLACES)
 SIZE.misused({"segments of no file": "--segments", "symbols of no file": "--symbols"})
 SIZE.prints({

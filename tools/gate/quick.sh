@@ -64,7 +64,7 @@ again=("${changed[@]}")
 tools/gate/wrong_bodies.py --compile "${again[@]}" || fail "wrong bodies that don't compile"
 
 left+=("wrong bodies of other functions, and those in must-fail" "rt ci: both builds of each program and of each test"
-    "tools/gate/does_not_compile.py, program_ends.py, little_memory.py, tools/exports/bindings.sh, tools/compare/all.py --sample")
+    "tools/gate/wrong_bodies.py --compiler, program_ends.py, little_memory.py, tools/exports/bindings.sh, tools/compare/all.py --sample")
 printf 'left out: %s\n' "${left[@]}"
 echo "quick gate: $failed failed"
 exit $((failed > 0))

@@ -10,12 +10,12 @@ import collections
 import concurrent.futures
 import pathlib
 import re
+import shutil
 import subprocess
 import sys
 import tempfile
 import threading
 import types
-from typing import NamedTuple
 
 from edits import BATCH, Edit, EditedCrate, Room, batches_of, check
 from pages import sources
@@ -42,17 +42,14 @@ FLAGS = {
     "list": "the batches, and nothing is tried",
     "compile": "only whether each edit compiles, some ten seconds a batch",
     "right": "whether each right body is proved beside itself, as the wrong ones are tried",
+    "compiler": "whether the compiler refuses each edit of crates/*/does-not-compile, with the error of its line `want:`",
     "doubled": "names those outside of docs/wrong_bodies.txt whose clause another edit of the function breaks, and tries nothing",
     "self-test": "whether the script itself tells right from wrong",
 }
 
 
-class Task(NamedTuple):
-    """A crate whose edits are to be tried: the crates below it, and its batches."""
-
-    crate: EditedCrate
-    below: list
-    batches: list
+# A crate whose edits are to be tried: the crates below it, and its batches.
+Task = collections.namedtuple("Task", "crate below batches")
 
 
 def doubled(crate: EditedCrate, edits: list, listed: set) -> list:
@@ -72,6 +69,21 @@ def doubled(crate: EditedCrate, edits: list, listed: set) -> list:
             elif len(own) == 1:
                 broken |= own
     return found
+
+
+def is_not_compiled(path: pathlib.Path) -> bool:
+    """Whether `rt try --test` of a copy with an edit ends with the error that its line `want:` names: in its crate, or in the one that
+    its line `tests:` names where its own has no test."""
+    crate, words = EditedCrate(path.parents[1]), dict(re.findall(r"^(want|tests): (.*)$", path.read_text(encoding="utf-8"), re.M))
+    with tempfile.TemporaryDirectory() as room:
+        copy = pathlib.Path(shutil.copytree(ROOT, pathlib.Path(room, "copy"), ignore=shutil.ignore_patterns("out", ".git")))
+        for file, text in crate.changed([crate.read_edit(path)]).items():
+            (copy / "crates" / crate.name / file).write_text(text, encoding="utf-8")
+        tried_in = copy / "crates" / words.get("tests", crate.name)
+        ran = subprocess.run(["rt", "try", "--test"], cwd=tried_in, capture_output=True, text=True, check=False)
+    is_refused = ran.returncode != 0 and f"error[{words['want']}]" in ran.stdout + ran.stderr
+    print(("refused, as it must be: " if is_refused else "NOT REFUSED: ") + str(path.relative_to(ROOT)))
+    return is_refused
 
 
 class Trial:
@@ -425,6 +437,8 @@ def main() -> int:
     given = words.parse_args()
     if given.self_test:
         return self_test()
+    if given.compiler:
+        return int(not all([is_not_compiled(it) for it in sorted(ROOT.glob("crates/*/does-not-compile/*.edit"))]))
     if given.changed is not None:
         return told_changes(given.changed)
     there = {it.stem for folder in ("wrong-bodies/*", "must-fail") for it in ROOT.glob(f"crates/*/{folder}/*.edit")}

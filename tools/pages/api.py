@@ -1,16 +1,15 @@
 #!/usr/bin/env python3
-"""Writes docs/api/CRATE.md: each public item that a library declares, with its doc, its signature and its clauses.
+"""Writes docs/api: the public items of the libraries, from their sources.
 
     tools/pages/api.py            writes the pages
-    tools/pages/api.py --check    fails where a page isn't what the sources give, where a public item stands on none, and
-                                  where crates/xmas_elf/specs/Types.antt lacks a name; writes nothing
+    tools/pages/api.py --check    fails where a page isn't what the sources give, where a public item stands on none, where a file of
+                                  definitions doesn't say what it defines, and where crates/xmas_elf/specs/Types.antt lacks a name
 
 An item stands on the page of the crate that declares it, under its public path there. At the end of elf_base's page stands which
 calls return which error, as tools/pages/errors.py reads it off their docs.
 
 The clauses of other crates import the types, constants and errors of xmas_elf from Types.antt. A `pub use` passes on what a lower
-crate declares, but nothing that xmas_elf itself declares: an import there is refused with "has no `Thing` that can be named from
-here". So such a name counts only where Types.antt has an `abbrev pub` of it.
+crate declares, but nothing that xmas_elf itself declares: such a name counts only where Types.antt has an `abbrev pub` of it.
 """
 import pathlib
 import re
@@ -254,6 +253,10 @@ def main() -> int:
     pages = {crate: CratePage(sources, crate) for crate in LIBRARIES}
     texts = {PAGES / f"{crate}.md": page.text() for crate, page in pages.items()}
     faults = [fault for page in pages.values() for fault in page.missing()] + faults_of_types(sources) + differing(texts, is_check)
+    model = (PAGES.parent / "MODEL.md").read_text(encoding="utf-8")
+    faults += [f"docs/MODEL.md names no definitions of {it}" for it in LIBRARIES if f"(api/{it}.md#definitions)" not in model]
+    faults += [f"{it.relative_to(ROOT)} doesn't say what it defines" for it in ROOT.glob("crates/*/specs/**/*.antt")
+               if it.stem != "Lib" and not it.read_text(encoding="utf-8").startswith("--")]
     said = [f"{page.count} of {crate}" for crate, page in pages.items()]
     return ended(faults, f"{', '.join(said)}: public items on {len(texts)} pages, {len(faults)} faults")
 

@@ -1,15 +1,12 @@
 #!/usr/bin/env python3
 """Warns of each figure of the pages that is of a commit before its code, with the number of commits since that touched what it
-measures. The gate runs it last, and fails at none.
+measures (PATHS, by the first word of the command). The gate runs it last, and fails at none.
 
     tools/pages/figures.py
 
 A figure names its commit, its command and its machine in one line, behind which more may stand:
 
     Measured at COMMIT by `COMMAND` on MACHINE.
-
-What a command measures is in PATHS, by its first word. A figure whose sources have changed, whose commit isn't in this history,
-or whose line has another form is a warning: the script fails at none of them.
 """
 import pathlib
 import re

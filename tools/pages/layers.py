@@ -1,12 +1,10 @@
 #!/usr/bin/env python3
-"""Draws the crates of crates.txt, and what uses what, in CONTRIBUTING.md between its lines `<!-- layers -->` and
-`<!-- /layers -->`.
+"""Draws the crates of crates.txt, and what uses what, in CONTRIBUTING.md between `<!-- layers -->` and `<!-- /layers -->`.
 
     tools/pages/layers.py            writes the picture
     tools/pages/layers.py --check    fails where the page has another; writes nothing
 
-The picture is a Mermaid flowchart, with a line for each crate that uses others of the repository. A comment of crates.txt begins a
-group; the crates of tests are left out. Above the archive stand the languages that call it, by the folders of bindings/.
+A comment of crates.txt begins a group; the crates of tests are left out.
 """
 import pathlib
 import re

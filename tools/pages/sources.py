@@ -25,13 +25,11 @@ USE = re.compile(r"^(pub )?use ([^;]+);", re.MULTILINE)
 # What has no body in which another could stand: a constant is computed by it, and an opaque type is read off it.
 NO_STAND_IN = re.compile(r"\bconst (?:unsafe )?fn\b|-> impl\b")
 
-
 # A public item: its kind, its doc, and its text up to the body.
 Item = collections.namedtuple("Item", "kind name doc text source at")
 # An impl block or a trait: the trait of an impl, the type, the indices of its first and last line, its name in the path of a
 # function, as `Table`, `TableClone` or `Part_+P32`, and the type of an impl of no trait.
 Block = collections.namedtuple("Block", "trait type source at end is_trait label owner")
-
 
 FUNCTION_FIELDS = "file first last path named_at body owner in_trait of"
 
