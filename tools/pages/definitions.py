@@ -1,8 +1,5 @@
-#!/usr/bin/env python3
 """Follows the words of a contract to the definitions that they stand for.
 
-    tools/pages/definitions.py: lists the definitions that no contract of a public call leads to, and fails where there is one:
-    a reader of the contracts doesn't need it, and its place is in proofs/
     reader = Reader()
     reader.reached([reader.named("xmas_elf", "ElfFile::new")]): the definitions, each behind those that it uses
 
@@ -11,16 +8,11 @@ the spec files. It leads to a definition of a spec file, to a type or a constant
 trait, or to a word of std, which isn't followed.
 """
 import dataclasses
-import pathlib
 import re
-import sys
 
-sys.path.insert(0, str(pathlib.Path(__file__).resolve().parents[1]))
-from pages.sources import ROOT, ended, read
+from pages.sources import ROOT, read
 
 LIBRARIES = ("elf_base", "elf_records", "xmas_elf", "elf_linking", "elf_addresses", "elf_loading")
-# The crates whose contracts users read: the callers' name definitions too that are for clauses of users alone.
-CONTRACTS = (*LIBRARIES, "elf_c", "elf_callers", "linking_callers")
 
 USE = re.compile(r"^\s*(?:ghost )?(?:pub )?use ((?:Rattle|lib)\.[\w.]+?)(?:\.\{([^}]*)\}| as (\w+))?;?$", re.M)
 WORD = re.compile(r"(?<![.\w])[\w◌][\w◌'-]*(?:\.[\w]+)?|[^\s\w(){}\[\],;.:\"]+")
@@ -213,32 +205,8 @@ class Reader:
 
         for text, uses, _, _ in contracts:
             # The bounds of the type parameters are those of the impl and of the function.
-            head, *clauses = re.split(r"^(?=\s+(?:requires|ensures))", text, maxsplit=1, flags=re.M)
+            head, clauses = re.split(r"^(?=\s+(?:requires|ensures))", text, maxsplit=1, flags=re.M)
             self.types = set().union(*(self.implementors(it) for it in re.findall(r"\b[A-Z]: ([\w +]+)", head)))
-            for one in self.used("".join(clauses), uses, {}):
+            for one in self.used(clauses, uses, {}):
                 visit(one)
         return order
-
-    def public(self, source):
-        """The contracts of a file that users see: those of public calls and of methods of traits, and what ghost members say."""
-        for one in source.functions:
-            if one.in_trait or source.lines[one.named_at - 1].lstrip().startswith("pub "):
-                yield self.contract(source, one)
-        for at, line in enumerate(source.lines):
-            if re.match(r"    ghost (?!use)\w+(:| =)", line):
-                end = next(it for it in range(at, len(source.lines)) if source.lines[it].endswith((";", ",", "}")))
-                yield "\n".join(["\n    ensures", *source.lines[at : end + 1]]), uses_in(source.text), source.path, at + 1
-
-    def unreached(self):
-        """The definitions of the libraries and of elf_c that no such contract leads to."""
-        found = self.reached([it for (crate, _), source in self.sources.items() if crate in CONTRACTS for it in self.public(source)])
-        seen = {(one.path, one.line) for one in found}
-        # These three pass on names of other files.
-        files = (it for crate in (*LIBRARIES, "elf_c") for it in sorted((ROOT / "crates" / crate / "specs").rglob("*.antt")))
-        for path in (it for it in files if it.stem not in ("Lib", "Types", "Prelude")):
-            yield from (one for line, one in {it.line: it for it in self.spec(path).values()}.items() if (path, line) not in seen)
-
-
-if __name__ == "__main__":
-    found = [f"{it.path.relative_to(ROOT)}:{it.line}: {it.name}" for it in Reader().unreached()]
-    sys.exit(ended(found, f"{len(found)} definitions that no contract of a public call leads to"))

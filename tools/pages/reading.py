@@ -4,10 +4,12 @@
     tools/pages/reading.py            writes the definitions and the bytes into the page
     tools/pages/reading.py --check    fails where they aren't what the sources give; writes nothing
 
-Both print how many definitions the contracts of some calls lead to, and their lines, and fail above the call's bounds. The page is
-written by hand but for two kinds of rooms: `<!-- read CRATE::MODULE CALL .. -->` takes the text of each definition that the clauses of
-these calls lead to (tools/pages/definitions.py), and a folded list of those in a room above; `<!-- bytes FILE FIRST COUNT -->` takes
-bytes of a file of the repository in hexadecimal. A room ends with `<!-- end -->`.
+Both print how many definitions the contracts of some calls lead to, and their lines, and fail where there are more than the
+call's bounds.
+
+The page is written by hand but for two kinds of rooms. `<!-- read CRATE::MODULE CALL .. -->` takes the text of each definition that
+the clauses of these calls lead to (tools/pages/definitions.py), and a folded list of those that stand in a room above.
+`<!-- bytes FILE FIRST COUNT -->` takes bytes of a file of the repository in hexadecimal. A room ends with `<!-- end -->`.
 """
 import pathlib
 import re
