@@ -5,7 +5,7 @@
     tools/gate/budget.py write OUTPUT..  writes the part of docs/GATE.md between `<!-- gate -->` and `<!-- /gate -->` from the
                                          stored output of `.ci/run`, or of its parts, and into README.md the kit that it names
     tools/gate/budget.py check           fails where that table's total passes the budget, or its numbers don't add up, and where
-                                         README.md names another kit than the one that is here
+                                         README.md names another kit than that of the table; warns where this is another
 
 While `rt ci` runs, the processes below it are looked at twice a second: a prover's command line names the crate, and whether it proves
 the tests; its folder tells a must-fail edit. What lies between two looks counts as `rest`. Other load may double the seconds, so a
@@ -197,9 +197,10 @@ def write(paths) -> int:
 
 def check() -> int:
     page, named, kit = PAGE.read_text(encoding="utf-8"), NAMED_KIT.search(README.read_text(encoding="utf-8"))[0], said("rt", "version")
-    if named != kit:
-        print(f"README.md names the kit {named}, and this is {kit}: prove with it, and tools/gate/budget.py write names it")
+    if f"; {named.split(' ')[0]}, " not in page:
+        print(f"README.md names the kit {named}, and docs/GATE.md was measured with another")
         return 1
+    print(f"WARNING: README.md names the kit {named}, and this is {kit}: `budget.py write` names it\n" if named != kit else "", end="")
     total, rows = TOTAL.search(page), re.findall(r"^\| (?!\*\*total|Part).*\| ([\d.]+) \|$", page, re.M)
     if not total:
         print("docs/GATE.md: the table has no total")
