@@ -44,7 +44,7 @@ PATHS = {
     "tools/compare/fuzz_bindings.py": of("elfbind", "crates/elfsym/src"),
     "tools/exports/bindings.sh": of("elf_c", "bindings/rust/src", "bindings/compare/src"),
     "tools/exports/python.sh": of("elf_c", "bindings/python/xmas_elf", "bindings/python/speed.py"),
-    "tools/web/web.sh": of("elf_c", "bindings/web/*.js", "bindings/web/tests", "tools/web"),
+    **dict.fromkeys(("tools/web/web.sh", "bindings/web/tests/page.py"), of("elf_c", "bindings/web/*.js", "bindings/web/tests", "tools/web")),
     "tools/gate/wrong_bodies.py": ("crates", "tools/gate/edits.py"),
     ".ci/run": ("crates", "tools"),
 }
