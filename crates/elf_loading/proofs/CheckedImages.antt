@@ -17,35 +17,24 @@ use Rattle.elf_linking.specs.Exports.{SymbolParts, symbol_parts}
 use Rattle.elf_linking.specs.References.{file_machine}
 use Rattle.elf_linking.specs.RelocationTypes.{row_of}
 use Rattle.elf_linking.specs.Scope.{AreGood}
-use Rattle.elf_linking.specs.declared.error.LinkError.{LinkError}
-use Rattle.elf_linking.specs.declared.object.DynamicObject.{DynamicObject}
-use Rattle.elf_linking.specs.declared.references.Reference.{Reference}
-use Rattle.elf_linking.specs.declared.references.types.Formula.{Formula}
+use Rattle.elf_loading.specs.Types.{Bound, DynamicObject, Formula, LinkError, Loader, Place, Reference, Relocated, Relocation, Terms, Value, Word}
 use Rattle.elf_linking.specs.declared.references.types.Formula.TheVariants as formulas
-use Rattle.elf_linking.specs.declared.scope.Bound.{Bound}
 use Rattle.elf_linking.proofs.lemmas.CheckedBound.{own_symbols, reference_is}
 use Rattle.elf_base.specs.Table.{table_items}
 use Rattle.elf_loading.specs.Bytes.{byte_number, byte_of}
-use Rattle.elf_loading.specs.CheckedImage.{ImageParts, IsCheckedImage, IsMapped, AreWordsWritten, addend_in, byte_under, image_at_index, image_parts, image_words, relocated_at, start_in, symbol_for, with_addend, word_by, word_for, written_byte}
-use Rattle.elf_loading.specs.ImageWords.{AreWritten, MatchBoth, covers, words_in}
-use Rattle.elf_loading.specs.OneWord.{IsByOneWord, IsByOneWordIn, byte_by, is_of_word, is_over}
+use Rattle.elf_loading.specs.CheckedImage.{ImageParts, IsCheckedImage, IsMappedImage, AreWordsWritten, addend_in, byte_under, image_at_index, image_parts, image_words, relocated_at, start_in, symbol_for, with_addend, word_by, word_for, written_byte}
+use Rattle.elf_loading.specs.ImageWords.{AreWritten, MatchBoth, covers, item_words}
+use Rattle.elf_loading.specs.OneWord.{IsByOneWord, IsByOneWordIn, byte_by_item, is_of_word, is_over}
 use Rattle.elf_loading.specs.Plan.{plan_loads, plan_size, plan_span}
-use Rattle.elf_loading.specs.Relocate.{image_in, plan_start, sources_of, start_at, value_byte, word_byte}
+use Rattle.elf_loading.specs.Relocate.{image_in, plan_start, sources_of, image_start, value_byte, word_byte}
 use Rattle.elf_loading.specs.Values.{bytes_of, value_of}
-use Rattle.elf_loading.specs.Words.{HasWord, IsBoundIf, addend_of, and_link, formula_word, own_size, size_in_own, symbol_in, takes_symbol, value_word}
+use Rattle.elf_loading.specs.Words.{HasWord, IsBoundIf, addend_of, and_link, formula_word, own_size, size_in_own, formula_has_symbol, takes_symbol, value_word}
 use Rattle.elf_loading.specs.WordsLeft.{relocation_of}
-use Rattle.elf_loading.specs.declared.in_order.Relocation.{Relocation}
-use Rattle.elf_loading.specs.declared.mapping.Loader.{Loader}
 use Rattle.elf_loading.specs.declared.plan.LoadPlan.{LoadPlan}
-use Rattle.elf_loading.specs.declared.relocate.Place.{Place}
 use Rattle.elf_loading.specs.declared.relocate.Sources.{Sources}
-use Rattle.elf_loading.specs.declared.value.Terms.{Terms}
-use Rattle.elf_loading.specs.declared.value.Value.{Value}
 use Rattle.elf_loading.specs.declared.value.Value.TheVariants as values
 use Rattle.elf_loading.specs.declared.words.Binding.TheVariants.{Now}
-use Rattle.elf_loading.specs.declared.words.Relocated.{Relocated}
-use Rattle.elf_loading.specs.declared.words.Word.{Word}
-use Rattle.elf_loading.proofs.CheckedWords.{apart_once, word_once}
+use Rattle.elf_loading.proofs.CheckedWords.{apart_once, same_word}
 use Rattle.xmas_elf.specs.Symbol.{SymbolFields}
 
 -- a value by the fields of a symbol is the one by the symbol
@@ -55,36 +44,14 @@ module _ {E : Type 0} (fields : E → SymbolFields) (terms : Terms) where
 
   same_value : (bound : Option (Bound E)) (formula : Formula) → SameValue bound formula
   same_value bound formulas.Unchanged = refl
-  same_value bound formulas.Base = refl
-  same_value bound formulas.Call = refl
-  same_value None formulas.Symbol = refl
-  same_value (Some b) formulas.Symbol = refl
-  same_value None formulas.SymbolAlone = refl
-  same_value (Some b) formulas.SymbolAlone = refl
-  same_value None formulas.Distance = refl
-  same_value (Some b) formulas.Distance = refl
-  same_value None formulas.Size = refl
-  same_value (Some b) formulas.Size = refl
-  same_value None formulas.Module = refl
-  same_value (Some b) formulas.Module = refl
-  same_value None formulas.Offset = refl
-  same_value (Some b) formulas.Offset = refl
-  same_value None formulas.OffsetAlone = refl
-  same_value (Some b) formulas.OffsetAlone = refl
-  same_value None formulas.Thread = refl
-  same_value (Some b) formulas.Thread = refl
-  same_value None formulas.ThreadNegated = refl
-  same_value (Some b) formulas.ThreadNegated = refl
-  same_value None formulas.Descriptor = refl
-  same_value (Some b) formulas.Descriptor = refl
-  same_value None formulas.Copy = refl
-  same_value (Some b) formulas.Copy = refl
+  same_value None _ = refl
+  same_value (Some b) _ = refl
 
   abbrev word_with : Value → Word
   word_with value = record { address = terms.address; width = bytes_of terms.width value; value = value }
 
-  same_word : (bound : Option (Bound E)) (formula : Formula) → value_word fields terms bound formula ≡ value_word (λ symbol. symbol) terms (bound_fields fields bound) formula
-  same_word bound formula = ap word_with (same_value bound formula)
+  word_by_fields : (bound : Option (Bound E)) (formula : Formula) → value_word fields terms bound formula ≡ value_word (λ symbol. symbol) terms (bound_fields fields bound) formula
+  word_by_fields bound formula = ap word_with (same_value bound formula)
 
 or_false : (one : Bool) → (one || false) ≡ one
 or_false true = refl
@@ -105,17 +72,16 @@ module _ {E : Type 0} {r : _} (fields : E → SymbolFields) (objects : List (Dyn
   size_is symbol = size_by symbol (slice_get (table_items (object_records own)) symbol) ∙ ap (size_in_own (λ (s : SymbolParts). s.fields)) (sym (own_symbols fields own symbol))
 
   -- the same items of the same relocations
-  pub same_words : (items checked : List (Relocated E)) → map relocation_of items ≡ map relocation_of checked → All Worded items → All Worded checked → words_in items ≡ words_in checked
+  pub same_words : (items checked : List (Relocated E)) → map relocation_of items ≡ map relocation_of checked → All Worded items → All Worded checked → item_words items ≡ item_words checked
   same_words [] [] same has also = refl
   same_words [] (one ∷ checked) same has also = absurd (cc)
   same_words (item ∷ items) [] same has also = absurd (cc)
   same_words (item ∷ items) (one ∷ checked) same has also =
       let first : item.relocation ≡ one.relocation = cc in
       let rest : map relocation_of items ≡ map relocation_of checked = cc in
-      let also_first = subst (λ rel. HasWord fields objects (object_file own) own index false (record { relocation = rel; bound = one.bound; word = one.word })) (sym first) (All-head Worded one checked also) in
-      let word_is : item.word ≡ one.word = word_once fields objects own index false item.relocation item.bound one.bound item.word one.word (All-head Worded item items has) also_first in
+      let word_is = same_word fields objects own index item one first (All-head Worded item items has) (All-head Worded one checked also) in
       let more = same_words items checked rest (All-tail Worded item items has) (All-tail Worded one checked also) in
-      ap (λ word. word ∷ words_in items) word_is ∙ ap (λ words. one.word ∷ words) more
+      ap (λ word. word ∷ item_words items) word_is ∙ ap (λ words. one.word ∷ words) more
 
   module _ (law : IsCheckedImage fields objects plans index own plan) where
     pub symbol_is : (takes : Bool) (reference : Reference) (symbol : Option (Bound E)) → IsBoundIf takes fields objects index reference (Ok symbol)
@@ -160,9 +126,9 @@ module _ {E : Type 0} {r : _} (fields : E → SymbolFields) (objects : List (Dyn
           (symbol_for parts relocation.reference formula) formula) addend_is
           ∙ ap (λ n. value_word (λ symbol. symbol) (terms_by addend n) (symbol_for parts relocation.reference formula) formula) (sym size)
           ∙ ap (λ b. value_word (λ symbol. symbol) (terms_by addend (own_size fields own relocation.reference.symbol)) b formula) (sym symbols)
-          ∙ sym (same_word fields (terms_by addend (own_size fields own relocation.reference.symbol)) symbol formula) ∙ made)
+          ∙ sym (word_by_fields fields (terms_by addend (own_size fields own relocation.reference.symbol)) symbol formula) ∙ made)
 
-      word_by_formula : (formula : Option Formula) (bound : Result (Option (Bound E)) LinkError) → IsBoundIf (symbol_in formula) fields objects index relocation.reference bound
+      word_by_formula : (formula : Option Formula) (bound : Result (Option (Bound E)) LinkError) → IsBoundIf (formula_has_symbol formula) fields objects index relocation.reference bound
           → formula_word fields (object_file own) own index relocation.in_place relocation.reference bound formula ≡ Ok word → WordIs formula
       word_by_formula None bound has is = absurd (cc)
       word_by_formula (Some formula) bound has is =
@@ -174,14 +140,14 @@ module _ {E : Type 0} {r : _} (fields : E → SymbolFields) (objects : List (Dyn
         word_by_formula item.relocation word formula item.bound bound
         (ap (λ b. formula_word fields (object_file own) own index b item.relocation.reference item.bound formula) (sym (or_false item.relocation.in_place)) ∙ sym word_is ∙ known)
 
-    words_by : (items : List (Relocated E)) (words : List Word) → All Worded items → words_in items ≡ map (λ word. Ok word) words
+    words_by : (items : List (Relocated E)) (words : List Word) → All Worded items → item_words items ≡ map (λ word. Ok word) words
         → filter_map (word_for parts) (map (with_addend own) (map relocation_of items)) ≡ words
     words_by [] [] has are = refl
     words_by [] (word ∷ words) has are = absurd (cc)
     words_by (item ∷ items) [] has are = absurd (cc)
     words_by (item ∷ items) (word ∷ words) has are =
         let first : item.word ≡ Ok word = cc in
-        let rest : words_in items ≡ map (λ some. Ok some) words = cc in
+        let rest : item_words items ≡ map (λ some. Ok some) words = cc in
         let one = item_word item word (All-head Worded item items has) first in
         let more = words_by items words (All-tail Worded item items has) rest in
         rw one (ap (λ others. word ∷ others) more)
@@ -208,32 +174,26 @@ module _ {E : Type 0} {r : _} (fields : E → SymbolFields) (objects : Bor (List
   start_by None = refl
   start_by (Some plan) = refl
 
-  pub start_is : (object : ℕ) → start_at sources object ≡ start_in lists object
+  pub start_is : (object : ℕ) → image_start sources object ≡ start_in lists object
   start_is object = start_by (slice_get plans.now object) ∙ ap (λ found. unwrap_or found 0) (sym (slice_get-map (λ plan. (plan_span plan).start) plans.now object))
 
   value_is : (width : ℕ) (value : Value) (j old : ℕ) → value_byte sources width value j old ≡ written_byte lists places.now images.now width value j old
   value_is width (values.Copy object offset size) j old = ap (λ start. slice_index (image_in (slice_get images.now object)) (offset - start + j)) (start_is object)
-  value_is width values.Unchanged j old = refl
-  value_is width (values.Sum origin offset) j old = refl
-  value_is width (values.Distance origin offset) j old = refl
-  value_is width (values.Module object) j old = refl
-  value_is width (values.Thread object offset) j old = refl
-  value_is width (values.ThreadNegated object offset) j old = refl
-  value_is width (values.Descriptor object offset) j old = refl
+  value_is width _ j old = refl
 
-  pub byte_is : (address : ℕ) (items : List (Relocated E)) (words : List Word) → words_in items ≡ map (λ word. Ok word) words → (old : ℕ)
-      → byte_by sources address (find (is_over address) items) old ≡ byte_under lists places.now images.now address (find (covers address) words) old
+  pub byte_is : (address : ℕ) (items : List (Relocated E)) (words : List Word) → item_words items ≡ map (λ word. Ok word) words → (old : ℕ)
+      → byte_by_item sources address (find (is_over address) items) old ≡ byte_under lists places.now images.now address (find (covers address) words) old
   byte_is address [] [] are old = refl
   byte_is address [] (word ∷ words) are old = absurd (cc)
   byte_is address (item ∷ items) [] are old = absurd (cc)
   byte_is address (item ∷ items) (word ∷ words) are old =
       let first : item.word ≡ Ok word = cc in
-      let rest : words_in items ≡ map (λ some. Ok some) words = cc in
+      let rest : item_words items ≡ map (λ some. Ok some) words = cc in
       by_first (covers address word) refl (ap (is_of_word address) first) (ap (λ w. word_byte sources address w old) first) (byte_is address items words rest old)
     where
       by_first : (hit : Bool) → covers address word ≡ hit → is_over address item ≡ covers address word → word_byte sources address item.word old ≡ word_byte sources address (Ok word) old
-          → byte_by sources address (find (is_over address) items) old ≡ byte_under lists places.now images.now address (find (covers address) words) old
-          → byte_by sources address (find (is_over address) (item ∷ items)) old ≡ byte_under lists places.now images.now address (find (covers address) (word ∷ words)) old
+          → byte_by_item sources address (find (is_over address) items) old ≡ byte_under lists places.now images.now address (find (covers address) words) old
+          → byte_by_item sources address (find (is_over address) (item ∷ items)) old ≡ byte_under lists places.now images.now address (find (covers address) (word ∷ words)) old
       by_first true hit same written more = rw (same ∙ hit, hit) (written ∙ rw hit (value_is word.width word.value (address - word.address) old))
       by_first false miss same written more = rw (same ∙ miss, miss) more
 
@@ -243,7 +203,7 @@ module _ {E : Type 0} {r : _} (fields : E → SymbolFields) (objects : Bor (List
   bytes_by false now law before after one i below =
       let by_ok : map relocation_of one.items ≡ map relocation_of law.apart.items = let same = sym one.are ∙ law.apart.relocations_are in cc in
       let words = same_words fields objects.now plans.now index own plan one.items law.apart.items by_ok one.have_words law.apart.have_words ∙ law.apart.words_are in
-      let address = start_at sources index + i in
+      let address = image_start sources index + i in
       one.bytes i below (one.once law.apart address)
       ∙ byte_is address one.items law.apart.words words (slice_index before i)
       ∙ ap (λ all. byte_under lists places.now images.now address (find (covers address) all) (slice_index before i)) (sym (image_words_are fields objects.now plans.now index own plan law))
@@ -292,7 +252,7 @@ known_by size fields objects plans index own plan good is also passes =
 pub mapped_known : {E : Type 0} {r : _} (fields : E → SymbolFields) (objects : List (DynamicObject E r)) (plans : List LoadPlan) (index : ℕ) (own : DynamicObject E r) (plan : LoadPlan) (by : Loader) (image : List ℕ)
     → ∥ IsCheckedImage fields objects plans index own plan ∥₁ → length image ≡ plan_size plan
     → ((i : ℕ) → i < length image → slice_index image i ≡ byte_number plan.input.now (byte_of plan.page by (length plan.input.now) ((plan_span plan).start + i) (plan_loads plan)))
-    → IsMapped (image_parts fields objects plans index own plan) by image
+    → IsMappedImage (image_parts fields objects plans index own plan) by image
 mapped_known fields objects plans index own plan by image known size bytes = let code : Coded ℕ = hlevel (codes) in record {
   size = size;
   bytes = λ i below. ∥∥₁_elim known (SetCoded-set (coded code) _ _) (λ law. bytes i below ∙ ap (λ start. byte_number plan.input.now (byte_of plan.page by (length plan.input.now) (start + i) (plan_loads plan)))

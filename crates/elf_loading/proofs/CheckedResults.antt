@@ -1,10 +1,11 @@
--- The result of the relocation of a checked image, by the lists of its object.
-use Rattle.std.proofs.Common.{◌≡◌, ℕ, zero, suc, ◌-◌, ◌^◌, ◌==◌, ◌&&◌, ◌||◌, ◌++◌, not, is_none, min, Bool, true, false, List, [], ◌∷◌, length, map, slice_get, Option, None, Some, Result, Ok, Err, IsOk, if◌then◌else◌, cond, refl, sym, ap, ◌∙◌, subst, append-nil, arith}
+-- The result of the relocation of a checked image, and the bytes that it leaves if some word can't be written, by the lists
+-- of its object.
+use Rattle.std.proofs.Common.{◌≡◌, ℕ, zero, suc, ◌-◌, ◌^◌, ◌==◌, ◌&&◌, ◌||◌, ◌++◌, not, is_none, min, Bool, true, false, List, [], ◌∷◌, length, map, slice_get, Option, None, Some, Result, Ok, Err, IsOk, if◌then◌else◌, cond, refl, sym, ap, ◌∙◌, subst, append-nil, arith, ◌+◌, ◌<◌, ◌≤◌, slice_index}
 use Rattle.std.proofs.lemmas.List.{length-map}
 use Rattle.std.proofs.lemmas.List.Elements.{All-head, All-tail}
 use Rattle.std.specs.Borrow.{Bor}
-use Rattle.std.specs.List.{Contains, count_by}
-use Rattle.std.specs.Prelude.{All, MatchResult, filter_map, option_and_then, option_map, unwrap_or}
+use Rattle.std.specs.List.{Contains, count_by, take_while}
+use Rattle.std.specs.Prelude.{All, filter_map, option_and_then, option_map, unwrap_or}
 use Rattle.std.specs.Result.{result_ok}
 use base.SetCodes.{SetCoded-set, coded}
 use base.Stored.{Coded}
@@ -17,35 +18,25 @@ use Rattle.elf_linking.specs.DynamicObject.{object_dynamic_symbols, object_file,
 use Rattle.elf_linking.specs.Exports.{SymbolParts, object_parts, symbol_parts}
 use Rattle.elf_linking.specs.References.{file_machine}
 use Rattle.elf_linking.specs.RelocationTypes.{row_of}
-use Rattle.elf_linking.specs.declared.error.LinkError.{LinkError}
-use Rattle.elf_linking.specs.declared.object.DynamicObject.{DynamicObject}
-use Rattle.elf_linking.specs.declared.references.Reference.{Reference}
-use Rattle.elf_linking.specs.declared.references.types.Formula.{Formula}
-use Rattle.elf_linking.specs.declared.scope.Bound.{Bound}
+use Rattle.elf_loading.specs.Types.{Bound, DynamicObject, Formula, ImageError, LinkError, LoadError, Place, Reference, Relocated, Relocation, Value, Word}
 use Rattle.elf_linking.proofs.lemmas.CheckedBound.{own_symbols}
-use Rattle.elf_loading.specs.CheckedImage.{ImageParts, IsCheckedImage, fault_of, first_or, image_parts, image_result, image_words, is_fault, is_missing, is_size_wrong, is_without_source, load_error, with_addend}
-use Rattle.elf_loading.specs.ImageWords.{words_in}
-use Rattle.elf_loading.specs.Plan.{plan_size, plan_span}
-use Rattle.elf_loading.specs.Relocate.{IsRelocation, IsRelocationIn, IsWriting, all, has_no_number, image_in, is_absent, is_copy_outside, is_outside, is_unresolved, is_weak, is_wrong_size, lacks_number, sized_relocations, some, sources_of, start_at, write_item}
-use Rattle.elf_loading.specs.Words.{HasWord, IsBoundIf, addend_of, and_link, formula_word, own_size, symbol_in, value_word}
-use Rattle.elf_loading.specs.WordsLeft.{relocation_of, words_of}
-use Rattle.elf_loading.specs.declared.checked.image.ImageError.{ImageError}
-use Rattle.elf_loading.specs.declared.checked.image.ImageError.TheVariants as faults
-use Rattle.elf_loading.specs.declared.error.LoadError.{LoadError}
-use Rattle.elf_loading.specs.declared.error.LoadError.TheVariants as error
-use Rattle.elf_loading.specs.declared.in_order.Relocation.{Relocation}
+use Rattle.elf_loading.specs.CheckedImage.{ImageParts, IsCheckedImage, fault_of, first_or, image_parts, image_result, image_words, is_fault, is_missing, is_size_wrong, is_without_source, load_error, with_addend, AreWordsWritten, relocated_at, start_in, word_for, written_words}
+use Rattle.elf_loading.specs.ImageWords.{item_words, covers}
+use Rattle.elf_loading.specs.Plan.{plan_size, plan_span, plan_loads}
+use Rattle.elf_loading.specs.Relocate.{AreItemsWritten, IsRelocation, IsRelocationIn, IsWriting, all, has_no_number, image_in, is_absent, is_copy_outside, is_outside, is_unresolved, is_weak, is_wrong_size, lacks_number, some, sources_of, image_start, write_item}
+use Rattle.elf_loading.specs.Words.{HasWord, IsBoundIf, addend_of, and_link, formula_word, own_size, formula_has_symbol, value_word}
+use Rattle.elf_loading.specs.WordsLeft.{relocation_of, own_relocations}
 use Rattle.elf_loading.specs.declared.plan.LoadPlan.{LoadPlan}
-use Rattle.elf_loading.specs.declared.relocate.Place.{Place}
 use Rattle.elf_loading.specs.declared.relocate.Sources.{Sources}
-use Rattle.elf_loading.specs.declared.value.Value.{Value}
-use Rattle.elf_loading.specs.declared.value.Value.TheVariants as values
 use Rattle.elf_loading.specs.declared.words.Binding.TheVariants.{Now}
-use Rattle.elf_loading.specs.declared.words.Relocated.{Relocated}
-use Rattle.elf_loading.specs.declared.words.Word.{Word}
-use Rattle.elf_loading.proofs.CheckedWords.{count_first, word_once}
-use Rattle.elf_loading.proofs.CheckedImages.{image_words_are, item_word, same_words, start_is, symbol_is}
-use Rattle.elf_loading.proofs.ErrorsLeft.{at_place, inside}
+use Rattle.elf_loading.proofs.CheckedWords.{count_first, count_known, same_word, apart_once, known_count}
+use Rattle.elf_loading.proofs.CheckedImages.{image_words_are, item_word, same_words, start_is, symbol_is, byte_is}
+use Rattle.elf_loading.proofs.OneWords.{at_place, by_sizes, inside, relocated_once}
 use Rattle.xmas_elf.specs.Symbol.{SymbolFields}
+use Rattle.std.proofs.lemmas.List.Sums.{take_while-cons}
+use Rattle.elf_loading.specs.declared.checked.image.ImageError.TheVariants as faults
+use Rattle.elf_loading.specs.declared.error.LoadError.TheVariants as error
+use Rattle.elf_loading.specs.declared.value.Value.TheVariants as values
 
 -- a result with such an error
 abbrev pub as_load : Result ℕ ImageError → Result ℕ LoadError
@@ -77,6 +68,13 @@ and_false : (one : Bool) → (one && false) ≡ false
 and_false true = refl
 and_false false = refl
 
+one_more : (address : ℕ) (word : Word) (firsts words : List Word) → count_by (covers address) firsts ≤ count_by (covers address) words
+    → count_by (covers address) (word ∷ firsts) ≤ count_by (covers address) (word ∷ words)
+one_more address word firsts words fewer =
+    let one = count_first (covers address) word firsts in
+    let other = count_first (covers address) word words in
+    omega (arith, one, other, fewer)
+
 module _ {E : Type 0} {r : _} (fields : E → SymbolFields) (objects : Bor (List (DynamicObject E r))) (plans : Bor (List LoadPlan)) (index : ℕ) (own : DynamicObject E r) (plan : LoadPlan) (places : Bor (List Place)) (images : Bor (List (Bor (List ℕ)))) where
   abbrev lists : ImageParts
   lists = image_parts fields objects.now plans.now index own plan
@@ -87,18 +85,12 @@ module _ {E : Type 0} {r : _} (fields : E → SymbolFields) (objects : Bor (List
   abbrev Worded : Relocated E → Type 0
   Worded item = HasWord fields objects.now (object_file own) own index false item
 
-  start : (object : ℕ) → start_at sources object ≡ unwrap_or (slice_get lists.starts object) 0
+  start : (object : ℕ) → image_start sources object ≡ unwrap_or (slice_get lists.starts object) 0
   start object = start_is fields objects plans index own plan places images object
 
   copied_is : (width : ℕ) (value : Value) → is_copy_outside sources width value ≡ is_without_source lists images.now width value
   copied_is width (values.Copy object offset size) = ap (λ s. is_outside s (length (image_in (slice_get images.now object))) offset width) (start object)
-  copied_is width values.Unchanged = refl
-  copied_is width (values.Sum origin offset) = refl
-  copied_is width (values.Distance origin offset) = refl
-  copied_is width (values.Module object) = refl
-  copied_is width (values.Thread object offset) = refl
-  copied_is width (values.ThreadNegated object offset) = refl
-  copied_is width (values.Descriptor object offset) = refl
+  copied_is width _ = refl
 
   weak_by : (symbol : ℕ) (found : Option E) → is_weak fields found ≡ is_weak (λ (s : SymbolParts). s.fields) (option_map (symbol_parts (object_dynamic_symbols fields own) symbol) found)
   weak_by symbol None = refl
@@ -106,6 +98,50 @@ module _ {E : Type 0} {r : _} (fields : E → SymbolFields) (objects : Bor (List
 
   weak_is : (symbol : ℕ) → is_weak fields (slice_get (table_items (object_records own)) symbol) ≡ is_weak (λ (s : SymbolParts). s.fields) (slice_get lists.own.symbols symbol)
   weak_is symbol = weak_by symbol (slice_get (table_items (object_records own)) symbol) ∙ ap (is_weak (λ (s : SymbolParts). s.fields)) (sym (own_symbols fields own symbol))
+
+  -- The faults of relocations, and the words before the first that has one.
+
+  abbrev is_fine : Reference → Bool
+  is_fine reference = is_none (fault_of lists images.now reference)
+
+  abbrev fault_for : Relocation → Option ImageError
+  fault_for relocation = fault_of lists images.now (with_addend own relocation)
+
+  abbrev faults_in : List Relocation → List ImageError
+  faults_in relocations = filter_map (fault_of lists images.now) (map (with_addend own) relocations)
+
+  abbrev words_before : List Relocation → List Word
+  words_before relocations = filter_map (word_for lists) (take_while is_fine (map (with_addend own) relocations))
+
+  none_first : (relocation : Relocation) (rest : List Relocation) → fault_for relocation ≡ None → faults_in (relocation ∷ rest) ≡ faults_in rest
+  none_first relocation rest none = rw none refl
+
+  some_first : (relocation : Relocation) (rest : List Relocation) (fault : ImageError) → fault_for relocation ≡ Some fault → faults_in (relocation ∷ rest) ≡ fault ∷ faults_in rest
+  some_first relocation rest fault some_is = rw some_is refl
+
+  -- the words of the first of some items, which are written
+  record AreFirst (items : List (Relocated E)) (rest : List Relocation) (words : List Word) : Type 0 where
+    first : List Word
+    known : item_words items ≡ map (λ word. Ok word) first
+    faultless : faults_in (map relocation_of items ++ rest) ≡ faults_in rest
+    taken : words_before (map relocation_of items ++ rest) ≡ first ++ words_before rest
+    fewer : (address : ℕ) → count_by (covers address) first ≤ count_by (covers address) words
+
+  none_fewer : (address : ℕ) (words : List Word) → count_by (covers address) [] ≤ count_by (covers address) words
+  none_fewer address words = let none : count_by (covers address) [] ≡ 0 = refl in omega (arith, none)
+
+  step_taken : (relocation : Relocation) (rest : List Relocation) (word : Word) → fault_of lists images.now (with_addend own relocation) ≡ None → word_for lists (with_addend own relocation) ≡ Some word
+      → words_before (relocation ∷ rest) ≡ word ∷ words_before rest
+  step_taken relocation rest word none word_is =
+      let fine : is_fine (with_addend own relocation) ≡ true = ap is_none none in
+      ap (filter_map (word_for lists)) (take_while-cons is_fine (with_addend own relocation) (map (with_addend own) rest)
+      ∙ ap (λ b. cond b (with_addend own relocation ∷ take_while is_fine (map (with_addend own) rest)) []) fine) ∙ rw word_is refl
+
+  last_taken : (relocation : Relocation) (rest : List Relocation) (fault : ImageError) → fault_of lists images.now (with_addend own relocation) ≡ Some fault → words_before (relocation ∷ rest) ≡ []
+  last_taken relocation rest fault is =
+      let bad : is_fine (with_addend own relocation) ≡ false = ap is_none is in
+      ap (filter_map (word_for lists)) (take_while-cons is_fine (with_addend own relocation) (map (with_addend own) rest)
+      ∙ ap (λ b. cond b (with_addend own relocation ∷ take_while is_fine (map (with_addend own) rest)) []) bad)
 
   module _ (law : IsCheckedImage fields objects.now plans.now index own plan) where
     absent_by : (symbol : Option (Bound E)) (known : Option (Bound SymbolFields)) → bound_fields fields symbol ≡ known → is_absent {E = E} (Ok symbol) ≡ is_none known
@@ -149,19 +185,19 @@ module _ {E : Type 0} {r : _} (fields : E → SymbolFields) (objects : Bor (List
     missing_is : (item : Relocated E) (word : Word) → Worded item → item.word ≡ Ok word → is_unresolved fields own false item ≡ is_missing lists (with_addend own item.relocation)
     missing_is item word has known =
         let reference = item.relocation.reference in
-        let takes = symbol_in (row_of (file_machine (object_file own)) reference.kind).formula in
+        let takes = formula_has_symbol (row_of (file_machine (object_file own)) reference.kind).formula in
         ap (λ weak. is_absent item.bound && takes && not weak) (weak_is reference.symbol)
         ∙ missing_by takes (is_weak (λ (s : SymbolParts). s.fields) (slice_get lists.own.symbols reference.symbol)) reference item.bound (bound_ok item word has known) has.0
 
     module _ (len : ℕ) where
       -- what an item writes, by the lists
-      pub item_result : (item : Relocated E) (word : Word) → Worded item → item.word ≡ Ok word → is_outside (start_at sources index) len word.address word.width ≡ false
+      pub item_result : (item : Relocated E) (word : Word) → Worded item → item.word ≡ Ok word → is_outside (image_start sources index) len word.address word.width ≡ false
           → write_item fields sources own false len item ≡ or_fault (fault_of lists images.now (with_addend own item.relocation)) (has_no_number word.value)
       item_result item word has known inside_is =
-          let outside = is_outside (start_at sources index) len word.address word.width in
+          let outside = is_outside (image_start sources index) len word.address word.width in
           let missing = is_missing lists (with_addend own item.relocation) in
           let step : Result Word LoadError → Result Bool LoadError = λ some_word. and_then some_word (λ w. if is_unresolved fields own false item then Err error.Unresolved
-          else unless ((is_outside (start_at sources index) len w.address w.width, error.WordAddress) ∷ (is_copy_outside sources w.width w.value, error.CopySource) ∷ []) (has_no_number w.value)) in
+          else unless ((is_outside (image_start sources index) len w.address w.width, error.WordAddress) ∷ (is_copy_outside sources w.width w.value, error.CopySource) ∷ []) (has_no_number w.value)) in
           let word_is = item_word fields objects.now plans.now index own plan law item word has known in
           let by_word : Option Word → Bool → Option ImageError = λ found missing. if missing then Some faults.Unresolved
           else option_and_then (λ w. if is_without_source lists images.now w.width w.value then Some faults.CopySource else None) found in
@@ -174,90 +210,95 @@ module _ {E : Type 0} {r : _} (fields : E → SymbolFields) (objects : Bor (List
       abbrev Written : Relocated E → Type 0
       Written item = IsOk (write_item fields sources own false len item)
 
-      abbrev fault_for : Relocation → Option ImageError
-      fault_for relocation = fault_of lists images.now (with_addend own relocation)
-
-      abbrev faults_in : List Relocation → List ImageError
-      faults_in relocations = filter_map (fault_of lists images.now) (map (with_addend own) relocations)
-
-      none_first : (relocation : Relocation) (rest : List Relocation) → fault_for relocation ≡ None → faults_in (relocation ∷ rest) ≡ faults_in rest
-      none_first relocation rest none = rw none refl
-
-      some_first : (relocation : Relocation) (rest : List Relocation) (fault : ImageError) → fault_for relocation ≡ Some fault → faults_in (relocation ∷ rest) ≡ fault ∷ faults_in rest
-      some_first relocation rest fault some_is = rw some_is refl
-
-      -- relocations whose words are written have no fault
-      past : (items : List (Relocated E)) (rest : List Relocation) (checked : List (Relocated E)) (words : List Word) → map relocation_of checked ≡ map relocation_of items ++ rest
-          → words_in checked ≡ map (λ word. Ok word) words → All Worded checked → All Worded items → ((w : Word) → Contains words w → is_outside (start_at sources index) len w.address w.width ≡ false)
-          → All Written items → faults_in (map relocation_of items ++ rest) ≡ faults_in rest
-      past [] rest checked words same known also has held written = refl
-      past (item ∷ items) rest [] words same known also has held written = absurd (cc)
-      past (item ∷ items) rest (one ∷ checked) [] same known also has held written = absurd (cc)
-      past (item ∷ items) rest (one ∷ checked) (word ∷ words) same known also has held written =
+      are_first : (items : List (Relocated E)) (rest : List Relocation) (checked : List (Relocated E)) (words : List Word) → map relocation_of checked ≡ map relocation_of items ++ rest
+          → item_words checked ≡ map (λ word. Ok word) words → All Worded checked → All Worded items → ((w : Word) → Contains words w → is_outside (image_start sources index) len w.address w.width ≡ false)
+          → All Written items → AreFirst items rest words
+      are_first [] rest checked words same known also has held written = record { first = []; known = refl; faultless = refl; taken = refl; fewer = λ address. none_fewer address words }
+      are_first (item ∷ items) rest [] words same known also has held written = absurd (cc)
+      are_first (item ∷ items) rest (one ∷ checked) [] same known also has held written = absurd (cc)
+      are_first (item ∷ items) rest (one ∷ checked) (word ∷ words) same known also has held written =
           let first : item.relocation ≡ one.relocation = cc in
           let others : map relocation_of checked ≡ map relocation_of items ++ rest = cc in
           let word_is : one.word ≡ Ok word = cc in
-          let words_are : words_in checked ≡ map (λ some. Ok some) words = cc in
+          let words_are : item_words checked ≡ map (λ some. Ok some) words = cc in
           let has_first = All-head Worded item items has in
-          let also_first = subst (λ rel. HasWord fields objects.now (object_file own) own index false (record { relocation = rel; bound = one.bound; word = one.word })) (sym first) (All-head Worded one checked also) in
-          let known_is : item.word ≡ Ok word = word_once fields objects.now own index false item.relocation item.bound one.bound item.word one.word has_first also_first ∙ word_is in
+          let known_is : item.word ≡ Ok word = same_word fields objects.now own index item one first has_first (All-head Worded one checked also) ∙ word_is in
           let result = item_result item word has_first known_is (held word (zero, omega arith, refl)) in
-          let none = no_fault (fault_for item.relocation) (has_no_number word.value) (subst (λ result. IsOk result) result (All-head Written item items written)) in
-          let held_rest : (w : Word) → Contains words w → is_outside (start_at sources index) len w.address w.width ≡ false = λ w in_rest. let (k, below, is) = in_rest in held w (suc k, omega (arith, below), is) in
-          none_first item.relocation (map relocation_of items ++ rest) none
-          ∙ past items rest checked words others words_are (All-tail Worded one checked also) (All-tail Worded item items has) held_rest (All-tail Written item items written)
+          let none = no_fault (fault_of lists images.now (with_addend own item.relocation)) (has_no_number word.value) (subst (λ result. IsOk result) result (All-head Written item items written)) in
+          let held_rest : (w : Word) → Contains words w → is_outside (image_start sources index) len w.address w.width ≡ false = λ w in_rest. let (k, below, is) = in_rest in held w (suc k, omega (arith, below), is) in
+          let more = are_first items rest checked words others words_are (All-tail Worded one checked also) (All-tail Worded item items has) held_rest (All-tail Written item items written) in record {
+            first = word ∷ more.first;
+            known = ap (λ one. one ∷ item_words items) known_is ∙ ap (λ all. Ok word ∷ all) more.known;
+            faultless = none_first item.relocation (map relocation_of items ++ rest) none ∙ more.faultless;
+            taken = step_taken item.relocation (map relocation_of items ++ rest) word none (item_word fields objects.now plans.now index own plan law item word has_first known_is) ∙ ap (λ all. word ∷ all) more.taken;
+            fewer = λ address. one_more address word more.first words (more.fewer address);
+          }
 
-    counted_by : (items : List (Relocated E)) (words : List Word) → words_in items ≡ map (λ word. Ok word) words
-        → count_by (λ item. lacks_number item.word) items ≡ count_by (λ word. has_no_number word.value) words
-    counted_by [] [] are = refl
-    counted_by [] (word ∷ words) are = absurd (cc)
-    counted_by (item ∷ items) [] are = absurd (cc)
-    counted_by (item ∷ items) (word ∷ words) are =
-        let first : item.word ≡ Ok word = cc in
-        let rest : words_in items ≡ map (λ some. Ok some) words = cc in
-        let lacks : lacks_number item.word ≡ has_no_number word.value = ap lacks_number first in
-        let one = count_first (λ (item : Relocated E). lacks_number item.word) item items in
-        let other = count_first (λ (word : Word). has_no_number word.value) word words in
-        let same : ◌≡◌ {A = ℕ} (cond (lacks_number item.word) 1 0) (cond (has_no_number word.value) 1 0) = ap (λ b. cond b 1 0) lacks in
-        let more = counted_by items words rest in
-        omega (arith, one, other, same, more)
+    module _ (before after : List ℕ) where
+      abbrev len_before : ℕ
+      len_before = length before
 
-    module _ (before after : List ℕ) (right : is_wrong_size sources plan (length before) ≡ false) where
       abbrev count_of : List Word → ℕ
       count_of words = min (count_by (λ word. has_no_number word.value) words) (2 ^ 64 - 1)
 
-      references_are : (relocations : List Relocation) → words_of (Some own) ≡ Ok relocations → filter_map (fault_of lists images.now) lists.references ≡ faults_in (length before) relocations
+      abbrev BytesBy : List Word → Type 0
+      BytesBy words = (i : ℕ) → i < len_before → slice_index after i ≡ relocated_at lists places.now images.now words (start_in lists index + i) (slice_index before i)
+
+      references_are : (relocations : List Relocation) → own_relocations (Some own) ≡ Ok relocations → filter_map (fault_of lists images.now) lists.references ≡ faults_in relocations
       references_are relocations are = ap (λ said. filter_map (fault_of lists images.now) (map (with_addend own) (unwrap_or (result_ok said) []))) are
 
-      held : (word : Word) → Contains law.apart.words word → is_outside (start_at sources index) (length before) word.address word.width ≡ false
-      held word has = inside fields sources own plan before after law.plan_is law.apart right word has
+      module _ (right : is_wrong_size sources plan (length before) ≡ false) where
+        by_ok : {A B : Type 0} {x y : A} → ◌≡◌ {A = Result A B} (Ok x) (Ok y) → x ≡ y
+        by_ok is = cc
 
-      by_ok : {A B : Type 0} {x y : A} → ◌≡◌ {A = Result A B} (Ok x) (Ok y) → x ≡ y
-      by_ok is = cc
+        firsts_of : (items : List (Relocated E)) (rest : List Relocation) (count : ℕ) → map relocation_of law.apart.items ≡ map relocation_of items ++ rest
+            → AreItemsWritten fields sources own false before after items count → AreFirst items rest law.apart.words
+        firsts_of items rest count same written =
+            are_first len_before items rest law.apart.items law.apart.words same law.apart.words_are law.apart.have_words written.have_words
+            (λ word has. inside fields sources own plan before after law.plan_is law.apart right word has) written.can_be
 
-      written_is : (relocations : List Relocation) (result : Result ℕ LoadError) → words_of (Some own) ≡ Ok relocations → IsWriting fields sources own false relocations before after result
-          → result ≡ as_load (first_or (filter_map (fault_of lists images.now) lists.references) (count_of (image_words lists)))
-      written_is relocations result are (all items count is written done) =
-          let same : map relocation_of law.apart.items ≡ map relocation_of items ++ [] = by_ok (sym law.apart.relocations_are ∙ are) ∙ is ∙ sym (append-nil (map relocation_of items)) in
-          let none : faults_in (length before) (map relocation_of items ++ []) ≡ [] =
-          past (length before) items [] law.apart.items law.apart.words same law.apart.words_are law.apart.have_words written.have_words held written.can_be in
-          let faults_are : filter_map (fault_of lists images.now) lists.references ≡ [] =
-          references_are relocations are ∙ ap (faults_in (length before)) (is ∙ sym (append-nil (map relocation_of items))) ∙ none in
-          let words = same_words fields objects.now plans.now index own plan items law.apart.items (sym (same ∙ append-nil (map relocation_of items))) written.have_words law.apart.have_words ∙ law.apart.words_are in
-          let count_is : count ≡ count_of (image_words lists) = written.counted ∙ ap (λ n. min n (2 ^ 64 - 1)) (counted_by items law.apart.words words)
-          ∙ ap count_of (sym (image_words_are fields objects.now plans.now index own plan law)) in
-          done ∙ ap (λ n. Ok n) count_is ∙ ap (λ all_faults. as_load (first_or all_faults (count_of (image_words lists)))) (sym faults_are)
-      written_is relocations result are (some items count item rest why is written has can_not stopped) =
-          let same : map relocation_of law.apart.items ≡ map relocation_of items ++ (item.relocation ∷ rest) = by_ok (sym law.apart.relocations_are ∙ are) ∙ is in
-          let found = at_place fields sources own plan before after law.plan_is (map relocation_of items) item.relocation rest law.apart.items law.apart.words same law.apart.words_are law.apart.have_words in
-          let word_is : item.word ≡ Ok found.word = word_once fields objects.now own index false item.relocation item.bound found.one.bound item.word found.one.word has
-          (subst (λ rel. HasWord fields objects.now (object_file own) own index false (record { relocation = rel; bound = found.one.bound; word = found.one.word })) found.same found.has) ∙ found.known in
-          let result_is = item_result (length before) item found.word has word_is (held found.word found.place) in
-          let (fault, fault_is, error_is) = its_fault (fault_for (length before) item.relocation) (has_no_number found.word.value) why (sym result_is ∙ can_not) in
-          let skipped = past (length before) items (item.relocation ∷ rest) law.apart.items law.apart.words same law.apart.words_are law.apart.have_words written.have_words held written.can_be in
-          let faults_are : filter_map (fault_of lists images.now) lists.references ≡ fault ∷ faults_in (length before) rest =
-          references_are relocations are ∙ ap (faults_in (length before)) is ∙ skipped ∙ some_first (length before) item.relocation rest fault fault_is in
-          stopped ∙ ap (λ e. Err e) (sym error_is) ∙ ap (λ all_faults. as_load (first_or all_faults (count_of (image_words lists)))) (sym faults_are)
+        -- the fault of the item after those that are written
+        fault_at : (items : List (Relocated E)) (item : Relocated E) (rest : List Relocation) (why : LoadError) → map relocation_of law.apart.items ≡ map relocation_of items ++ (item.relocation ∷ rest)
+            → Worded item → write_item fields sources own false len_before item ≡ Err why → (fault : ImageError) × (fault_for item.relocation ≡ Some fault) × (load_error fault ≡ why)
+        fault_at items item rest why same has can_not =
+            let found = at_place fields sources own plan before after law.plan_is (map relocation_of items) item.relocation rest law.apart.items law.apart.words same law.apart.words_are law.apart.have_words in
+            let word_is : item.word ≡ Ok found.word = same_word fields objects.now own index item found.one (sym found.same) has found.has ∙ found.known in
+            let result_is = item_result len_before item found.word has word_is (inside fields sources own plan before after law.plan_is law.apart right found.word found.place) in
+            its_fault (fault_for item.relocation) (has_no_number found.word.value) why (sym result_is ∙ can_not)
+
+        written_is : (relocations : List Relocation) (result : Result ℕ LoadError) → own_relocations (Some own) ≡ Ok relocations → IsWriting fields sources own false relocations before after result
+            → result ≡ as_load (first_or (filter_map (fault_of lists images.now) lists.references) (count_of (image_words lists)))
+        written_is relocations result are (all items count is written done) =
+            let same : map relocation_of law.apart.items ≡ map relocation_of items ++ [] = by_ok (sym law.apart.relocations_are ∙ are) ∙ is ∙ sym (append-nil (map relocation_of items)) in
+            let faults_are : filter_map (fault_of lists images.now) lists.references ≡ [] =
+            references_are relocations are ∙ ap faults_in (is ∙ sym (append-nil (map relocation_of items))) ∙ (firsts_of items [] count same written).faultless in
+            let words = same_words fields objects.now plans.now index own plan items law.apart.items (sym (same ∙ append-nil (map relocation_of items))) written.have_words law.apart.have_words ∙ law.apart.words_are in
+            let count_is : count ≡ count_of (image_words lists) = written.counted ∙ ap (λ n. min n (2 ^ 64 - 1)) (count_known (λ item. lacks_number item.word) (λ word. has_no_number word.value) (λ item word is. ap lacks_number is) items law.apart.words words)
+            ∙ ap count_of (sym (image_words_are fields objects.now plans.now index own plan law)) in
+            done ∙ ap (λ n. Ok n) count_is ∙ ap (λ all_faults. as_load (first_or all_faults (count_of (image_words lists)))) (sym faults_are)
+        written_is relocations result are (some items count item rest why is written has can_not stopped) =
+            let same : map relocation_of law.apart.items ≡ map relocation_of items ++ (item.relocation ∷ rest) = by_ok (sym law.apart.relocations_are ∙ are) ∙ is in
+            let (fault, fault_is, error_is) = fault_at items item rest why same has can_not in
+            let faults_are : filter_map (fault_of lists images.now) lists.references ≡ fault ∷ faults_in rest =
+            references_are relocations are ∙ ap faults_in is ∙ (firsts_of items (item.relocation ∷ rest) count same written).faultless ∙ some_first item.relocation rest fault fault_is in
+            stopped ∙ ap (λ e. Err e) (sym error_is) ∙ ap (λ all_faults. as_load (first_or all_faults (count_of (image_words lists)))) (sym faults_are)
+
+        bytes_before : (relocations : List Relocation) (result : Result ℕ LoadError) (reason : LoadError) → result ≡ Err reason → own_relocations (Some own) ≡ Ok relocations → IsWriting fields sources own false relocations before after result
+            → BytesBy (words_before relocations)
+        bytes_before relocations result reason failed are (all items count is written done) = absurd (cc)
+        bytes_before relocations result reason failed are (some items count item rest why is written has can_not stopped) =
+            let same : map relocation_of law.apart.items ≡ map relocation_of items ++ (item.relocation ∷ rest) = by_ok (sym law.apart.relocations_are ∙ are) ∙ is in
+            let (fault, fault_is, error_is) = fault_at items item rest why same has can_not in
+            let firsts = firsts_of items (item.relocation ∷ rest) count same written in
+            let words_are : words_before relocations ≡ firsts.first = ap words_before is ∙ firsts.taken ∙ ap (λ more. firsts.first ++ more) (last_taken item.relocation rest fault fault_is) ∙ append-nil firsts.first in
+            subst BytesBy (sym words_are) (λ i below.
+            let address = image_start sources index + i in
+            let count = known_count address items firsts.first firsts.known in
+            let fewer = firsts.fewer address in
+            let once = apart_once fields objects.now own index (plan_loads plan) address law.apart in
+            written.bytes i below ∙ relocated_once sources address items (slice_index before i) (omega (arith, count, fewer, once))
+            ∙ byte_is fields objects plans index own plan places images address items firsts.first firsts.known (slice_index before i)
+            ∙ ap (λ start. relocated_at lists places.now images.now firsts.first (start + i) (slice_index before i)) (start_is fields objects plans index own plan places images index))
 
     -- the sizes are those of the lists
     pub size_same : (len : ℕ) → is_wrong_size sources plan len ≡ is_size_wrong lists places.now images.now len
@@ -269,28 +310,46 @@ module _ {E : Type 0} {r : _} (fields : E → SymbolFields) (objects : Bor (List
     abbrev rest_is : Result ℕ ImageError
     rest_is = first_or (filter_map (fault_of lists images.now) lists.references) (min (count_by (λ word. has_no_number word.value) (image_words lists)) (2 ^ 64 - 1))
 
-    relocated_is : (before after : List ℕ) (result : Result ℕ LoadError) → IsRelocation fields sources own plan false before after result → result ≡ as_load (image_result lists places.now images.now (length before))
-    relocated_is before after result relocation = by_size (is_wrong_size sources plan (length before)) refl
-      where
-        by_size : (wrong : Bool) → is_wrong_size sources plan (length before) ≡ wrong → result ≡ as_load (image_result lists places.now images.now (length before))
-        by_size true is =
-            let sized : sized_relocations sources own plan (length before) ≡ Err error.ImageSize = rw is refl in
-            let (refused, same) = subst (λ said. MatchResult said (λ relocations. IsWriting fields sources own false relocations before after result) (λ why. (result ≡ Err why) × (after ≡ before))) sized relocation in
-            refused ∙ ap (λ wrong. as_load (if wrong then Err faults.Size else rest_is)) (sym is ∙ size_same (length before))
-        by_size false is =
-            let relocations = map relocation_of law.apart.items in
-            let sized : sized_relocations sources own plan (length before) ≡ Ok relocations = rw (is, law.apart.relocations_are) refl in
-            let writing = subst (λ said. MatchResult said (λ some_of. IsWriting fields sources own false some_of before after result) (λ why. (result ≡ Err why) × (after ≡ before))) sized relocation in
-            written_is before after is relocations result law.apart.relocations_are writing
-            ∙ ap (λ wrong. as_load (if wrong then Err faults.Size else rest_is)) (sym is ∙ size_same (length before))
+    module _ (before after : List ℕ) (result : Result ℕ LoadError) (relocation : IsRelocation fields sources own plan false before after result) where
+      relocated_is : result ≡ as_load (image_result lists places.now images.now (length before))
+      relocated_is = by_sizes fields sources own plan before after law.plan_is (result ≡ as_load (image_result lists places.now images.now (length before))) result law.apart
+          (λ is refused same. refused ∙ ap (λ wrong. as_load (if wrong then Err faults.Size else rest_is)) (sym is ∙ size_same (length before)))
+          (λ is writing. written_is before after is (map relocation_of law.apart.items) result law.apart.relocations_are writing
+          ∙ ap (λ wrong. as_load (if wrong then Err faults.Size else rest_is)) (sym is ∙ size_same (length before))) relocation
+
+      abbrev words_by : Bool → List Word
+      words_by wrong = if wrong then [] else filter_map (word_for lists) (take_while is_fine lists.references)
+
+      bytes_left : (reason : LoadError) → result ≡ Err reason → BytesBy before after (written_words lists places.now images.now (length before))
+      bytes_left reason failed = by_sizes fields sources own plan before after law.plan_is (BytesBy before after (written_words lists places.now images.now (length before))) result law.apart
+          (λ is refused same. subst (λ wrong. BytesBy before after (words_by wrong)) (sym is ∙ size_same (length before)) (λ i below. ap (λ all. slice_index all i) same))
+          (λ is writing. subst (λ wrong. BytesBy before after (words_by wrong)) (sym is ∙ size_same (length before))
+          (subst (BytesBy before after) (references_read (map relocation_of law.apart.items) law.apart.relocations_are) (bytes_before before after is (map relocation_of law.apart.items) result reason failed law.apart.relocations_are writing))) relocation
+        where
+          references_read : (relocations : List Relocation) → own_relocations (Some own) ≡ Ok relocations → words_before relocations ≡ filter_map (word_for lists) (take_while is_fine lists.references)
+          references_read relocations are = sym (ap (λ said. filter_map (word_for lists) (take_while is_fine (map (with_addend own) (unwrap_or (result_ok said) [])))) are)
+
+  by_both : (before after : List ℕ) (result : Result ℕ LoadError) → IsRelocationIn fields objects plans index Now places images before after result
+      → IsCheckedImage fields objects.now plans.now index own plan → IsRelocation fields sources own plan false before after result
+  by_both before after result relocation law = rw (law.own_is, law.plan_is) at relocation
 
   pub result_is : ∥ IsCheckedImage fields objects.now plans.now index own plan ∥₁ → (before after : List ℕ) (result : Result ℕ LoadError)
       → IsRelocationIn fields objects plans index Now places images before after result → result ≡ as_load (image_result lists places.now images.now (length before))
   result_is known before after result relocation = let code : Coded (Result ℕ LoadError) = hlevel (codes) in
-      ∥∥₁_elim known (SetCoded-set (coded code) _ _) (λ law. relocated_is law before after result (by_both law))
-    where
-      by_both : IsCheckedImage fields objects.now plans.now index own plan → IsRelocation fields sources own plan false before after result
-      by_both law = rw (law.own_is, law.plan_is) at relocation
+      ∥∥₁_elim known (SetCoded-set (coded code) _ _) (λ law. relocated_is law before after result (by_both before after result relocation law))
+
+  pub written_in : ∥ IsCheckedImage fields objects.now plans.now index own plan ∥₁ → (before after : List ℕ) (reason : LoadError) → length after ≡ length before
+      → IsRelocationIn fields objects plans index Now places images before after (Err reason)
+      → AreWordsWritten lists places.now images.now (written_words lists places.now images.now (length before)) before after
+  written_in known before after reason same relocation =
+      let words = written_words lists places.now images.now (length before) in
+      let code : Coded ℕ = hlevel (codes) in
+      let bytes : (i : ℕ) → i < length before → slice_index after i ≡ relocated_at lists places.now images.now words (start_in lists index + i) (slice_index before i)
+      = λ i below. ∥∥₁_elim known (SetCoded-set (coded code) _ _) (λ law. bytes_left law before after (Err reason) (by_both before after (Err reason) relocation law) reason refl i below) in record {
+        size = same;
+        bytes = bytes;
+        of_plan = λ by mapped i below. bytes i below ∙ ap (relocated_at lists places.now images.now words (start_in lists index + i)) (mapped.bytes i below);
+      }
 
 -- What a call returns, by the result of the scope.
 

@@ -8,8 +8,7 @@ use Rattle.elf_linking.specs.Checked.{AreChecked}
 use Rattle.elf_linking.specs.DynamicObject.{object_dynamic_symbols}
 use Rattle.elf_linking.specs.Find.{AreReadable, DynamicSymbols}
 use Rattle.elf_linking.specs.Scope.{AreGood, symbols_at}
-use Rattle.elf_linking.specs.declared.error.LinkError.{LinkError}
-use Rattle.elf_linking.specs.declared.object.DynamicObject.{DynamicObject}
+use Rattle.elf_loading.specs.Types.{DynamicObject, LinkError}
 use Rattle.elf_linking.proofs.lemmas.CheckedBound.{passed_good}
 use Rattle.elf_loading.specs.CheckedLoads.{AreAllChecked, AreCheckedBefore, all, first}
 use Rattle.xmas_elf.specs.Symbol.{SymbolFields}

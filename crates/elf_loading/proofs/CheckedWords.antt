@@ -1,48 +1,47 @@
 -- The words of a relocation have the bytes of those that were checked.
-use Rattle.std.proofs.Common.{◌≡◌, ℕ, zero, suc, ◌+◌, ◌<◌, ◌≤◌, ◌&&◌, ◌||◌, ◌⊎◌, nat_le, nat_lt, Bool, true, false, List, [], ◌∷◌, map, slice_get, Option, Some, Result, Ok, Err, if◌then◌else◌, inl, inr, cond, refl, sym, ap, ◌∙◌, subst, arith}
+use Rattle.std.proofs.Common.{◌≡◌, ℕ, zero, suc, ◌+◌, ◌<◌, ◌≤◌, ◌&&◌, ◌||◌, ◌⊎◌, Bool, true, false, List, [], ◌∷◌, map, slice_get, Option, Some, Result, Ok, Err, if◌then◌else◌, inl, inr, cond, refl, sym, ap, ◌∙◌, subst, arith}
 use Rattle.std.specs.Prelude.{All}
 use Rattle.std.specs.List.{count_by}
-use Rattle.std.proofs.lemmas.Bool.{and_parts, leb-true, ltb-true}
+use Rattle.std.proofs.lemmas.Bool.{and_parts}
 use Rattle.std.proofs.lemmas.List.Elements.{All-head, All-tail}
 use Rattle.std.proofs.lemmas.List.Sums.{sum_by-append}
 use Rattle.elf_linking.specs.DynamicObject.{object_file}
 use Rattle.elf_linking.specs.References.{file_machine}
-use Rattle.elf_linking.specs.declared.error.LinkError.{LinkError}
-use Rattle.elf_linking.specs.declared.object.DynamicObject.{DynamicObject}
-use Rattle.elf_linking.specs.declared.references.Reference.{Reference}
-use Rattle.elf_linking.specs.declared.scope.Bound.{Bound}
+use Rattle.elf_loading.specs.Types.{Bound, DynamicObject, Formula, LinkError, LoadError, Reference, Relocated, Relocation, Row, Segment, Terms, Word}
 use Rattle.elf_linking.proofs.lemmas.Bound.{reference_once}
 use Rattle.elf_linking.specs.RelocationTypes.{row_of}
-use Rattle.elf_linking.specs.declared.references.types.Row.{Row}
 use Rattle.elf_linking.proofs.lemmas.RelocationTypes.{row_passes}
-use Rattle.elf_loading.specs.ImageWords.{AreWordsApart, IsIn, covers, words_in}
+use Rattle.elf_loading.specs.ImageWords.{AreWordsApart, covers, item_words}
 use Rattle.elf_loading.specs.OneWord.{is_of_word, is_over}
 use Rattle.elf_loading.specs.Values.{bytes_of, value_of}
-use Rattle.elf_loading.specs.Words.{HasWord, IsBoundIf, addend_of, and_link, formula_word, is_lazy, own_size, symbol_in, value_word}
-use Rattle.elf_loading.specs.WordsLeft.{relocation_of, words_of}
-use Rattle.elf_loading.specs.declared.error.LoadError.{LoadError}
-use Rattle.elf_linking.specs.declared.references.types.Formula.{Formula}
+use Rattle.elf_loading.specs.Words.{HasWord, IsBoundIf, addend_of, and_link, formula_word, is_lazy, own_size, formula_has_symbol, value_word}
+use Rattle.elf_loading.specs.WordsLeft.{relocation_of, own_relocations}
 use Rattle.elf_linking.specs.declared.references.types.Formula.TheVariants as formulas
-use Rattle.elf_loading.specs.declared.in_order.Relocation.{Relocation}
-use Rattle.elf_loading.specs.declared.value.Terms.{Terms}
-use Rattle.elf_loading.specs.declared.words.Relocated.{Relocated}
-use Rattle.elf_loading.specs.declared.words.Word.{Word}
+use Rattle.elf_loading.proofs.Marks.{covers_parts}
 use Rattle.xmas_elf.specs.Symbol.{SymbolFields}
-use Rattle.elf_linking.specs.declared.segments.Segment.{Segment}
 
 pub count_first : {A : Type 0} (p : A → Bool) (x : A) (xs : List A) → count_by p (x ∷ xs) ≡ cond (p x) 1 0 + count_by p xs
 count_first p x xs =
     let sum : count_by p (x ∷ xs) ≡ (0 + cond (p x) 1 0) + count_by p xs = sum_by-append (λ y. cond (p y) 1 0) (x ∷ []) xs in
     omega (arith, sum)
 
+-- items and their words, of which a test holds alike, are as many for which it holds
+module _ {E : Type 0} (p : Relocated E → Bool) (q : Word → Bool) (alike : (item : Relocated E) (word : Word) → item.word ≡ Ok word → p item ≡ q word) where
+  pub count_known : (items : List (Relocated E)) (words : List Word) → item_words items ≡ map (λ word. Ok word) words → count_by p items ≡ count_by q words
+  count_known [] [] are = refl
+  count_known [] (word ∷ words) are = absurd (cc)
+  count_known (item ∷ items) [] are = absurd (cc)
+  count_known (item ∷ items) (word ∷ words) are =
+      let rest : item_words items ≡ map (λ some. Ok some) words = cc in
+      let one = count_first p item items in
+      let other = count_first q word words in
+      let same : ◌≡◌ {A = ℕ} (cond (p item) 1 0) (cond (q word) 1 0) = ap (λ b. cond b 1 0) (alike item word (cc)) in
+      let more = count_known items words rest in
+      omega (arith, one, other, same, more)
+
 -- At most one of the words that are checked has a byte.
 
 module _ (address : ℕ) where
-  is_in : (word : Word) → covers address word ≡ true → IsIn word.address word.width address
-  is_in word hit =
-      let (from, to) = and_parts (nat_le word.address address) (nat_lt address (word.address + word.width)) hit in
-      (leb-true _ _ from, ltb-true _ _ to)
-
   none_of : (words : List Word) → ((j : ℕ) (other : Word) → slice_get words j ≡ Some other → covers address other ≡ true → ⊥)
       → count_by (covers address) words ≡ 0
   none_of [] never = refl
@@ -72,20 +71,9 @@ module _ (address : ℕ) where
           let none : ◌≡◌ {A = ℕ} (cond (covers address word) 1 0) 0 = rw miss refl in
           omega (arith, count, none, least)
 
-  pub known_count : {E : Type 0} (items : List (Relocated E)) (words : List Word) → words_in items ≡ map (λ word. Ok word) words
+  pub known_count : {E : Type 0} (items : List (Relocated E)) (words : List Word) → item_words items ≡ map (λ word. Ok word) words
       → count_by (is_over address) items ≡ count_by (covers address) words
-  known_count [] [] are = refl
-  known_count [] (word ∷ words) are = absurd (cc)
-  known_count (item ∷ items) [] are = absurd (cc)
-  known_count (item ∷ items) (word ∷ words) are =
-      let first : item.word ≡ Ok word = cc in
-      let rest : words_in items ≡ map (λ some. Ok some) words = cc in
-      let hits : is_over address item ≡ covers address word = ap (is_of_word address) first in
-      let one = count_first (is_over address) item items in
-      let other = count_first (covers address) word words in
-      let same : ◌≡◌ {A = ℕ} (cond (is_over address item) 1 0) (cond (covers address word) 1 0) = ap (λ b. cond b 1 0) hits in
-      let more = known_count items words rest in
-      omega (arith, one, other, same, more)
+  known_count items words are = count_known (is_over address) (covers address) (λ item word is. ap (is_of_word address) is) items words are
 
 -- The bytes of the word of a relocation are those of the word that was checked.
 
@@ -109,7 +97,7 @@ module _ {E : Type 0} {r : _} (fields : E → SymbolFields) (objects : List (Dyn
   HasParts later relocation bound word =
       let machine = file_machine (object_file own) in
       let formula = if later then Some formulas.Base else (row_of machine relocation.reference.kind).formula in
-      IsBoundIf (symbol_in formula) fields objects of relocation.reference bound
+      IsBoundIf (formula_has_symbol formula) fields objects of relocation.reference bound
       × (word ≡ formula_word fields (object_file own) own of (relocation.in_place || later) relocation.reference bound formula)
 
   pub word_once : (later : Bool) (relocation : Relocation) (one other : Result (Option (Bound E)) LinkError) (word word' : Result Word LoadError)
@@ -117,8 +105,14 @@ module _ {E : Type 0} {r : _} (fields : E → SymbolFields) (objects : List (Dyn
   word_once later relocation one other word word' (is, word_is) (also, word_also) =
       let machine = file_machine (object_file own) in
       let formula = if later then Some formulas.Base else (row_of machine relocation.reference.kind).formula in
-      let same = bound_by (symbol_in formula) relocation.reference one other is also in
+      let same = bound_by (formula_has_symbol formula) relocation.reference one other is also in
       word_is ∙ ap (λ bound. formula_word fields (object_file own) own of (relocation.in_place || later) relocation.reference bound formula) same ∙ sym word_also
+
+  -- items of one relocation have the same word
+  pub same_word : (item one : Relocated E) → item.relocation ≡ one.relocation → HasWord fields objects (object_file own) own of false item
+      → HasWord fields objects (object_file own) own of false one → item.word ≡ one.word
+  same_word item one same is also = word_once false item.relocation item.bound one.bound item.word one.word is
+      (subst (λ relocation. HasParts false relocation one.bound one.word) (sym same) also)
 
   -- a word of the number of bytes of its type is where its relocation says
   abbrev terms_of : Reference → ℕ → Terms
@@ -208,7 +202,7 @@ module _ {E : Type 0} {r : _} (fields : E → SymbolFields) (objects : List (Dyn
     count_least false false so = omega arith
 
     count_le : (lazy : Bool) (items checked : List (Relocated E)) (words : List Word) → map relocation_of items ≡ map relocation_of checked
-        → words_in checked ≡ map (λ word. Ok word) words → All (HasWord fields objects (object_file own) own of lazy) items
+        → item_words checked ≡ map (λ word. Ok word) words → All (HasWord fields objects (object_file own) own of lazy) items
         → All (HasWord fields objects (object_file own) own of false) checked → count_by (is_over address) items ≤ count_by (is_over address) checked
     count_le lazy [] checked words same known has also = let none : count_by (is_over {E = E} address) [] ≡ 0 = refl in omega (arith, none)
     count_le lazy (item ∷ items) [] words same known has also = absurd (cc)
@@ -217,7 +211,7 @@ module _ {E : Type 0} {r : _} (fields : E → SymbolFields) (objects : List (Dyn
         let first : item.relocation ≡ one.relocation = cc in
         let rest : map relocation_of items ≡ map relocation_of checked = cc in
         let word_is : one.word ≡ Ok word = cc in
-        let words_are : words_in checked ≡ map (λ some. Ok some) words = cc in
+        let words_are : item_words checked ≡ map (λ some. Ok some) words = cc in
         let worded = HasWord fields objects (object_file own) own of lazy in
         let known_so = HasWord fields objects (object_file own) own of false in
         let count = count_first (is_over address) item items in
@@ -227,14 +221,14 @@ module _ {E : Type 0} {r : _} (fields : E → SymbolFields) (objects : List (Dyn
         omega (arith, count, other, least, more)
 
   -- no more than one word has the byte at an address
-  pub checked_once : (loads : List Segment) (lazy : Bool) (address : ℕ) (items : List (Relocated E)) → words_of (Some own) ≡ Ok (map relocation_of items)
+  pub checked_once : (loads : List Segment) (lazy : Bool) (address : ℕ) (items : List (Relocated E)) → own_relocations (Some own) ≡ Ok (map relocation_of items)
       → All (HasWord fields objects (object_file own) own of lazy) items → AreWordsApart fields objects of own loads
       → count_by (is_over address) items ≤ 1
   checked_once loads lazy address items are has law =
       let same : map relocation_of items ≡ map relocation_of law.items = by_ok (sym are ∙ law.relocations_are) in
       let least = count_le address lazy items law.items law.words same law.words_are has law.have_words in
       let known = known_count address law.items law.words law.words_are in
-      let one = one_of address law.words (λ i j one other less is also hit hits. law.apart i j one other address less is also (is_in address one hit) (is_in address other hits)) in
+      let one = one_of address law.words (λ i j one other less is also hit hits. law.apart i j one other address less is also (covers_parts address one hit) (covers_parts address other hits)) in
       omega (arith, least, known, one)
     where
       by_ok : {A B : Type 0} {x y : A} → ◌≡◌ {A = Result A B} (Ok x) (Ok y) → x ≡ y
@@ -243,4 +237,4 @@ module _ {E : Type 0} {r : _} (fields : E → SymbolFields) (objects : List (Dyn
   -- no more than one of the words that are checked has the byte at an address
   pub apart_once : (loads : List Segment) (address : ℕ) (law : AreWordsApart fields objects of own loads) → count_by (covers address) law.words ≤ 1
   apart_once loads address law =
-      one_of address law.words (λ i j one other less is also hit hits. law.apart i j one other address less is also (is_in address one hit) (is_in address other hits))
+      one_of address law.words (λ i j one other less is also hit hits. law.apart i j one other address less is also (covers_parts address one hit) (covers_parts address other hits))

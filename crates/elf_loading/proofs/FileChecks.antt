@@ -1,13 +1,12 @@
--- What holds of a file that is not refused.
+-- What holds of a file that passes its check.
 use Rattle.std.proofs.Common.{◌≡◌, ℕ, ◌+◌, ◌-◌, ◌^◌, ◌==◌, ◌<◌, ◌≤◌, ◌||◌, not, nat_lt, nat_le, slice_index, if◌then◌else◌, Bool, true, false, List, [], ◌∷◌, length, Option, Some, None, ok_or, option_map, Result, Ok, Err, refl, sym, ap, subst, arith}
 use Rattle.std.proofs.lemmas.Bool.{and_parts, eqb-true, eq-eqb, leb-true, ltb-false, or_parts}
 use Rattle.std.specs.List.{list_all}
 use Rattle.elf_base.specs.Refusal.{and_then, unless}
 use Rattle.elf_base.specs.Text.{BytesRefused}
-use Rattle.elf_base.specs.declared.error.ElfError.{ElfError}
+use Rattle.elf_loading.specs.Types.{ElfError, Extent, LoadError, Loader, Segment, Span}
 use Rattle.elf_base.specs.declared.error.ElfError.TheVariants.{TextStart, TextEnd}
 use Rattle.xmas_elf.specs.Types.{ElfFile}
-use Rattle.elf_linking.specs.declared.segments.Segment.{Segment}
 use Rattle.elf_loading.specs.FileCheck.{NoneApplies, check_file, covered_to, header_rows, is_no_path, is_uncovered, segment_rows}
 use Rattle.elf_loading.specs.LoadCheck.{check_loads, fits_below, holds_address, lies_in, load_end}
 use Rattle.elf_loading.specs.Others.{data_of, memory_of}
@@ -15,17 +14,12 @@ use Rattle.elf_loading.specs.Pages.{down}
 use Rattle.elf_loading.specs.Segments.{interpreter_of, loads_of, relro_of}
 use Rattle.elf_loading.specs.Spans.{IsCovered, ends_at, first_start, last_end, relro_span}
 use Rattle.elf_loading.specs.Mappings.{FollowEachOther, mappings_of}
-use Rattle.elf_loading.specs.declared.segments.Extent.{Extent}
-use Rattle.elf_loading.specs.declared.span.Span.{Span}
-use Rattle.elf_loading.specs.declared.mapping.Loader.{Loader}
 use Rattle.elf_loading.specs.declared.mapping.Loader.TheVariants.{Kernel}
 use Rattle.elf_loading.proofs.Follows.{follow, follow_order}
-use Rattle.elf_loading.specs.declared.error.LoadError.{LoadError}
 use Rattle.elf_loading.specs.declared.error.LoadError.TheVariants as error
-use Rattle.elf_loading.proofs.Apart.{AreApart, checks_apart, checks_end, end_after}
+use Rattle.elf_loading.proofs.LoadChecks.{AreApart, checks_apart, checks_end, end_after, loads_fit, loads_lie, unless_ok}
 use Rattle.elf_loading.proofs.Covered.{covered}
 use Rattle.elf_loading.proofs.Rounded.{down_le}
-use Rattle.elf_loading.proofs.LoadChecks.{loads_fit, loads_lie, unless_ok}
 
 pub ends_ok : (answer : Result ℕ LoadError) (end : ℕ) → ends_at answer end ≡ true → answer ≡ Ok end
 ends_ok (Ok found) end is = ap (λ n. Ok n) (eqb-true found end is)
@@ -34,7 +28,7 @@ ends_ok (Err error) end is = absurd (cc)
 pub ok_ends : (answer : Result ℕ LoadError) (end : ℕ) → answer ≡ Ok end → ends_at answer end ≡ true
 ok_ends answer end is = rw is (eq-eqb end end refl)
 
--- a file that is not refused: its loads are checked up to the end of the last, and no reason of the rest applies
+-- a file that passes its check: its loads are checked up to the end of the last, and no reason of the rest applies
 pub record Passes (file : ElfFile) (page limit end : ℕ) : Type 0 where
   pub loads : check_loads page limit (length file.input.now) None (loads_of file) ≡ Ok (Some end)
   pub rest : NoneApplies (segment_rows file page)

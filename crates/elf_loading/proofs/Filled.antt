@@ -3,19 +3,16 @@ use Rattle.std.proofs.Common.{◌≡◌, ℕ, zero, suc, get_or, replicate, ◌+
 use Rattle.std.proofs.lemmas.Bool.{and_from, and_left, and_parts, and_right, cases_lt, le-leb, le-ltb, leb-true, lt-leb, lt-ltb, ltb-false, ltb-true}
 use Rattle.std.specs.Prelude.{option_map}
 use Rattle.std.specs.List.{find}
-use Rattle.elf_linking.specs.declared.segments.Segment.{Segment}
+use Rattle.elf_loading.specs.Types.{Loader, Segment}
 use Rattle.elf_loading.specs.Bytes.{byte_number, is_zeroed, load_byte, offset_at, zeroed_end}
 use Rattle.elf_loading.specs.LoadCheck.{fits_below, holds_address, load_end, load_start}
 use Rattle.elf_loading.specs.Mappings.{mapped_end}
 use Rattle.elf_loading.specs.Pages.{down}
 use Rattle.elf_loading.specs.Spans.{first_start, last_end}
 use Rattle.elf_loading.specs.declared.bytes.Byte.TheVariants.{File, Zero}
-use Rattle.elf_loading.specs.declared.mapping.Loader.{Loader}
 use Rattle.elf_loading.specs.declared.mapping.Loader.TheVariants.{Kernel, Glibc}
-use Rattle.elf_loading.proofs.Apart.{AreApart}
-use Rattle.elf_loading.proofs.Fits.{fits_facts}
+use Rattle.elf_loading.proofs.LoadChecks.{AreApart, fits_facts, start_le_end}
 use Rattle.elf_loading.proofs.Follows.{is_within}
-use Rattle.elf_loading.proofs.Held.{start_le_end}
 use Rattle.elf_loading.proofs.Rounded.{down_le, up_ge}
 
 -- the places of what a loader writes to the pages of a load
@@ -196,9 +193,6 @@ module _ (input : List ℕ) (page : ℕ) (by : Loader) (address : ℕ) where
   pub none_filled : (loads rest : List Segment) (byte : ℕ) → rest ≡ loads → byte ≡ 0 → IsFilled input page by address (find (holds_address page address) rest) (find (holds_address page address) loads) byte
   none_filled loads rest byte same zero_there = rw (same, zero_there) (init_by (find (holds_address page address) loads))
 
-  zero_before : (load : Segment) (others : List Segment) (found : Option Segment) (byte : ℕ) → IsFilled input page by address (find (holds_address page address) (load ∷ others)) found byte → holds_address page address load ≡ true → (byte ≡ 0) × (found ≡ Some load)
-  zero_before load others found byte filled holds = rw holds at filled
-
   step_by : (load : Segment) (others : List Segment) (found : Option Segment) (byte : ℕ) (b : Bool) → holds_address page address load ≡ b → (b ≡ true → find (holds_address page address) others ≡ None)
       → IsFilled input page by address (if b then Some load else find (holds_address page address) others) found byte
       → IsFilled input page by address (find (holds_address page address) others) found (if b then byte_number input (Some (load_byte page by (length input) address load)) else byte)
@@ -211,10 +205,6 @@ module _ (input : List ℕ) (page : ℕ) (by : Loader) (address : ℕ) where
       → IsFilled input page by address (find (holds_address page address) rest) found byte → IsFilled input page by address (find (holds_address page address) others) found new
   one_filled load rest others found byte new is none new_is filled =
       rw new_is (step_by load others found byte (holds_address page address load) refl none (rw is at filled))
-
-  -- at the end
-  pub all_filled : (loads rest : List Segment) (byte : ℕ) → rest ≡ [] → IsFilled input page by address (find (holds_address page address) rest) (find (holds_address page address) loads) byte → byte ≡ byte_number input (option_map (load_byte page by (length input) address) (find (holds_address page address) loads))
-  all_filled loads rest byte is filled = rw is at filled
 
 -- The loads that are left are apart, within the span.
 

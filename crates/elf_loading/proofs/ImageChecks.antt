@@ -1,5 +1,5 @@
 -- The check of the words of an object, word by word.
-use Rattle.std.proofs.Common.{◌≡◌, ℕ, ◌≤◌, nat_lt, Bool, List, [], ◌∷◌, ◌++◌, map, Option, Some, None, Result, Ok, Err, refl, sym, ap, ◌∙◌, subst, append_assoc}
+use Rattle.std.proofs.Common.{◌≡◌, ℕ, ◌≤◌, nat_lt, Bool, List, [], ◌∷◌, ◌++◌, map, Option, Some, None, Result, Ok, Err, refl, sym, ap, ◌∙◌, subst, append_assoc, ◌==◌, ◌&&◌, not, true, false}
 use Rattle.std.proofs.lemmas.Bool.{ltb-false}
 use Rattle.std.proofs.lemmas.List.{map-append}
 use Rattle.std.proofs.lemmas.List.Elements.{All-nil, All-push, All-weaker}
@@ -10,25 +10,20 @@ use Rattle.std.specs.Slice.{IsItemAt}
 use Rattle.elf_base.specs.Refusal.{and_then, unless}
 use Rattle.elf_linking.specs.DynamicObject.{object_file, object_view}
 use Rattle.elf_linking.specs.DynamicView.{view_entries}
-use Rattle.elf_linking.specs.declared.error.LinkError.{LinkError}
-use Rattle.elf_linking.specs.declared.object.DynamicObject.{DynamicObject}
+use Rattle.elf_loading.specs.Types.{DynamicObject, LinkError, LoadError, Relocated, Relocation, Segment, TableLocation, Word}
 use Rattle.elf_loading.specs.ImageTables.{asks_for_text, check_tables, tables_of}
-use Rattle.elf_loading.specs.ImageWords.{AreMarksOf, AreWordsFrom, IsBegun, IsOwnCheck, MatchBoth, as_load_error, by_words, check_word, check_words, checked_relocations, words_in}
+use Rattle.elf_loading.specs.Segments.{has_flag}
+use Rattle.elf_loading.specs.ImageWords.{AreMarksOf, AreWordsFrom, IsBegun, IsOwnCheck, MatchBoth, as_load_error, by_words, check_word, check_words, checked_relocations, item_words, holds_word, overlaps, touches}
 use Rattle.elf_loading.specs.Plan.{plan_loads, plan_size}
 use Rattle.elf_loading.specs.Words.{HasWord}
-use Rattle.elf_loading.specs.WordsLeft.{IsSame, relocation_of, words_file, words_index, words_lazy, words_left, words_objects, words_of, words_own}
-use Rattle.elf_loading.specs.declared.error.LoadError.{LoadError}
-use Rattle.elf_linking.specs.declared.view.location.TableLocation.{TableLocation}
-use Rattle.elf_loading.specs.declared.error.LoadError.TheVariants.{FewMarks}
-use Rattle.elf_loading.specs.declared.in_order.Relocation.{Relocation}
-use Rattle.elf_loading.specs.declared.words.Relocated.{Relocated}
+use Rattle.elf_loading.specs.WordsLeft.{HasWordOf, IsSame, relocation_of, words_file, relocations_left, own_relocations, words_own}
+use Rattle.elf_loading.specs.declared.error.LoadError.TheVariants.{FewMarks, WordInTable, WordsOverlap}
 use Rattle.elf_loading.specs.declared.plan.LoadPlan.{LoadPlan}
-use Rattle.elf_loading.specs.declared.words.Word.{Word}
 use Rattle.elf_loading.specs.declared.words.Words.{Words}
 use Rattle.elf_loading.proofs.LoadChecks.{unless_ok}
 use Rattle.xmas_elf.specs.Symbol.{SymbolFields}
 use Rattle.xmas_elf.specs.Types.{ElfFile}
-use Rattle.elf_linking.specs.declared.segments.Segment.{Segment}
+use Rattle.std.specs.List.{find, list_any}
 
 ok_last : {A E : Type 0} (r : Result A E) → and_then r (λ x. Ok x) ≡ r
 ok_last (Ok x) = refl
@@ -52,7 +47,7 @@ module _ (loads : List Segment) (text : Bool) (tables : List TableLocation) wher
   checked_none = refl
 
 -- a word in the terms of an iterator over the same words
-has_word_same : {E : Type 0} {r : _} (fields : E → SymbolFields) (item : Relocated E) (objects objects' : List (DynamicObject E r)) (file file' : ElfFile) (own own' : DynamicObject E r) (of of' : ℕ) (lazy lazy' : Bool)
+pub has_word_same : {E : Type 0} {r : _} (fields : E → SymbolFields) (item : Relocated E) (objects objects' : List (DynamicObject E r)) (file file' : ElfFile) (own own' : DynamicObject E r) (of of' : ℕ) (lazy lazy' : Bool)
     → objects' ≡ objects → file' ≡ file → own' ≡ own → of' ≡ of → lazy' ≡ lazy → HasWord fields objects' file' own' of' lazy' item → HasWord fields objects file own of lazy item
 has_word_same fields item objects objects' file file' own own' of of' lazy lazy' one two three four five has =
     subst (λ x. HasWord fields x file own of lazy item) one
@@ -61,15 +56,18 @@ has_word_same fields item objects objects' file file' own own' of of' lazy lazy'
     (subst (λ x. HasWord fields objects' file' own' x lazy item) four
     (subst (λ x. HasWord fields objects' file' own' of' x item) five has))))
 
+pub has_word_of : {E : Type 0} {r : _} (fields : E → SymbolFields) (one other : Words E r) (item : Relocated E) → IsSame one other → HasWordOf fields other item → HasWordOf fields one item
+has_word_of fields one other item (objects, file, own, index, lazy) has = has_word_same fields item _ _ _ _ _ _ _ _ _ _ (ap (λ lent. lent.now) objects) file own index lazy has
+
 module _ {E : Type 0} {r : _} (fields : E → SymbolFields) (loads : List Segment) (text : Bool) (tables : List TableLocation) (start : ℕ) where
   -- the words of these items of an iterator are checked and have marks, and the others are left
   pub record AreCheckedSoFar (all now : Words E r) (marks : List ℕ) : Type 0 where
     pub items : List (Relocated E)
-    pub are : words_left all ≡ map relocation_of items ++ words_left now
+    pub are : relocations_left all ≡ map relocation_of items ++ relocations_left now
     pub same : IsSame all now
-    pub have_words : All (HasWord fields (words_objects all).now (words_file all) (words_own all) (words_index all) (words_lazy all)) items
+    pub have_words : All (HasWordOf fields all) items
     pub before : List Word
-    pub checked : check_words loads text tables [] (words_in items) ≡ Ok before
+    pub checked : check_words loads text tables [] (item_words items) ≡ Ok before
     pub marked : AreMarksOf start before marks
 
   pub none_checked : (all now : Words E r) (marks : List ℕ) → now ≡ all → AreMarksOf start [] marks → AreCheckedSoFar all now marks
@@ -84,24 +82,22 @@ module _ {E : Type 0} {r : _} (fields : E → SymbolFields) (loads : List Segmen
   })
 
   module _ (all now next : Words E r) (marks : List ℕ) (item : Relocated E) (so_far : AreCheckedSoFar all now marks)
-      (first : words_left now ≡ relocation_of item ∷ words_left next) (same : IsSame now next)
-      (has : HasWord fields (words_objects now).now (words_file now) (words_own now) (words_index now) (words_lazy now) item) where
+      (first : relocations_left now ≡ relocation_of item ∷ relocations_left next) (same : IsSame now next)
+      (has : HasWordOf fields now item) where
     more : List (Relocated E)
     more = so_far.items ++ (item ∷ [])
 
-    are_more : words_left all ≡ map relocation_of (so_far.items ++ (item ∷ [])) ++ words_left next
+    are_more : relocations_left all ≡ map relocation_of (so_far.items ++ (item ∷ [])) ++ relocations_left next
     are_more = so_far.are ∙ ap (λ rest. map relocation_of so_far.items ++ rest) first
-        ∙ sym (append_assoc (map relocation_of so_far.items) (relocation_of item ∷ []) (words_left next))
-        ∙ ap (λ front. front ++ words_left next) (sym (map-append relocation_of so_far.items (item ∷ [])))
+        ∙ sym (append_assoc (map relocation_of so_far.items) (relocation_of item ∷ []) (relocations_left next))
+        ∙ ap (λ front. front ++ relocations_left next) (sym (map-append relocation_of so_far.items (item ∷ [])))
 
-    have_more : All (HasWord fields (words_objects all).now (words_file all) (words_own all) (words_index all) (words_lazy all)) (so_far.items ++ (item ∷ []))
-    have_more =
-        let (one, two, three, four, five) = so_far.same in
-        All-push (HasWord fields (words_objects all).now (words_file all) (words_own all) (words_index all) (words_lazy all)) so_far.items item so_far.have_words (has_word_same fields item _ _ _ _ _ _ _ _ _ _ (ap (λ o. o.now) one) two three four five has)
+    have_more : All (HasWordOf fields all) (so_far.items ++ (item ∷ []))
+    have_more = All-push (HasWordOf fields all) so_far.items item so_far.have_words (has_word_of fields all now item so_far.same has)
 
-    checked_more : check_words loads text tables [] (words_in (so_far.items ++ (item ∷ []))) ≡ check_word loads text tables so_far.before item.word
+    checked_more : check_words loads text tables [] (item_words (so_far.items ++ (item ∷ []))) ≡ check_word loads text tables so_far.before item.word
     checked_more = ap (check_words loads text tables []) (map-append (λ one. one.word) so_far.items (item ∷ []))
-        ∙ checked_after loads text tables [] (words_in so_far.items) item.word
+        ∙ checked_after loads text tables [] (item_words so_far.items) item.word
         ∙ ap (λ result. and_then result (λ after. check_word loads text tables after item.word)) so_far.checked
 
     pub one_checked : (new : List ℕ) (word : Word) (after : List Word) → item.word ≡ Ok word → check_word loads text tables so_far.before (Ok word) ≡ Ok after → AreMarksOf start after new → AreCheckedSoFar all next new
@@ -120,22 +116,12 @@ module _ {E : Type 0} {r : _} (fields : E → SymbolFields) (loads : List Segmen
     pub one_stops : (word : Result Word LoadError) (error : LoadError) → item.word ≡ word → check_word loads text tables so_far.before word ≡ Err error → AreWordsFrom fields loads text tables all (Err error)
     one_stops word error is err = record {
       items = so_far.items ++ (item ∷ []);
-      rest = words_left next;
+      rest = relocations_left next;
       are = are_more;
       have_words = have_more;
       all = tt;
       checked = ap (λ result. and_then result (λ words. Ok tt)) (sym (checked_more ∙ ap (check_word loads text tables so_far.before) is ∙ err));
     }
-
-  pub all_checked : (all now : Words E r) (marks : List ℕ) → words_left now ≡ [] → AreCheckedSoFar all now marks → AreWordsFrom fields loads text tables all (Ok tt)
-  all_checked all now marks is so_far = record {
-    items = so_far.items;
-    rest = words_left now;
-    are = so_far.are;
-    have_words = so_far.have_words;
-    all = is;
-    checked = ap (λ result. and_then result (λ words. Ok tt)) (sym so_far.checked);
-  }
 
 -- The relocations of an object whose tables can be used.
 
@@ -147,20 +133,20 @@ link_ok : {A : Type 0} (r : Result A LinkError) (value : A) → as_load_error r 
 link_ok (Ok x) value is = let same : x ≡ value = cc in ap (λ v. Ok v) same
 link_ok (Err error) value is = absurd (cc)
 
-pub relocations_are : {E : Type 0} {r : _} (size : ℕ) (own : DynamicObject E r) (plan : LoadPlan) (bits : ℕ) (relocations : List Relocation) → checked_relocations size own plan bits ≡ Ok relocations → words_of (Some own) ≡ Ok relocations
+pub relocations_are : {E : Type 0} {r : _} (size : ℕ) (own : DynamicObject E r) (plan : LoadPlan) (bits : ℕ) (relocations : List Relocation) → checked_relocations size own plan bits ≡ Ok relocations → own_relocations (Some own) ≡ Ok relocations
 relocations_are size own plan bits relocations is =
     let few : List (Bool × LoadError) = (nat_lt bits (plan_size plan), FewMarks) ∷ [] in
-    let (done, tables, more) = then_ok {A = Unit {0}} (check_tables size own) (λ done. and_then (as_load_error (words_of (Some own))) (λ all. unless few all)) relocations is in
-    let (all, found, enough) = then_ok (as_load_error (words_of (Some own))) (λ all. unless few all) relocations more in
+    let (done, tables, more) = then_ok {A = Unit {0}} (check_tables size own) (λ done. and_then (as_load_error (own_relocations (Some own))) (λ all. unless few all)) relocations is in
+    let (all, found, enough) = then_ok (as_load_error (own_relocations (Some own))) (λ all. unless few all) relocations more in
     let (none, same) = unless_ok few all relocations enough in
-    link_ok (words_of (Some own)) relocations (found ∙ ap (λ v. Ok v) same)
+    link_ok (own_relocations (Some own)) relocations (found ∙ ap (λ v. Ok v) same)
 
 -- there are enough marks
 pub enough_marks : {E : Type 0} {r : _} (size : ℕ) (own : DynamicObject E r) (plan : LoadPlan) (bits : ℕ) (relocations : List Relocation) → checked_relocations size own plan bits ≡ Ok relocations → plan_size plan ≤ bits
 enough_marks size own plan bits relocations is =
     let few : List (Bool × LoadError) = (nat_lt bits (plan_size plan), FewMarks) ∷ [] in
-    let (done, tables, more) = then_ok {A = Unit {0}} (check_tables size own) (λ done. and_then (as_load_error (words_of (Some own))) (λ all. unless few all)) relocations is in
-    let (all, found, enough) = then_ok (as_load_error (words_of (Some own))) (λ all. unless few all) relocations more in
+    let (done, tables, more) = then_ok {A = Unit {0}} (check_tables size own) (λ done. and_then (as_load_error (own_relocations (Some own))) (λ all. unless few all)) relocations is in
+    let (all, found, enough) = then_ok (as_load_error (own_relocations (Some own))) (λ all. unless few all) relocations more in
     let (none, same) = unless_ok few all relocations enough in
     ltb-false bits (plan_size plan) none.0
 
@@ -192,7 +178,7 @@ module _ {E : Type 0} {r : _} (size : ℕ) (fields : E → SymbolFields) (object
   own_checked words text tables result begun text_is tables_are from =
       let own_same : words_own words ≡ own = same_Some _ _ (sym begun.words_are.own_is ∙ own_is) in
       let file_same : words_file words ≡ object_file own = begun.words_are.file_is ∙ ap object_file own_same in
-      by_words (words_left words) from.items begun.relocations_are
+      by_words (relocations_left words) from.items begun.relocations_are
       (record {
         rest = from.rest;
         are = from.are;
@@ -200,5 +186,18 @@ module _ {E : Type 0} {r : _} (size : ℕ) (fields : E → SymbolFields) (object
         all = from.all;
       })
       (from.checked
-      ∙ ap (λ t. and_then (check_words (plan_loads plan) t tables [] (words_in from.items)) (λ words. Ok tt)) text_is
-      ∙ ap (λ t. and_then (check_words (plan_loads plan) (asks_for_text (view_entries (object_view own))) t [] (words_in from.items)) (λ words. Ok tt)) tables_are)
+      ∙ ap (λ t. and_then (check_words (plan_loads plan) t tables [] (item_words from.items)) (λ words. Ok tt)) text_is
+      ∙ ap (λ t. and_then (check_words (plan_loads plan) (asks_for_text (view_entries (object_view own))) t [] (item_words from.items)) (λ words. Ok tt)) tables_are)
+
+-- The check of one word, by what is found of it.
+
+module _ (loads : List Segment) (text : Bool) (tables : List TableLocation) (before : List Word) (word : Word) (some : word.width == 0 ≡ false)
+    (load : Segment) (found : find (holds_word word) loads ≡ Some load) (open' : (not text && not (has_flag 2 load)) ≡ false) where
+  pub overlap_error : list_any (overlaps word) before ≡ true → check_word loads text tables before (Ok word) ≡ Err WordsOverlap
+  overlap_error meets = rw (some, found, open', meets) refl
+
+  pub table_error : list_any (overlaps word) before ≡ false → list_any (touches word) tables ≡ true → check_word loads text tables before (Ok word) ≡ Err WordInTable
+  table_error apart inside = rw (some, found, open', apart, inside) refl
+
+  pub passed : list_any (overlaps word) before ≡ false → list_any (touches word) tables ≡ false → check_word loads text tables before (Ok word) ≡ Ok (word ∷ before)
+  passed apart outside = rw (some, found, open', apart, outside) refl

@@ -4,12 +4,11 @@ use Rattle.std.proofs.lemmas.Bool.{and_parts, leb-true}
 use Rattle.std.proofs.lemmas.Option.{same_Some}
 use Rattle.std.specs.Prelude.{nat_le}
 use Rattle.std.specs.List.{Contains, find}
-use Rattle.elf_linking.specs.declared.segments.Segment.{Segment}
+use Rattle.elf_loading.specs.Types.{Segment, Word}
 use Rattle.elf_loading.specs.ImageWords.{holds_word}
 use Rattle.elf_loading.specs.LoadCheck.{load_end, load_start}
 use Rattle.elf_loading.specs.Plan.{plan_file, plan_loads, plan_size, plan_span}
 use Rattle.elf_loading.specs.declared.plan.LoadPlan.{LoadPlan}
-use Rattle.elf_loading.specs.declared.words.Word.{Word}
 use Rattle.elf_loading.proofs.FileChecks.{passes_apart}
 use Rattle.elf_loading.proofs.Filled.{AreBetween, all_between, first_between}
 use Rattle.elf_loading.proofs.Rounded.{down_le, up_ge}

@@ -3,27 +3,24 @@ use Rattle.std.proofs.Common.{◌≡◌, ℕ, zero, suc, ◌+◌, ◌<◌, ◌==
 use Rattle.std.proofs.lemmas.Bool.{eqb-true, lt-ltb, ne_eqb, not-false, or_parts}
 use Rattle.std.proofs.lemmas.List.Folds.{find_at}
 use Rattle.std.proofs.lemmas.Option.{get_or_from_slice_get, slice_get_read, slice_get_within}
-use Rattle.std.specs.Prelude.{IfOk, bit_and, slice_get, ⊤}
+use Rattle.std.specs.Prelude.{IfOk, slice_get, ⊤}
 use Rattle.std.specs.List.{Contains, find, list_any, position_or_len}
 use Rattle.elf_base.specs.Refusal.{and_then, unless}
 use Rattle.elf_linking.specs.DynamicObject.{object_view}
 use Rattle.elf_linking.specs.DynamicView.{view_entries}
-use Rattle.elf_linking.specs.declared.object.DynamicObject.{DynamicObject}
-use Rattle.elf_loading.specs.ImageTables.{asks_for_text, has_flag, tables_of}
-use Rattle.elf_loading.specs.ImageWords.{AreWritten, IsHeld, IsImageCheck, IsIn, IsOwnCheck, IsWritableWord, MatchBoth, by_words, check_word, check_words, holds_word, is_shut, overlaps, refused, touches, word_rows, words_in}
+use Rattle.elf_loading.specs.Types.{DynamicObject, LoadError, Segment, TableLocation, Word}
+use Rattle.elf_loading.specs.ImageTables.{asks_for_text, tables_of}
+use Rattle.elf_loading.specs.Segments.{has_flag}
+use Rattle.elf_loading.specs.ImageWords.{AreWritten, IsImageCheck, IsInExtent, IsOwnCheck, IsWritableWord, MatchBoth, by_words, check_word, check_words, holds_word, is_shut, overlaps, not_begun, touches, word_rows, item_words}
 use Rattle.elf_loading.specs.Plan.{plan_loads}
 use Rattle.elf_loading.specs.WordsLeft.{relocation_of}
 use Rattle.elf_linking.specs.declared.error.LinkError.TheVariants.{ObjectIndex}
-use Rattle.elf_loading.specs.declared.error.LoadError.{LoadError}
-use Rattle.elf_linking.specs.declared.view.location.TableLocation.{TableLocation}
 use Rattle.elf_loading.specs.declared.error.LoadError.TheVariants as error
 use Rattle.elf_loading.specs.declared.plan.LoadPlan.{LoadPlan}
-use Rattle.elf_loading.specs.declared.words.Word.{Word}
 use Rattle.elf_loading.proofs.ImageChecks.{relocations_are, then_ok}
 use Rattle.elf_loading.proofs.ImageLoads.{found_holder}
 use Rattle.elf_loading.proofs.LoadChecks.{unless_ok}
 use Rattle.xmas_elf.specs.Symbol.{SymbolFields}
-use Rattle.elf_linking.specs.declared.segments.Segment.{Segment}
 
 -- an item that is not one that passes a test
 none_at : {X : Type 0} (test : X → Bool) (xs : List X) (k : ℕ) (x : X) → list_any test xs ≡ false → slice_get xs k ≡ Some x → test x ≡ false
@@ -38,7 +35,7 @@ contains_read : {X : Type 0} (xs : List X) (k : ℕ) (x : X) → slice_get xs k 
 contains_read xs k x is = (k, slice_get_within xs k x is, get_or_from_slice_get xs k x x is)
 
 -- ranges with an address in common meet
-meet_at : (start size other many address : ℕ) → IsIn start size address → IsIn other many address → nat_lt (max start other) (min (start + size) (other + many)) ≡ true
+meet_at : (start size other many address : ℕ) → IsInExtent start size address → IsInExtent other many address → nat_lt (max start other) (min (start + size) (other + many)) ≡ true
 meet_at start size other many address (one, two) (three, four) = lt-ltb _ _ (omega (arith, one, two, three, four))
 
 true_false : true ≡ false → ⊥
@@ -48,7 +45,7 @@ module _ (loads : List Segment) (text : Bool) (tables : List TableLocation) wher
   -- a word with bytes can be written, and meets none of those before it
   pub record IsPassed (before : List Word) (word : Word) : Type 0 where
     pub writable : 0 < word.width → IsWritableWord loads text tables word
-    pub apart : (k : ℕ) (one : Word) (address : ℕ) → slice_get before k ≡ Some one → IsIn word.address word.width address → IsIn one.address one.width address → ⊥
+    pub apart : (k : ℕ) (one : Word) (address : ℕ) → slice_get before k ≡ Some one → IsInExtent word.address word.width address → IsInExtent one.address one.width address → ⊥
 
   abbrev after_word : List Word → Word → List Word
   after_word before word = if word.width == 0 then before else word ∷ before
@@ -58,7 +55,7 @@ module _ (loads : List Segment) (text : Bool) (tables : List TableLocation) wher
   ArePassed before [] = ⊤
   ArePassed before (word ∷ words) = IsPassed before word × ArePassed (after_word before word) words
 
-  in_no_table : (word : Word) → list_any (touches word) tables ≡ false → (table : TableLocation) (start size address : ℕ) → Contains tables table → table.start ≡ Some start → table.size ≡ Some size → IsIn word.address word.width address → IsIn start size address → ⊥
+  in_no_table : (word : Word) → list_any (touches word) tables ≡ false → (table : TableLocation) (start size address : ℕ) → Contains tables table → table.start ≡ Some start → table.size ≡ Some size → IsInExtent word.address word.width address → IsInExtent start size address → ⊥
   in_no_table word none table start size address has start_is size_is in_word in_table =
       let (k, at) = read_of tables table has in
       let untouched : touches word table ≡ false = none_at (touches word) tables k table none at in
@@ -69,11 +66,8 @@ module _ (loads : List Segment) (text : Bool) (tables : List TableLocation) wher
   writable_by word None is some shut free = absurd (true_false some)
   writable_by word (Some load) is some shut free =
       let within = found_holder word loads load is in record {
-        load = load;
-        is_load = contains_read loads (position_or_len (holds_word word) loads) load (sym (find_at (holds_word word) loads) ∙ is);
-        begins = within.begins;
-        ends = within.ends;
-        writable = λ closed. eqb-true (bit_and load.flags.0 2) 2 (not-false (has_flag 2 load) (rw closed at shut));
+        held = (load, contains_read loads (position_or_len (holds_word word) loads) load (sym (find_at (holds_word word) loads) ∙ is), within.begins, within.ends);
+        writable = λ closed. not-false (has_flag 2 load) (rw closed at shut);
         in_no_table = in_no_table word free;
       }
 
@@ -132,11 +126,11 @@ module _ (loads : List Segment) (text : Bool) (tables : List TableLocation) wher
   kept_before before word one k true at = (k, at)
   kept_before before word one k false at = (suc k, at)
 
-  apart_before : (before words : List Word) (k j : ℕ) (one other : Word) (address : ℕ) → ArePassed before words → slice_get before k ≡ Some one → slice_get words j ≡ Some other → IsIn one.address one.width address → IsIn other.address other.width address → ⊥
+  apart_before : (before words : List Word) (k j : ℕ) (one other : Word) (address : ℕ) → ArePassed before words → slice_get before k ≡ Some one → slice_get words j ≡ Some other → IsInExtent one.address one.width address → IsInExtent other.address other.width address → ⊥
   apart_before before [] k j one other address passed at later in_one in_other = absurd (cc)
   apart_before before (first ∷ words) k zero one other address (here, others) at later in_one in_other =
       let same : first ≡ other = cc in
-      here.apart k one address at (subst (λ w. IsIn w.address w.width address) (sym same) in_other) in_one
+      here.apart k one address at (subst (λ w. IsInExtent w.address w.width address) (sym same) in_other) in_one
   apart_before before (first ∷ words) k (suc j) one other address (here, others) at later in_one in_other =
       let (i, still) = kept_before before first one k (first.width == 0) at in
       apart_before (after_word before first) words i j one other address others still later in_one in_other
@@ -145,26 +139,23 @@ module _ (loads : List Segment) (text : Bool) (tables : List TableLocation) wher
   first_kept before word true is = absurd (true_false is)
   first_kept before word false is = refl
 
-  all_apart : (before words : List Word) (i j : ℕ) (one other : Word) (address : ℕ) → ArePassed before words → i < j → slice_get words i ≡ Some one → slice_get words j ≡ Some other → IsIn one.address one.width address → IsIn other.address other.width address → ⊥
+  all_apart : (before words : List Word) (i j : ℕ) (one other : Word) (address : ℕ) → ArePassed before words → i < j → slice_get words i ≡ Some one → slice_get words j ≡ Some other → IsInExtent one.address one.width address → IsInExtent other.address other.width address → ⊥
   all_apart before [] i j one other address passed order at later in_one in_other = absurd (cc)
   all_apart before (first ∷ words) i zero one other address passed order at later in_one in_other = absurd (omega (arith, order))
   all_apart before (first ∷ words) zero (suc j) one other address (here, others) order at later in_one in_other =
       let same : first ≡ one = cc in
-      let in_first = subst (λ w. IsIn w.address w.width address) (sym same) in_one in
+      let in_first = subst (λ w. IsInExtent w.address w.width address) (sym same) in_one in
       apart_before (after_word before first) words 0 j first other address others (first_kept before first (first.width == 0) (ne_eqb first.width 0 (λ none. absurd (omega (arith, none, in_first.0, in_first.1))))) later in_first in_other
   all_apart before (first ∷ words) (suc i) (suc j) one other address (here, others) order at later in_one in_other =
       all_apart (after_word before first) words i j one other address others (omega (arith, order)) at later in_one in_other
 
 module _ {E : Type 0} {r : _} (size : ℕ) (fields : E → SymbolFields) (objects : List (DynamicObject E r)) (of bits : ℕ) where
-  held_by : (loads : List Segment) (text : Bool) (tables : List TableLocation) (word : Word) → IsWritableWord loads text tables word → IsHeld loads word
-  held_by loads text tables word can = (can.load, can.is_load, can.begins, can.ends)
-
   own_passes : (own : DynamicObject E r) (plan : LoadPlan) (result : Result (Unit {0}) LoadError) → result ≡ Ok tt → IsOwnCheck size fields objects of own plan bits result → AreWritten size fields objects of own plan
-  own_passes own plan result ok (refused error why is) = absurd (cc)
+  own_passes own plan result ok (not_begun error why is) = absurd (cc)
   own_passes own plan result ok (by_words relocations items checked first is) =
       let text = asks_for_text (view_entries (object_view own)) in
-      let (after, passes, done) = then_ok (check_words (plan_loads plan) text (tables_of size own) [] (words_in items)) (λ words. Ok (tt {0})) tt (sym is ∙ ok) in
-      let passing = all_passing (plan_loads plan) text (tables_of size own) [] after (words_in items) passes in
+      let (after, passes, done) = then_ok (check_words (plan_loads plan) text (tables_of size own) [] (item_words items)) (λ words. Ok (tt {0})) tt (sym is ∙ ok) in
+      let passing = all_passing (plan_loads plan) text (tables_of size own) [] after (item_words items) passes in
       let none : first.rest ≡ [] = subst (λ one. IfOk one (λ d. first.rest ≡ [])) ok first.all in
       let each : (word : Word) → Contains passing.words word → 0 < word.width → IsWritableWord (plan_loads plan) text (tables_of size own) word =
       λ word has some. let (k, at) = read_of passing.words word has in each_passed _ _ _ [] passing.words k word passing.passed at some in record {
@@ -174,7 +165,7 @@ module _ {E : Type 0} {r : _} (size : ℕ) (fields : E → SymbolFields) (object
           relocations_are = relocations_are size own plan bits relocations checked ∙ ap (λ list. Ok list) (first.are ∙ ap (λ rest. map relocation_of items ++ rest) none ∙ append-nil (map relocation_of items));
           have_words = first.have_words;
           words_are = passing.words_are;
-          held = λ word has some. held_by (plan_loads plan) text (tables_of size own) word (each word has some);
+          held = λ word has some. (each word has some).held;
           apart = λ i j one other address order at later in_one in_other. all_apart _ _ _ [] passing.words i j one other address passing.passed order at later in_one in_other;
         };
         each = each;

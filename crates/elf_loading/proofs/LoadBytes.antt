@@ -1,16 +1,22 @@
 -- The bytes at the addresses of a load.
-use Rattle.std.proofs.Common.{◌≡◌, ℕ, zero, suc, ◌+◌, ◌-◌, ◌%◌, ◌<◌, ◌≤◌, ◌==◌, ◌&&◌, nat_lt, nat_le, not, Bool, true, false, List, [], ◌∷◌, length, slice_index_or, if◌then◌else◌, refl, subst, arith}
+use Rattle.std.proofs.Common.{◌≡◌, ℕ, zero, suc, ◌+◌, ◌-◌, ◌%◌, ◌<◌, ◌≤◌, ◌==◌, ◌&&◌, nat_lt, nat_le, not, Bool, true, false, List, [], ◌∷◌, length, slice_index_or, if◌then◌else◌, refl, subst, arith, Some, None, ap, ◌∙◌, option_map}
 use Rattle.std.proofs.lemmas.Bool.{and_from, and_left, and_parts, and_right, eqb-true, le-leb, leb-true, lt-leb, lt-ltb, ne_eqb}
-use Rattle.std.specs.List.{Contains, list_all}
-use Rattle.elf_linking.specs.declared.segments.Segment.{Segment}
-use Rattle.elf_loading.specs.Bytes.{is_zeroed, load_byte, offset_at}
-use Rattle.elf_loading.specs.LoadCheck.{file_end, lies_in, load_start}
-use Rattle.elf_loading.specs.Mappings.{mapped_end, maps_file}
+use Rattle.std.specs.List.{Contains, list_all, AllByRecursion}
+use Rattle.elf_loading.specs.Types.{Loader, Segment}
+use Rattle.elf_loading.specs.Bytes.{is_zeroed, load_byte, offset_at, IsByteOf, byte_of}
+use Rattle.elf_loading.specs.LoadCheck.{file_end, lies_in, load_start, fits_below, load_end}
+use Rattle.elf_loading.specs.Mappings.{mapped_end, maps_file, IsMapped, mappings_of}
 use Rattle.elf_loading.specs.Pages.{down}
 use Rattle.elf_loading.specs.declared.bytes.Byte.TheVariants.{File, Zero}
-use Rattle.elf_loading.specs.declared.mapping.Loader.{Loader}
 use Rattle.elf_loading.specs.declared.mapping.Loader.TheVariants.{Kernel, Glibc}
-use Rattle.elf_loading.proofs.Rounded.{up_ge}
+use Rattle.elf_loading.proofs.Rounded.{up_ge, down_le}
+use Rattle.xmas_elf.specs.Types.{ElfFile}
+use Rattle.elf_loading.specs.FileCheck.{check_file}
+use Rattle.elf_loading.specs.Segments.{loads_of}
+use Rattle.elf_loading.specs.Spans.{ends_at}
+use Rattle.elf_loading.proofs.Follows.{agree}
+use Rattle.elf_loading.proofs.FileChecks.{passes_apart, passes_fit, passes_lie}
+use Rattle.elf_loading.proofs.LoadChecks.{fits_facts, held}
 
 -- a test that each item of a list passes
 item_passes : (test : Segment → Bool) (k : ℕ) (loads : List Segment) (load : Segment) → list_all test loads ≡ true → k < length loads → slice_index_or loads k load ≡ load → test load ≡ true
@@ -62,3 +68,26 @@ module _ (page limit len : ℕ) (by : Loader) (address : ℕ) (load : Segment) (
       shut : (b : Bool) → is_zeroed by address load ≡ true → (if b && not (is_zeroed by address load) && nat_lt (offset_at page address load) len then File (offset_at page address load) else Zero) ≡ Zero
       shut true is = rw is refl
       shut false is = refl
+
+-- The bytes at addresses of a file that passes its check.
+
+module _ (file : ElfFile) (page limit end : ℕ) (by : Loader) (address : ℕ) (h : 0 < page) (is : ends_at (check_file file page limit) end ≡ true) where
+  found : (load : Segment) → Contains (loads_of file) load → load.address ≤ address → address < load.address + load.mem_size → byte_of page by (length file.input.now) address (loads_of file) ≡ Some (load_byte page by (length file.input.now) address load)
+  found load has from to =
+      let below : load_start page load ≤ load.address = down_le page load.address in
+      let above : load.address + load.mem_size ≤ load_end page load = up_ge page (load.address + load.mem_size) h in
+      ap (option_map (load_byte page by (length file.input.now) address)) (held page address (loads_of file) load h (passes_apart file page limit end is) has (omega arith) (omega arith))
+
+  pub byte_of_file : (load : Segment) → Contains (loads_of file) load → load.address ≤ address → address < load.address + load.file_size → byte_of page by (length file.input.now) address (loads_of file) ≡ Some (File (load.offset + (address - load.address)))
+  byte_of_file load has from to =
+      let fits = fits_facts page limit load h (each_passes (fits_below page limit) (loads_of file) load (passes_fit file page limit end is) has) in
+      let less : load.file_size ≤ load.mem_size = fits.sizes in
+      let lies = each_passes (lies_in page (length file.input.now)) (loads_of file) load (passes_lie file page limit end is) has in
+      found load has from (omega arith) ∙ ap (λ b. Some b) (file_byte page limit (length file.input.now) by address load h lies from to)
+
+  pub byte_of_zeros : (load : Segment) → Contains (loads_of file) load → load.address + load.file_size ≤ address → address < load.address + load.mem_size → byte_of page by (length file.input.now) address (loads_of file) ≡ Some Zero
+  byte_of_zeros load has from to =
+      found load has (omega arith) to ∙ ap (λ b. Some b) (zero_byte page limit (length file.input.now) by address load h from to)
+
+  pub byte_of_mapping : AllByRecursion (λ mapping. IsMapped address mapping → IsByteOf mapping address (byte_of page by (length file.input.now) address (loads_of file))) (mappings_of page by None (loads_of file))
+  byte_of_mapping = agree page limit (length file.input.now) by address h (loads_of file) (passes_fit file page limit end is) (passes_apart file page limit end is)

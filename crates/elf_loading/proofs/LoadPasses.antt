@@ -3,20 +3,14 @@ use Rattle.std.proofs.Common.{◌≡◌, ℕ, ◌||◌, Bool, true, false, List,
 use Rattle.std.specs.List.{filter, last_or, list_any}
 use Rattle.elf_base.specs.FileHeader.{header_fields}
 use Rattle.xmas_elf.specs.Types.{ElfFile}
-use Rattle.elf_linking.specs.declared.segments.Segment.{Segment}
+use Rattle.elf_loading.specs.Types.{Extent, LoadError, Others, Pass, Segment, Tls, Wanted}
 use Rattle.elf_loading.specs.FileCheck.{covered_to, holder_in, holds_offset, is_misplaced, kind_of, is_no_path, is_no_template, is_put_at, is_uncovered}
 use Rattle.elf_loading.specs.LoadCheck.{check_load, check_loads, load_start}
 use Rattle.elf_loading.specs.LoadPass.{IsPassOf, first_of, holds_some, is_elsewhere, is_past_covered, is_wrong_path, is_wrong_template, pass_with}
 use Rattle.elf_loading.specs.Others.{AreOthersOf, address_of, data_of, memory_of, template_of}
 use Rattle.elf_loading.specs.Segments.{interpreter_of, loads_of, phdr_of}
 use Rattle.elf_loading.specs.Spans.{first_start}
-use Rattle.elf_loading.specs.declared.error.LoadError.{LoadError}
-use Rattle.elf_loading.specs.declared.load_pass.Pass.{Pass}
-use Rattle.elf_loading.specs.declared.load_pass.Wanted.{Wanted}
-use Rattle.elf_loading.specs.declared.plan.Tls.{Tls}
-use Rattle.elf_loading.specs.declared.segments.Extent.{Extent}
-use Rattle.elf_loading.specs.declared.segments.Others.{Others}
-use Rattle.elf_loading.proofs.LoadChecks.{checked_end, checked_load, end_is, refused_load}
+use Rattle.elf_loading.proofs.LoadChecks.{checked_end, checked_load, end_is, error_load}
 
 -- the start of the first load: the one that was found before, or else that of the loads that are left
 abbrev pub first_from : ℕ → Option ℕ → ℕ → List Segment → ℕ
@@ -93,9 +87,9 @@ pub rest_passed : (page limit len : ℕ) (wanted : Wanted) (loads : List Segment
 rest_passed page limit len wanted loads before after items others load end is ok kept left =
     rw kept (left_with page limit len wanted loads before items others load end is ok left)
 
-pub refused_passed : (page limit len : ℕ) (wanted : Wanted) (loads : List Segment) (before : Pass) (items others : List Segment) (load : Segment) (error : LoadError) → items ≡ load ∷ others → check_load page limit len before.end load ≡ Err error → IsLeft page limit len wanted loads before items → check_loads page limit len None loads ≡ Err error
-refused_passed page limit len wanted loads before items others load error is err left =
-    sym left.checks_left ∙ refused_load page limit len before.end items others load error is err
+pub error_passed : (page limit len : ℕ) (wanted : Wanted) (loads : List Segment) (before : Pass) (items others : List Segment) (load : Segment) (error : LoadError) → items ≡ load ∷ others → check_load page limit len before.end load ≡ Err error → IsLeft page limit len wanted loads before items → check_loads page limit len None loads ≡ Err error
+error_passed page limit len wanted loads before items others load error is err left =
+    sym left.checks_left ∙ error_load page limit len before.end items others load error is err
 
 or_false : (b : Bool) → b ≡ (b || false)
 or_false true = refl

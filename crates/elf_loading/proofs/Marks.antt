@@ -1,9 +1,9 @@
 -- Marks: which words they are of, mark by mark.
-use Rattle.std.proofs.Common.{◌≡◌, ℕ, zero, suc, get_or, ◌+◌, ◌-◌, ◌*◌, ◌/◌, ◌%◌, ◌^◌, ◌<◌, ◌≤◌, ◌==◌, ◌&&◌, ◌||◌, nat_lt, nat_le, Bool, true, false, List, [], ◌∷◌, length, replicate, slice_index, inl, inr, min, max, refl, sym, ap, ◌∙◌, subst, arith}
+use Rattle.std.proofs.Common.{◌≡◌, ℕ, zero, suc, ◌+◌, ◌-◌, ◌*◌, ◌/◌, ◌%◌, ◌^◌, ◌<◌, ◌≤◌, ◌==◌, ◌&&◌, ◌||◌, nat_lt, nat_le, Bool, true, false, List, ◌∷◌, length, slice_index, inl, inr, min, max, refl, sym, ap, ◌∙◌, subst, arith}
 use Rattle.std.proofs.lemmas.Bool.{and_from, and_parts, and_right, cases_eq, eq-eqb, eqb-true, le-leb, le-ltb, leb-true, lt-ltb, ltb-true, ne_eqb, or_cases, or_left, or_right}
 use Rattle.std.proofs.lemmas.List.{get_or-set_other, get_or-set_same}
 use Rattle.std.proofs.lemmas.List.Folds.{Any-from_list_any, list_any-from_Any}
-use Rattle.std.proofs.lemmas.Nat.Bits.{bit_at-zero, bit_at_set_other, bit_at_set_same}
+use Rattle.std.proofs.lemmas.Nat.Bits.{bit_at_set_other, bit_at_set_same}
 use Rattle.std.proofs.Math.ListN.{set}
 use Rattle.std.specs.Int.{w8, bit_at}
 use Rattle.std.specs.Prelude.{bit_or}
@@ -110,15 +110,8 @@ next_as_before start count now old is = is ∙ ap (λ b. b || old) (and_right (n
 
 -- The marks of words.
 
-zero_byte : (count i : ℕ) → ◌≡◌ {A = ℕ} (get_or (replicate count 0) i 0) 0
-zero_byte zero i = refl
-zero_byte (suc count) zero = refl
-zero_byte (suc count) (suc i) = zero_byte count i
-
-pub clear_marks : (start count : ℕ) → AreMarksOf start [] (replicate count 0)
-clear_marks start count = record { each = λ i below. ap (λ byte. bit_at byte (i % 8) == 1) (zero_byte count (i / 8)) ∙ ap (λ bit. bit == 1) (bit_at-zero (i % 8)) }
-
-covers_parts : (address : ℕ) (word : Word) → covers address word ≡ true → (word.address ≤ address) × (address < word.address + word.width)
+-- a word with a byte at an address, and the address
+pub covers_parts : (address : ℕ) (word : Word) → covers address word ≡ true → (word.address ≤ address) × (address < word.address + word.width)
 covers_parts address word is = let (from, to) = and_parts (nat_le word.address address) (nat_lt address (word.address + word.width)) is in (leb-true _ _ from, ltb-true _ _ to)
 
 covers_from : (address : ℕ) (word : Word) → word.address ≤ address → address < word.address + word.width → covers address word ≡ true

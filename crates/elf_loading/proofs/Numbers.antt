@@ -2,14 +2,12 @@
 use Rattle.std.proofs.Common.{◌≡◌, ◌==◌, ◌∙◌, ℕ, List, [], ◌∷◌, Some, false, true, nat_lt, refl, subst, sym}
 use Rattle.std.proofs.lemmas.Bool.{false≢true}
 use Rattle.elf_base.specs.Message.{row_of}
-use Rattle.elf_base.specs.declared.error.ElfError.{ElfError}
+use Rattle.elf_loading.specs.Types.{ElfError, LinkError, LoadError}
 use Rattle.elf_base.specs.declared.error.ElfError.TheVariants as elf
 use Rattle.elf_linking.specs.Message.{link_number}
-use Rattle.elf_linking.specs.declared.error.LinkError.{LinkError}
 use Rattle.elf_linking.specs.declared.error.LinkError.TheVariants as link
 use Rattle.std.specs.List.{find}
 use Rattle.elf_loading.specs.Message.{load_number}
-use Rattle.elf_loading.specs.declared.error.LoadError.{LoadError}
 use Rattle.elf_loading.specs.declared.error.LoadError.TheVariants as error
 
 abbrev pub all_errors : List LoadError

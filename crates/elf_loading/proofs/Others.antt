@@ -2,10 +2,9 @@
 use Rattle.std.proofs.Common.{◌≡◌, ℕ, ◌==◌, ◌&&◌, ◌||◌, nat_le, Bool, true, false, List, [], ◌∷◌, map, Option, Some, None, option_map, if◌then◌else◌, refl, sym, ap, subst, ◌∙◌}
 use Rattle.std.proofs.lemmas.Bool.{or_parts}
 use Rattle.std.specs.List.{filter, find, last_or}
-use Rattle.elf_linking.specs.declared.segments.Segment.{Segment}
+use Rattle.elf_loading.specs.Types.{Others, Segment}
 use Rattle.elf_loading.specs.Others.{AreOthersIn, address_of, data_of, first_with, flags_of, is_kept, last_with, memory_of, others_with, template_of}
 use Rattle.elf_loading.specs.Segments.{is_of_type}
-use Rattle.elf_loading.specs.declared.segments.Others.{Others}
 
 -- a part of the last segment of a type, or what was found before
 abbrev pub last_from : {A : Type 0} → (Segment → A) → ℕ → ℕ → Option A → List Segment → Option A

@@ -3,15 +3,12 @@ use Rattle.std.proofs.Common.{◌≡◌, ℕ, ◌+◌, ◌<◌, ◌≤◌, ◌==
 use Rattle.std.proofs.Math.Nat.{min-eq_left, min-eq_right}
 use Rattle.std.proofs.lemmas.Bool.{le-ltb, lt-ltb, ltb-false, ltb-true}
 use Rattle.std.specs.List.{cons_option}
-use Rattle.elf_linking.specs.declared.segments.Segment.{Segment}
+use Rattle.elf_loading.specs.Types.{Loader, Mapping, Parts, Segment}
 use Rattle.elf_loading.specs.LoadCheck.{file_end, load_end, load_start}
 use Rattle.elf_loading.specs.MappingParts.{pages_from, parts_before, parts_of, parts_rest, zeros_from}
 use Rattle.elf_loading.specs.Mappings.{file_mapping, gap_mapping, mapped_end, mapping_if, mappings_of, zero_mapping}
 use Rattle.elf_loading.specs.declared.mapping.Contents.TheVariants.{File, Zero, NoAccess}
-use Rattle.elf_loading.specs.declared.mapping.Loader.{Loader}
 use Rattle.elf_loading.specs.declared.mapping.Loader.TheVariants.{Kernel, Glibc}
-use Rattle.elf_loading.specs.declared.mapping.Mapping.{Mapping}
-use Rattle.elf_loading.specs.declared.mapping.Parts.{Parts}
 use Rattle.elf_loading.proofs.Rounded.{down_le, up_ge}
 
 if_append : (b : Bool) (m : Mapping) (xs ys xs' ys' others : List Mapping) → xs ≡ xs' ++ others → ys ≡ ys' ++ others → (if b then m ∷ xs else ys) ≡ (if b then m ∷ xs' else ys') ++ others

@@ -1,16 +1,15 @@
 -- A file passes exactly if no reason of one list applies.
 use Rattle.std.proofs.Common.{◌≡◌, ℕ, Bool, true, false, List, [], ◌∷◌, ◌++◌, length, Option, Some, None, ok_or, Result, Ok, Err, if◌then◌else◌, refl, sym, ap, subst, ◌∙◌}
-use Rattle.std.specs.Prelude.{IsOk, ◌↔◌}
+use Rattle.std.specs.Prelude.{IsOk}
 use Rattle.elf_base.specs.Refusal.{and_then, unless}
 use Rattle.xmas_elf.specs.Types.{ElfFile}
-use Rattle.elf_linking.specs.declared.segments.Segment.{Segment}
+use Rattle.elf_loading.specs.Types.{LoadError, Segment}
 use Rattle.elf_loading.specs.FileCheck.{NoneApplies, all_rows, check_file, has_no_load, header_rows, segment_rows}
 use Rattle.elf_loading.specs.LoadCheck.{check_load, check_loads, load_end, load_rows, loads_rows}
 use Rattle.elf_loading.specs.Segments.{loads_of}
 use Rattle.elf_loading.specs.Spans.{last_end}
-use Rattle.elf_loading.specs.declared.error.LoadError.{LoadError}
 use Rattle.elf_loading.specs.declared.error.LoadError.TheVariants as error
-use Rattle.elf_loading.proofs.Apart.{end_after, some_end}
+use Rattle.elf_loading.proofs.LoadChecks.{end_after, some_end, unless_ok}
 
 append_by : {A : Type 0} (b : Bool) (why : LoadError) (rows others : List (Bool × LoadError)) (value : A) → unless (rows ++ others) value ≡ and_then (unless rows (tt {0})) (λ done. unless others value)
     → (if b then Err why else unless (rows ++ others) value) ≡ and_then (if b then Err why else unless rows (tt {0})) (λ done. unless others value)
@@ -72,31 +71,16 @@ module _ (file : ElfFile) (page limit : ℕ) where
       ∙ ap (λ answer. and_then (unless (header_rows file page) (tt {0})) (λ done. answer)) (sym (append_is loads rest_rows (last_end page 0 (loads_of file))))
       ∙ sym (append_is (header_rows file page) (loads ++ rest_rows) (last_end page 0 (loads_of file)))
 
-none_by : {A : Type 0} (b : Bool) (why : LoadError) (rows : List (Bool × LoadError)) (value : A) → (IsOk (unless rows value) → NoneApplies rows) → IsOk (if b then Err why else unless rows value) → (b ≡ false) × NoneApplies rows
-none_by true why rows value next is = absurd (cc)
-none_by false why rows value next is = (refl, next is)
-
-none_of_ok : {A : Type 0} (rows : List (Bool × LoadError)) (value : A) → IsOk (unless rows value) → NoneApplies rows
-none_of_ok [] value is = tt
-none_of_ok (row ∷ rows) value is = none_by row.0 row.1 rows value (none_of_ok rows value) is
-
 ok_of_none : {A : Type 0} (rows : List (Bool × LoadError)) (value : A) → NoneApplies rows → IsOk (unless rows value)
 ok_of_none [] value none = refl
 ok_of_none (row ∷ rows) value (first, none) = rw first (ok_of_none rows value none)
 
--- a check ends exactly if no reason applies
-pub ok_means : (file : ElfFile) (page limit : ℕ) → IsOk (check_file file page limit) ↔ NoneApplies (all_rows file page limit)
-ok_means file page limit = (
-  λ is. none_of_ok (all_rows file page limit) (last_end page 0 (loads_of file)) (subst IsOk (file_is file page limit) is),
-  λ none. subst IsOk (sym (file_is file page limit)) (ok_of_none (all_rows file page limit) (last_end page 0 (loads_of file)) none),
-)
-
--- the same of a plan, which a check makes
+-- no reason applies to a file whose check ends
 pub passes_means : (file : ElfFile) (page limit end : ℕ) → check_file file page limit ≡ Ok end → NoneApplies (all_rows file page limit)
-passes_means file page limit end is = none_of_ok (all_rows file page limit) (last_end page 0 (loads_of file)) (subst IsOk (file_is file page limit) (rw is refl))
+passes_means file page limit end is = (unless_ok (all_rows file page limit) (last_end page 0 (loads_of file)) end (sym (file_is file page limit) ∙ is)).0
 
-pub refused_means : (file : ElfFile) (page limit : ℕ) (why : LoadError) → check_file file page limit ≡ Err why → NoneApplies (all_rows file page limit) → ⊥
-refused_means file page limit why is none = by_ok (subst IsOk (sym (file_is file page limit)) (ok_of_none (all_rows file page limit) (last_end page 0 (loads_of file)) none))
+pub error_means : (file : ElfFile) (page limit : ℕ) (why : LoadError) → check_file file page limit ≡ Err why → NoneApplies (all_rows file page limit) → ⊥
+error_means file page limit why is none = by_ok (subst IsOk (sym (file_is file page limit)) (ok_of_none (all_rows file page limit) (last_end page 0 (loads_of file)) none))
   where
     by_ok : IsOk (check_file file page limit) → ⊥
     by_ok ok = absurd (cc)

@@ -66,12 +66,6 @@ whole_le p a b h a0 b0 near =
           omega arith
     ]
 
-pub down_mono : (p x y : ℕ) → 0 < p → x ≤ y → down p x ≤ down p y
-down_mono p x y h le =
-    let near = down_near p y h in
-    let below = down_le p x in
-    whole_le p (down p x) (down p y) h (down_whole p x h) (down_whole p y h) (omega arith)
-
 pub up_mono : (p x y : ℕ) → 0 < p → x ≤ y → up p x ≤ up p y
 up_mono p x y h le =
     let near = up_near p x h in

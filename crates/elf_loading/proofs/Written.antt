@@ -1,36 +1,40 @@
 -- The words that are written so far.
-use Rattle.std.proofs.Common.{◌≡◌, ℕ, ◌+◌, ◌-◌, ◌^◌, ◌++◌, ◌&&◌, nat_le, nat_lt, inl, inr, Bool, true, false, List, [], ◌∷◌, length, map, slice_index, Result, Ok, Err, if◌then◌else◌, cond, refl, sym, ap, ◌∙◌, subst, arith, append_assoc, append-nil}
+use Rattle.std.proofs.Common.{◌≡◌, ℕ, ◌+◌, ◌-◌, ◌^◌, ◌++◌, Bool, true, false, List, [], ◌∷◌, length, map, slice_index, Result, Ok, Err, if◌then◌else◌, cond, refl, sym, ap, ◌∙◌, subst, arith, append_assoc, append-nil, ◌==◌, ◌&&◌, ◌||◌, not, Option, Some, None, MatchOption, MatchResult}
 use Rattle.std.proofs.lemmas.Option.{slice_get-get_or}
 use Rattle.std.specs.Borrow.{Bor}
 use Rattle.std.specs.Slice.{IsItemAt}
-use Rattle.std.specs.Prelude.{IsOk, MatchResult, Option, Some, min, slice_get}
-use Rattle.std.specs.List.{count_by}
-use Rattle.std.proofs.lemmas.Bool.{cases_lt, le-leb, le-ltb, lt-leb, lt-ltb}
+use Rattle.std.specs.Prelude.{IsOk, min, slice_get, IfErr, IfOk}
+use Rattle.std.specs.List.{count_by, find}
 use Rattle.std.proofs.lemmas.List.{map-append}
 use Rattle.std.proofs.lemmas.List.Elements.{All-append, All-cons, All-nil}
 use Rattle.std.proofs.lemmas.List.Sums.{sum_by-append}
 use Rattle.elf_base.specs.Refusal.{and_then, unless}
 use Rattle.elf_base.specs.FileHeader.{file_order}
-use Rattle.elf_base.specs.declared.bytes.Order.{Order}
-use Rattle.elf_linking.specs.DynamicObject.{object_file, object_view}
+use Rattle.elf_loading.specs.Types.{Binding, DynamicObject, LoadError, Order, Place, Relocated, Relocation, Word, Asked, Bound, LinkError, Reference, Row}
+use Rattle.elf_linking.specs.DynamicObject.{object_file, object_view, object_records}
 use Rattle.elf_linking.specs.DynamicView.{view_entries}
 use Rattle.elf_linking.specs.declared.error.LinkError.TheVariants.{ObjectIndex}
-use Rattle.elf_linking.specs.declared.object.DynamicObject.{DynamicObject}
-use Rattle.elf_loading.specs.Relocate.{AreWordsFor, AreItemsWritten, IsRelocation, IsRelocationIn, IsWriting, all, has_no_number, is_copy_outside, is_outside, is_unresolved, is_wrong_size, lacks_number, relocated_byte, sized_relocations, some, sources_of, start_at, value_byte, word_byte, write_item}
-use Rattle.elf_loading.specs.Words.{HasWord, binds_lazily}
-use Rattle.elf_loading.specs.WordsLeft.{IsSame, relocation_of, words_file, words_index, words_lazy, words_objects, words_of, words_own}
-use Rattle.elf_loading.specs.declared.error.LoadError.{LoadError}
-use Rattle.elf_loading.specs.declared.error.LoadError.TheVariants as error
-use Rattle.elf_loading.specs.declared.in_order.Relocation.{Relocation}
+use Rattle.elf_loading.specs.Relocate.{AreWordsFor, AreItemsWritten, IsRelocation, IsRelocationIn, IsWriting, all, has_no_number, is_copy_outside, is_outside, is_unresolved, is_wrong_size, lacks_number, relocated_byte, sized_relocations, some, sources_of, image_start, word_byte, write_item, write_word}
+use Rattle.elf_loading.specs.Words.{HasWord, binds_lazily, IsBoundIf, formula_when, formula_word, in_place_when, is_lazy, needs_symbol, formula_has_symbol}
+use Rattle.elf_loading.specs.WordsLeft.{HasWordOf, IsSame, relocation_of, words_lazy, own_relocations, words_own}
 use Rattle.elf_loading.specs.declared.plan.LoadPlan.{LoadPlan}
 use Rattle.elf_loading.specs.declared.relocate.Sources.{Sources}
-use Rattle.elf_loading.specs.declared.words.Relocated.{Relocated}
-use Rattle.elf_loading.specs.declared.words.Binding.{Binding}
-use Rattle.elf_loading.specs.declared.words.Word.{Word}
 use Rattle.elf_loading.specs.declared.words.Words.{Words}
-use Rattle.elf_loading.specs.declared.relocate.Place.{Place}
-use Rattle.elf_loading.proofs.ImageChecks.{both_at}
+use Rattle.elf_loading.proofs.ImageChecks.{both_at, has_word_same}
 use Rattle.xmas_elf.specs.Symbol.{SymbolFields}
+use Rattle.std.proofs.lemmas.Bool.{and_parts, eqb-true}
+use Rattle.elf_base.specs.Table.{table_items}
+use Rattle.elf_linking.specs.References.{file_machine}
+use Rattle.elf_linking.specs.Scope.{AnswersAsked, IsBound, IsReferenceBound, asked_of, asked_with}
+use Rattle.elf_linking.specs.RelocationTypes.{is_base, relative_of, row_of}
+use Rattle.elf_linking.specs.declared.find.Use.TheVariants.{Any}
+use Rattle.elf_linking.specs.declared.references.types.TheConstants.{AARCH64, I386, X86_64}
+use Rattle.elf_loading.specs.RelativeWords.{IsItemWritten, asks_as, relative_word}
+use Rattle.elf_loading.specs.Values.{low}
+use Rattle.elf_loading.specs.declared.value.Origin.TheVariants.{Base}
+use Rattle.elf_loading.specs.declared.value.Value.TheVariants.{Sum}
+use Rattle.elf_loading.specs.declared.error.LoadError.TheVariants as error
+use Rattle.elf_linking.specs.declared.references.types.Formula.TheVariants as formulas
 
 -- one word more
 pub byte_more : {E : Type 0} {r : _} (sources : Sources E r) (address : ℕ) (items : List (Relocated E)) (item : Relocated E) (old : ℕ)
@@ -72,40 +76,6 @@ lacks_of (Ok word) unresolved outside copied lacks is = lacks_known word unresol
 is_ok : {A E : Type 0} (result : Result A E) (value : A) → result ≡ Ok value → IsOk result
 is_ok result value is = subst IsOk (sym is) refl
 
--- The byte of a word by its index in the image.
-
-le_at : (s a b x y : ℕ) → x ≡ s + a → y ≡ s + b → nat_le x y ≡ nat_le a b
-le_at s a b x y one two = elim (cases_lt b a) [
-  | inl less ↦ lt-leb x y (omega (arith, less, one, two)) ∙ sym (lt-leb a b less)
-  | inr more ↦ le-leb x y (omega (arith, more, one, two)) ∙ sym (le-leb a b more)
-]
-
-lt_at : (s a b x y : ℕ) → x ≡ s + a → y ≡ s + b → nat_lt x y ≡ nat_lt a b
-lt_at s a b x y one two = elim (cases_lt a b) [
-  | inl less ↦ lt-ltb x y (omega (arith, less, one, two)) ∙ sym (lt-ltb a b less)
-  | inr more ↦ le-ltb x y (omega (arith, more, one, two)) ∙ sym (le-ltb a b more)
-]
-
-module _ {E : Type 0} {r : _} (sources : Sources E r) (word : Word) (start i old : ℕ) where
-  pub word_written : (index new : ℕ) → start + index ≡ word.address
-      → new ≡ (if nat_le index i && nat_lt i (index + word.width) then value_byte sources word.width word.value (i - index) old else old)
-      → new ≡ word_byte sources (start + i) (Ok word) old
-  word_written index new place is =
-      let from : nat_le word.address (start + i) ≡ nat_le index i = le_at start index i _ _ (sym place) refl in
-      let to : nat_lt (start + i) (word.address + word.width) ≡ nat_lt i (index + word.width) = lt_at start i (index + word.width) _ _ refl (omega (arith, place)) in
-      let at : start + i - word.address ≡ i - index = omega (arith, place) in
-      rw (from, to, at) is
-
-  pub no_word_written : word.width ≡ 0 → old ≡ word_byte sources (start + i) (Ok word) old
-  no_word_written none = elim (cases_lt (start + i) word.address) [
-    | inl less ↦ (let from : nat_le word.address (start + i) ≡ false = lt-leb _ _ less in rw from refl)
-    | inr more ↦ (let to : nat_lt (start + i) (word.address + word.width) ≡ false = le-ltb _ _ (omega (arith, more, none)) in by_second (nat_le word.address (start + i)) _ to)
-  ]
-    where
-      by_second : (b c : Bool) → c ≡ false → old ≡ (if b && c then value_byte sources word.width word.value (start + i - word.address) old else old)
-      by_second true c is = rw is refl
-      by_second false c is = refl
-
 -- The iterator's object stays the same.
 
 module _ {E : Type 0} {r : _} (objects : List (DynamicObject E r)) (own : DynamicObject E r) (of : ℕ) (lazy : Bool) where
@@ -119,14 +89,9 @@ module _ {E : Type 0} {r : _} (objects : List (DynamicObject E r)) (own : Dynami
   }
 
   pub has_word : (fields : E → SymbolFields) (words : Words E r) (item : Relocated E) → AreWordsFor objects own of lazy words
-      → HasWord fields (words_objects words).now (words_file words) (words_own words) (words_index words) (words_lazy words) item
+      → HasWordOf fields words item
       → HasWord fields objects (object_file own) own of lazy item
-  has_word fields words item are is =
-      let one = subst (λ some. HasWord fields some (words_file words) (words_own words) (words_index words) (words_lazy words) item) are.objects_are is in
-      let two = subst (λ file. HasWord fields objects file (words_own words) (words_index words) (words_lazy words) item) are.file_is one in
-      let three = subst (λ object. HasWord fields objects (object_file own) object (words_index words) (words_lazy words) item) are.own_is two in
-      let four = subst (λ index. HasWord fields objects (object_file own) own index (words_lazy words) item) are.index_is three in
-      subst (λ later. HasWord fields objects (object_file own) own of later item) are.lazy_is four
+  has_word fields words item are is = has_word_same fields item _ _ _ _ _ _ _ _ _ _ are.objects_are are.file_is are.own_is are.index_is are.lazy_is is
 
 module _ {E : Type 0} {r : _} (fields : E → SymbolFields) (sources : Sources E r) (own : DynamicObject E r) (lazy : Bool) (relocations : List Relocation) (before : List ℕ) where
   abbrev worded : Relocated E → Type 0
@@ -150,20 +115,20 @@ module _ {E : Type 0} {r : _} (fields : E → SymbolFields) (sources : Sources E
       can_be = All-nil writable;
       counted = omega arith;
       same_size = refl;
-      bytes = λ i below. no_byte sources (start_at sources sources.of + i) (slice_index before i);
+      bytes = λ i below. no_byte sources (image_start sources sources.of + i) (slice_index before i);
     };
   }
 
   module _ (left later : List Relocation) (item : Relocated E) (now : List ℕ) (count : ℕ) (first : left ≡ item.relocation ∷ later) (so_far : SoFar left now count) (is : HasWord fields sources.objects.now (object_file own) own sources.of lazy item) where
     -- after one more
     pub more_written : (after : List ℕ) (lacks : Bool) → length after ≡ length now → Ok lacks ≡ write_item fields sources own lazy (length now) item
-        → ((i : ℕ) → slice_index after i ≡ word_byte sources (start_at sources sources.of + i) item.word (slice_index now i))
+        → ((i : ℕ) → slice_index after i ≡ word_byte sources (image_start sources sources.of + i) item.word (slice_index now i))
         → SoFar later after (min (count + (if lacks then 1 else 0)) (2 ^ 64 - 1))
     more_written after lacks len can bytes =
         let written = so_far.written in
         let same : write_item fields sources own lazy (length before) item ≡ Ok lacks = ap (λ n. write_item fields sources own lazy n item) (sym written.same_size) ∙ sym can in
         let word_lacks : lacks_number item.word ≡ lacks = lacks_of item.word (is_unresolved fields own lazy item)
-        (λ word. is_outside (start_at sources sources.of) (length before) word.address word.width) (λ word. is_copy_outside sources word.width word.value) lacks same in record {
+        (λ word. is_outside (image_start sources sources.of) (length before) word.address word.width) (λ word. is_copy_outside sources word.width word.value) lacks same in record {
           items = so_far.items ++ item ∷ [];
           split = so_far.split ∙ ap (λ rest. map relocation_of so_far.items ++ rest) first
               ∙ sym (append_assoc (map relocation_of so_far.items) (item.relocation ∷ []) later) ∙ ap (λ some. some ++ later) (sym (map-append relocation_of so_far.items (item ∷ [])));
@@ -172,15 +137,15 @@ module _ {E : Type 0} {r : _} (fields : E → SymbolFields) (sources : Sources E
             can_be = All-append writable so_far.items (item ∷ []) written.can_be (All-cons writable item [] (is_ok _ lacks same) (All-nil writable));
             counted = count_more (λ one. lacks_number one.word) so_far.items item lacks count word_lacks written.counted;
             same_size = len ∙ written.same_size;
-            bytes = λ i below. bytes i ∙ ap (word_byte sources (start_at sources sources.of + i) item.word) (written.bytes i below)
-                ∙ sym (byte_more sources (start_at sources sources.of + i) so_far.items item (slice_index before i));
+            bytes = λ i below. bytes i ∙ ap (word_byte sources (image_start sources sources.of + i) item.word) (written.bytes i below)
+                ∙ sym (byte_more sources (image_start sources sources.of + i) so_far.items item (slice_index before i));
           };
         }
 
     -- at one that can't be written
-    pub one_refused : (after : List ℕ) (reason : LoadError) → Err reason ≡ write_item fields sources own lazy (length now) item → after ≡ now
+    pub one_failed : (after : List ℕ) (reason : LoadError) → Err reason ≡ write_item fields sources own lazy (length now) item → after ≡ now
         → IsWriting fields sources own lazy relocations before after (Err reason)
-    one_refused after reason can same =
+    one_failed after reason can same =
         let written = so_far.written in
         some so_far.items count item later reason (so_far.split ∙ ap (λ rest. map relocation_of so_far.items ++ rest) first)
         (subst (λ image. AreItemsWritten fields sources own lazy before image so_far.items count) (sym same) written) is
@@ -199,7 +164,7 @@ item_is xs i lent x item is = let at = subst (IsItemAt xs i) is item in slice_ge
 
 module _ {E : Type 0} {r : _} (fields : E → SymbolFields) (sources : Sources E r) (own : DynamicObject E r) (plan : LoadPlan) (lazy : Bool) (before after : List ℕ) where
   pub is_written : (result : Result ℕ LoadError) (relocations : List Relocation) → is_wrong_size sources plan (length before) ≡ false
-      → words_of (Some own) ≡ Ok relocations → IsWriting fields sources own lazy relocations before after result
+      → own_relocations (Some own) ≡ Ok relocations → IsWriting fields sources own lazy relocations before after result
       → IsRelocation fields sources own plan lazy before after result
   is_written result relocations right are writing =
       let sized : sized_relocations sources own plan (length before) ≡ Ok relocations = rw (right, are) refl in
@@ -225,3 +190,168 @@ module _ {E : Type 0} {r : _} (fields : E → SymbolFields) (objects : Bor (List
       both_at objects.now plans.now of ((result ≡ Err (error.Link ObjectIndex)) × (after ≡ before))
       (λ own plan. IsRelocation fields (sources_of objects plans of places images own) own plan (binds_lazily (view_entries (object_view own)) when) before after result)
       own plan found planned other
+
+-- Words that are written without a look-up.
+
+-- Relocations of one symbol.
+
+module _ {E : Type 0} {r : _} (fields : E → SymbolFields) (objects : List (DynamicObject E r)) (of : ℕ) (bound : Result (Option (Bound E)) LinkError) (one other : Reference) (symbol : one.symbol ≡ other.symbol) (kind : one.kind ≡ other.kind) where
+  asked_same : (object : DynamicObject E r) (found : Option E) → asked_with fields object one found ≡ asked_with fields object other found
+  asked_same object None = refl
+  asked_same object (Some entry) = rw (symbol, kind) refl
+
+  asks_same : (object : DynamicObject E r) → asked_of fields object one ≡ asked_of fields object other
+  asks_same object = asked_same object (slice_get (table_items (object_records object)) one.symbol)
+      ∙ ap (λ index. asked_with fields object other (slice_get (table_items (object_records object)) index)) symbol
+
+  abbrev Answers : ℕ → Result (Asked E) LinkError → Type 0
+  Answers index asked = MatchResult asked (λ question. AnswersAsked (IsBound fields objects of) of index question bound) (λ error. bound ≡ Err error)
+
+  for_object : (found : Option (DynamicObject E r)) → MatchOption found (bound ≡ Err ObjectIndex) (λ asking. Answers one.symbol (asked_of fields asking one))
+      → MatchOption found (bound ≡ Err ObjectIndex) (λ asking. Answers other.symbol (asked_of fields asking other))
+  for_object None is = is
+  for_object (Some asking) is = subst (λ index. Answers index (asked_of fields asking other)) symbol (subst (Answers one.symbol) (asks_same asking) is)
+
+  bound_same : IsReferenceBound fields objects of one bound → IsReferenceBound fields objects of other bound
+  bound_same is = for_object (slice_get objects of) is
+
+  bound_same_if : (needs : Bool) → IsBoundIf needs fields objects of one bound → IsBoundIf needs fields objects of other bound
+  bound_same_if true is = bound_same is
+  bound_same_if false is = is
+
+same_slot : (one other : Bool) → (if one then other else not other) ≡ true → one ≡ other
+same_slot true other is = sym is
+same_slot false false is = refl
+same_slot false true is = absurd (cc)
+
+needs_by : ℕ → Bool → Bool → ℕ → Bool
+needs_by machine lazy slot kind =
+    formula_has_symbol (if lazy && (slot && (row_of machine kind).slot) then Some formulas.Base else (row_of machine kind).formula)
+
+-- a relocation that asks as another gets its symbol
+pub bound_as : {E : Type 0} {r : _} (fields : E → SymbolFields) (objects : List (DynamicObject E r)) (of machine : ℕ) (lazy : Bool) (bound : Result (Option (Bound E)) LinkError) (one other : Relocation)
+    → asks_as one other ≡ true → IsBoundIf (needs_symbol machine lazy one) fields objects of one.reference bound
+    → IsBoundIf (needs_symbol machine lazy other) fields objects of other.reference bound
+unfolding needs_by
+bound_as fields objects of machine lazy bound one other same is =
+    let (symbol_is, rest) = and_parts _ _ same in
+    let (kind_is, slot_is) = and_parts _ _ rest in
+    let symbol : one.reference.symbol ≡ other.reference.symbol = eqb-true _ _ symbol_is in
+    let kind : one.reference.kind ≡ other.reference.kind = eqb-true _ _ kind_is in
+    let slot : one.slot ≡ other.slot = same_slot _ _ slot_is in
+    let needs : needs_symbol machine lazy one ≡ needs_symbol machine lazy other =
+    ap (λ s. needs_by machine lazy s one.reference.kind) slot ∙ ap (needs_by machine lazy other.slot) kind in
+    subst (λ b. IsBoundIf b fields objects of other.reference bound) needs
+    (bound_same_if fields objects of bound one.reference other.reference symbol kind (needs_symbol machine lazy one) is)
+
+-- Relative relocations.
+
+record Facts (machine : ℕ) (relative : Row) : Type 0 where
+  formula : (row_of machine relative.kind).formula ≡ Some formulas.Base
+  width : (row_of machine relative.kind).width ≡ relative.width
+  no_slot : (row_of machine relative.kind).slot ≡ false
+
+module _ (machine : ℕ) (relative : Row) where
+  facts_at : (m : ℕ) (one : Row) → machine ≡ m → Some one ≡ Some relative → Facts m one → Facts machine relative
+  facts_at m one same is facts = let those : one ≡ relative = cc in subst (λ k. Facts k relative) (sym same) (subst (Facts m) those facts)
+
+  by_machine : (one two three : Bool) → (machine == 62) ≡ one → (machine == 3) ≡ two → (machine == 183) ≡ three
+      → find (λ (row : Row). is_base row.formula) (if one then X86_64 else (if two then I386 else (if three then AARCH64 else []))) ≡ Some relative → Facts machine relative
+  by_machine true two three a b c is =
+      facts_at 62 (record { kind = 8; formula = Some formulas.Base; width = 8; use_ = Any; names = false; slot = false }) (eqb-true machine 62 a) is (record { formula = refl; width = refl; no_slot = refl })
+  by_machine false true three a b c is =
+      facts_at 3 (record { kind = 8; formula = Some formulas.Base; width = 4; use_ = Any; names = false; slot = false }) (eqb-true machine 3 b) is (record { formula = refl; width = refl; no_slot = refl })
+  by_machine false false true a b c is =
+      facts_at 183 (record { kind = 1027; formula = Some formulas.Base; width = 8; use_ = Any; names = false; slot = false }) (eqb-true machine 183 c) is (record { formula = refl; width = refl; no_slot = refl })
+  by_machine false false false a b c is = absurd (cc)
+
+  facts_of : relative_of machine ≡ Some relative → Facts machine relative
+  facts_of is = by_machine (machine == 62) (machine == 3) (machine == 183) refl refl refl is
+
+not_lazy : (lazy slot jump : Bool) → jump ≡ false → (lazy && (slot && jump)) ≡ false
+not_lazy true true jump is = is
+not_lazy true false jump is = refl
+not_lazy false slot jump is = refl
+
+abbrev word_with : ℕ → ℕ → Reference → Word
+word_with of width reference = record { address = reference.offset; width = width; value = Sum (Base of) (low width reference.addend) }
+
+record Parts (of : ℕ) (found : Option Row) (relocation : Relocation) (word : Word) : Type 0 where
+  relative : Row
+  there : found ≡ Some relative
+  kind : relocation.reference.kind ≡ relative.kind
+  in_record : relocation.in_place ≡ false
+  word_is : word_with of relative.width relocation.reference ≡ word
+
+parts_of : (of : ℕ) (found : Option Row) (relocation : Relocation) (word : Word) → relative_word of found relocation ≡ Some word → Parts of found relocation word
+parts_of of None relocation word is = absurd (cc)
+parts_of of (Some relative) relocation word is = by_tests (relocation.reference.kind == relative.kind) relocation.in_place refl refl is
+  where
+    by_tests : (same placed : Bool) → (relocation.reference.kind == relative.kind) ≡ same → relocation.in_place ≡ placed
+        → (if same && not placed then Some (word_with of relative.width relocation.reference) else None) ≡ Some word → Parts of (Some relative) relocation word
+    by_tests true false a b is = record { relative = relative; there = refl; kind = eqb-true _ _ a; in_record = b; word_is = cc }
+    by_tests true true a b is = absurd (cc)
+    by_tests false placed a b is = absurd (cc)
+
+module _ {E : Type 0} {r : _} (fields : E → SymbolFields) (own : DynamicObject E r) (of : ℕ) (lazy : Bool) (relocation : Relocation) (word : Word) (is : relative_word of (relative_of (file_machine (object_file own))) relocation ≡ Some word) where
+  abbrev machine : ℕ
+  machine = file_machine (object_file own)
+
+  abbrev item : Relocated E
+  item = record { relocation = relocation; bound = Ok None; word = Ok word }
+
+  parts : Parts of (relative_of machine) relocation word
+  parts = parts_of of (relative_of machine) relocation word is
+
+  facts : Facts machine parts.relative
+  facts = facts_of machine parts.relative parts.there
+
+  abbrev row : Row
+  row = row_of machine relocation.reference.kind
+
+  lazy_false : is_lazy row lazy relocation ≡ false
+  lazy_false = not_lazy lazy relocation.slot (row_of machine relocation.reference.kind).slot (ap (λ kind. (row_of machine kind).slot) parts.kind ∙ facts.no_slot)
+
+  formula_is : formula_when row lazy relocation ≡ Some formulas.Base
+  formula_is = ap (λ b. if b then Some formulas.Base else (row_of machine relocation.reference.kind).formula) lazy_false
+      ∙ ap (λ kind. (row_of machine kind).formula) parts.kind ∙ facts.formula
+
+  needs_none : needs_symbol machine lazy relocation ≡ false
+  needs_none = ap formula_has_symbol formula_is
+
+  in_place_false : in_place_when row lazy relocation ≡ false
+  in_place_false = ap (λ b. b || is_lazy row lazy relocation) parts.in_record ∙ lazy_false
+
+  width_is : (row_of machine relocation.reference.kind).width ≡ parts.relative.width
+  width_is = ap (λ kind. (row_of machine kind).width) parts.kind ∙ facts.width
+
+  has : (objects : List (DynamicObject E r)) → HasWord fields objects (object_file own) own of lazy item
+  has objects = (
+    subst (λ b. IsBoundIf b fields objects of relocation.reference (Ok None)) (sym needs_none) refl,
+    sym (ap (λ b. formula_word fields (object_file own) own of b relocation.reference (Ok None) (formula_when row lazy relocation)) in_place_false
+        ∙ ap (formula_word fields (object_file own) own of false relocation.reference (Ok None)) formula_is
+        ∙ ap (λ width. Ok (word_with of width relocation.reference)) width_is ∙ ap (λ one. Ok one) parts.word_is),
+  )
+
+  same_write : (sources : Sources E r) (len : ℕ) → write_item fields sources own lazy len item ≡ write_word sources len word
+  same_write sources len = rw needs_none refl
+
+  pub relative_written : (sources : Sources E r) (before after : List ℕ) (result : Result Bool LoadError) → sources.of ≡ of → result ≡ write_word sources (length before) word
+      → IfOk result (λ lacks. (i : ℕ) → slice_index after i ≡ word_byte sources (image_start sources sources.of + i) (Ok word) (slice_index before i))
+      → IfErr result (λ error. after ≡ before) → IsItemWritten fields sources own lazy relocation before after result
+  relative_written sources before after result same said bytes kept = record {
+    item = item;
+    relocation_is = refl;
+    has_word = subst (λ index. HasWord fields sources.objects.now (object_file own) own index lazy item) (sym same) (has sources.objects.now);
+    result_is = said ∙ sym (same_write sources (length before));
+    bytes = bytes;
+    same = kept;
+  }
+
+-- the object of an iterator is the one whose words it has
+pub of_words : {E : Type 0} {r : _} (fields : E → SymbolFields) (sources : Sources E r) (own : DynamicObject E r) (lazy : Bool) (words : Words E r) (relocation : Relocation) (before after : List ℕ) (result : Result Bool LoadError)
+    → AreWordsFor sources.objects.now own sources.of lazy words → IsItemWritten fields sources (words_own words) (words_lazy words) relocation before after result
+    → IsItemWritten fields sources own lazy relocation before after result
+of_words fields sources own lazy words relocation before after result are is =
+    subst (λ later. IsItemWritten fields sources own later relocation before after result) are.lazy_is
+    (subst (λ object. IsItemWritten fields sources object (words_lazy words) relocation before after result) are.own_is is)

@@ -2,16 +2,12 @@
 -- pages as Linux and glibc leave it).
 use Rattle.std.specs.Prelude.{◌≡◌, ◌⊎◌, ℕ, ◌+◌, ◌-◌, ◌&&◌, not, nat_le, nat_lt, slice_index, Bool, List, Option, Some, None, option_map, if◌then◌else◌}
 use Rattle.std.specs.List.{find}
-use Rattle.elf_linking.specs.declared.segments.Segment.{Segment}
+use Rattle.elf_loading.specs.Types.{Byte, Contents, Loader, Mapping, Segment}
 use Rattle.elf_loading.specs.LoadCheck.{holds_address, load_end, load_start}
 use Rattle.elf_loading.specs.Mappings.{mapped_end}
 use Rattle.elf_loading.specs.Pages.{down}
-use Rattle.elf_loading.specs.declared.mapping.Loader.{Loader}
 use Rattle.elf_loading.specs.declared.mapping.Loader.TheVariants.{Kernel, Glibc}
-use Rattle.elf_loading.specs.declared.mapping.Contents.{Contents}
 use Rattle.elf_loading.specs.declared.mapping.Contents.TheVariants as contents
-use Rattle.elf_loading.specs.declared.mapping.Mapping.{Mapping}
-use Rattle.elf_loading.specs.declared.bytes.Byte.{Byte}
 use Rattle.elf_loading.specs.declared.bytes.Byte.TheVariants.{File, Zero}
 
 -- a loader writes zeros at an address after the bytes of a load: Linux to the end of the page, if the load has
@@ -53,12 +49,12 @@ byte_number input (Some Zero) = 0
 byte_number input None = 0
 
 -- the byte at a place in a mapping, by what it holds
-abbrev pub byte_by : Contents → ℕ → Option Byte → Type 0
-byte_by (contents.File offset) place byte = (byte ≡ Some (File (offset + place))) ⊎ (byte ≡ Some Zero)
-byte_by contents.Zero place byte = byte ≡ Some Zero
-byte_by contents.NoAccess place byte = byte ≡ None
+abbrev pub HoldsByte : Contents → ℕ → Option Byte → Type 0
+HoldsByte (contents.File offset) place byte = (byte ≡ Some (File (offset + place))) ⊎ (byte ≡ Some Zero)
+HoldsByte contents.Zero place byte = byte ≡ Some Zero
+HoldsByte contents.NoAccess place byte = byte ≡ None
 
 -- the byte at an address in a mapping: one of the file at the place in the mapping, or zero; zero in a mapping of
 -- zeros; none in one without access
 abbrev pub IsByteOf : Mapping → ℕ → Option Byte → Type 0
-IsByteOf mapping address byte = byte_by mapping.contents (address - mapping.start) byte
+IsByteOf mapping address byte = HoldsByte mapping.contents (address - mapping.start) byte

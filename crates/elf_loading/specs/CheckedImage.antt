@@ -5,35 +5,23 @@ use Rattle.std.specs.Borrow.{Bor}
 use Rattle.std.specs.List.{count_by, find, take_while}
 use Rattle.std.specs.Result.{result_ok}
 use Rattle.elf_base.specs.FileHeader.{file_order}
-use Rattle.elf_base.specs.declared.bytes.Order.{Order}
+use Rattle.elf_loading.specs.Types.{Bound, DynamicObject, Formula, ImageError, LoadError, Loader, Order, Place, Reference, Relocation, Segment, Value, Word}
 use Rattle.elf_linking.specs.CheckedScope.{bound_in}
 use Rattle.elf_linking.specs.DynamicObject.{object_file}
 use Rattle.elf_linking.specs.Exports.{ObjectParts, SymbolParts, object_parts}
 use Rattle.elf_linking.specs.References.{file_machine}
 use Rattle.elf_linking.specs.RelocationTypes.{row_of}
 use Rattle.elf_linking.specs.Scope.{AreGood}
-use Rattle.elf_linking.specs.declared.object.DynamicObject.{DynamicObject}
-use Rattle.elf_linking.specs.declared.references.Reference.{Reference}
-use Rattle.elf_linking.specs.declared.references.types.Formula.{Formula}
-use Rattle.elf_linking.specs.declared.scope.Bound.{Bound}
-use Rattle.elf_linking.specs.declared.segments.Segment.{Segment}
 use Rattle.elf_loading.specs.Bytes.{byte_number, byte_of}
 use Rattle.elf_loading.specs.ImageWords.{AreWordsApart, covers}
 use Rattle.elf_loading.specs.Plan.{plan_loads, plan_page, plan_size, plan_span}
 use Rattle.elf_loading.specs.Relocate.{has_no_number, image_in, is_outside, is_weak, number_byte, value_number}
-use Rattle.elf_loading.specs.Words.{addend_of, size_in_own, symbol_in, takes_symbol, value_word}
-use Rattle.elf_loading.specs.WordsLeft.{words_of}
-use Rattle.elf_loading.specs.declared.checked.image.ImageError.{ImageError}
+use Rattle.elf_loading.specs.Words.{addend_of, size_in_own, formula_has_symbol, takes_symbol, value_word}
+use Rattle.elf_loading.specs.WordsLeft.{own_relocations}
 use Rattle.elf_loading.specs.declared.checked.image.ImageError.TheVariants as error
-use Rattle.elf_loading.specs.declared.error.LoadError.{LoadError}
 use Rattle.elf_loading.specs.declared.error.LoadError.TheVariants as load
-use Rattle.elf_loading.specs.declared.in_order.Relocation.{Relocation}
-use Rattle.elf_loading.specs.declared.mapping.Loader.{Loader}
 use Rattle.elf_loading.specs.declared.plan.LoadPlan.{LoadPlan}
-use Rattle.elf_loading.specs.declared.relocate.Place.{Place}
-use Rattle.elf_loading.specs.declared.value.Value.{Value}
 use Rattle.elf_loading.specs.declared.value.Value.TheVariants.{Copy}
-use Rattle.elf_loading.specs.declared.words.Word.{Word}
 use Rattle.xmas_elf.specs.Symbol.{SymbolFields}
 
 -- an object of a scope whose checks passed: its index; the object itself, and all objects of the scope; its relocations in
@@ -109,7 +97,7 @@ abbrev pub mapped_at : ImageParts → Loader → ℕ → ℕ
 mapped_at parts by address = byte_number parts.file (byte_of parts.page by (length parts.file) address parts.loads)
 
 -- an image has the bytes that a loader maps: byte i is that at its first address plus i
-pub record IsMapped (parts : ImageParts) (by : Loader) (image : List ℕ) : Type 0 where
+pub record IsMappedImage (parts : ImageParts) (by : Loader) (image : List ℕ) : Type 0 where
   pub size : length image ≡ parts.size
   pub bytes : (i : ℕ) → i < length image → slice_index image i ≡ mapped_at parts by (start_in parts parts.index + i)
 
@@ -119,7 +107,7 @@ pub record AreWordsWritten (parts : ImageParts) (places : List Place) (images : 
   pub size : length after ≡ length before
   pub bytes : (i : ℕ) → i < length before → slice_index after i
       ≡ relocated_at parts places images words (start_in parts parts.index + i) (slice_index before i)
-  pub of_plan : (by : Loader) → IsMapped parts by before → (i : ℕ) → i < length before → slice_index after i
+  pub of_plan : (by : Loader) → IsMappedImage parts by before → (i : ℕ) → i < length before → slice_index after i
       ≡ relocated_at parts places images words (start_in parts parts.index + i) (mapped_at parts by (start_in parts parts.index + i))
 
 -- Why an image is not relocated.
@@ -127,7 +115,7 @@ pub record AreWordsWritten (parts : ImageParts) (places : List Place) (images : 
 -- a relocation needs a symbol that no object has, and that is not weak
 abbrev pub is_missing : ImageParts → Reference → Bool
 is_missing parts reference = is_none (bound_in parts.objects parts.index reference)
-    && symbol_in (row_of parts.own.machine reference.kind).formula
+    && formula_has_symbol (row_of parts.own.machine reference.kind).formula
     && not (is_weak (λ (symbol : SymbolParts). symbol.fields) (own_symbol parts reference))
 
 -- the `width` bytes that a value copies are not all in the image of their object
@@ -199,7 +187,7 @@ image_parts fields objects plans index own plan = record {
   index = index;
   own = object_parts fields own;
   objects = map (object_parts fields) objects;
-  references = map (with_addend own) (unwrap_or (result_ok (words_of (Some own))) []);
+  references = map (with_addend own) (unwrap_or (result_ok (own_relocations (Some own))) []);
   order = file_order (object_file own).header;
   starts = map (λ plan. (plan_span plan).start) plans;
   size = plan_size plan;

@@ -3,8 +3,7 @@ use Rattle.std.specs.Prelude.{◌≡◌, ℕ, ◌<◌, List, Some, Result, Ok, E
 use Rattle.elf_linking.specs.Checked.{AreChecked}
 use Rattle.elf_linking.specs.Find.{DynamicSymbols}
 use Rattle.elf_linking.specs.Scope.{symbols_at}
-use Rattle.elf_linking.specs.declared.error.LinkError.{LinkError}
-use Rattle.elf_linking.specs.declared.object.DynamicObject.{DynamicObject}
+use Rattle.elf_loading.specs.Types.{DynamicObject, LinkError}
 use Rattle.xmas_elf.specs.Symbol.{SymbolFields}
 
 -- the objects before one passed their checks

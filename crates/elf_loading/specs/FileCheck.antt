@@ -5,12 +5,11 @@ use Rattle.std.specs.List.{filter, last_or, list_any}
 use Rattle.elf_base.specs.FileHeader.{file_class, header_fields, type_number}
 use Rattle.elf_base.specs.Refusal.{and_then, unless}
 use Rattle.xmas_elf.specs.Types.{ElfFile, Header}
-use Rattle.elf_linking.specs.declared.segments.Segment.{Segment}
+use Rattle.elf_loading.specs.Types.{LoadError, Segment}
 use Rattle.elf_loading.specs.LoadCheck.{check_loads, holds_address, load_end, loads_rows}
 use Rattle.elf_loading.specs.Pages.{down}
 use Rattle.elf_linking.specs.Segments.{segment_size, table_size}
 use Rattle.elf_loading.specs.Segments.{interpreter_of, loads_of, phdr_of, relro_of, tls_of}
-use Rattle.elf_loading.specs.declared.error.LoadError.{LoadError}
 use Rattle.elf_loading.specs.declared.error.LoadError.TheVariants as error
 
 -- the type of a file (e_type): 2 of programs at fixed addresses, 3 of those at any, and of libraries

@@ -1,6 +1,6 @@
 -- The tables that a dynamic linker reads while it relocates a file, and whether it can (gABI, "Dynamic Section"; what
 -- is asked of them as glibc 2.36 has it).
-use Rattle.std.specs.Prelude.{ℕ, ◌+◌, ◌-◌, ◌*◌, ◌%◌, ◌^◌, ◌==◌, ◌&&◌, ◌||◌, not, min, max, bit_and, is_none, is_some, Bool, true, false, List, [], ◌∷◌, ◌++◌, length, Option, None, Some, Result, if◌then◌else◌}
+use Rattle.std.specs.Prelude.{ℕ, ◌+◌, ◌-◌, ◌*◌, ◌%◌, ◌^◌, ◌==◌, ◌&&◌, ◌||◌, not, min, max, is_none, is_some, Bool, true, false, List, [], ◌∷◌, ◌++◌, length, Option, None, Some, Result, if◌then◌else◌}
 use Rattle.std.specs.List.{list_any}
 use Rattle.elf_base.specs.FileHeader.{file_class}
 use Rattle.elf_base.specs.Refusal.{and_then, unless}
@@ -11,23 +11,15 @@ use Rattle.elf_linking.specs.GnuHash as gnu
 use Rattle.elf_linking.specs.Loaded.{segment_at_of}
 use Rattle.elf_linking.specs.References.{file_machine, record_size}
 use Rattle.elf_linking.specs.TableLocations.{table_by}
-use Rattle.elf_linking.specs.declared.any_table.AnyTable.{AnyTable}
+use Rattle.elf_loading.specs.Types.{AnyTable, Dynamic, DynamicObject, LoadError, Segment, TableLocation}
 use Rattle.elf_linking.specs.declared.any_table.AnyTable.TheVariants.{Gnu, Sysv}
-use Rattle.elf_linking.specs.declared.object.DynamicObject.{DynamicObject}
 use Rattle.elf_linking.specs.declared.view.tags.TheConstants.{DT_FLAGS, DT_GNU_HASH, DT_HASH, DT_JMPREL, DT_PLTREL, DT_PLTRELSZ, DT_REL, DT_RELA, DT_RELAENT, DT_RELASZ, DT_RELENT, DT_RELR, DT_RELRENT, DT_RELRSZ, DT_RELSZ, DT_STRSZ, DT_STRTAB, DT_SYMTAB, DT_TEXTREL, DT_VERSYM}
 use Rattle.elf_loading.specs.InOrder.{is_kind}
+use Rattle.elf_loading.specs.Segments.{has_flag}
 use Rattle.elf_loading.specs.Words.{address_size}
-use Rattle.elf_loading.specs.declared.error.LoadError.{LoadError}
 use Rattle.elf_loading.specs.declared.error.LoadError.TheVariants as error
-use Rattle.elf_linking.specs.declared.view.location.TableLocation.{TableLocation}
-use Rattle.elf_records.specs.declared.dynamic.Dynamic.{Dynamic}
 use Rattle.xmas_elf.specs.HashTable as gabi
 use Rattle.xmas_elf.specs.Types.{ElfFile}
-use Rattle.elf_linking.specs.declared.segments.Segment.{Segment}
-
--- a segment is readable (PF_R, 4), or writable (PF_W, 2)
-abbrev pub has_flag : ℕ → Segment → Bool
-has_flag flag segment = bit_and segment.flags.0 flag == flag
 
 -- Tables by their entries.
 
@@ -48,8 +40,8 @@ abbrev pub table_of_size : List (Dynamic ℕ) → ℕ → ℕ → TableLocation
 table_of_size entries start size = record { start = number_with start entries; size = Some size }
 
 -- the table of relocations with addends, of those without, the packed ones, and those of the procedure linkage table
-abbrev pub relocation_tables : List (Dynamic ℕ) → List TableLocation
-relocation_tables entries = table_by entries DT_RELA DT_RELASZ ∷ table_by entries DT_REL DT_RELSZ
+abbrev pub relocation_locations : List (Dynamic ℕ) → List TableLocation
+relocation_locations entries = table_by entries DT_RELA DT_RELASZ ∷ table_by entries DT_REL DT_RELSZ
     ∷ table_by entries DT_RELR DT_RELRSZ ∷ table_by entries DT_JMPREL DT_PLTRELSZ ∷ []
 
 -- the number of symbols that an index of 32 bits can name
@@ -76,7 +68,7 @@ segment_extent (Some segment) =
 
 -- all tables that a dynamic linker reads while it relocates a file: these, and the dynamic segment
 abbrev pub tables_of : {E : Type 0} → {r : _} → ℕ → DynamicObject E r → List TableLocation
-tables_of size object = relocation_tables (view_entries (object_view object))
+tables_of size object = relocation_locations (view_entries (object_view object))
     ++ (symbol_tables size object ++ (segment_extent (dynamic_segment_of (object_file object)) ∷ []))
 
 -- Whether they can be read.

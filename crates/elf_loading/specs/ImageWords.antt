@@ -1,29 +1,23 @@
 -- Whether the words of relocations can be written (this project's own list, by what glibc 2.36 needs).
-use Rattle.std.specs.Prelude.{◌≡◌, ℕ, zero, suc, ◌+◌, ◌*◌, ◌/◌, ◌%◌, ◌<◌, ◌≤◌, ◌==◌, ◌&&◌, ◌||◌, not, nat_le, nat_lt, bit_and, is_none, min, max, slice_get, slice_index, Bool, false, List, [], ◌∷◌, ◌++◌, All, map, length, Option, None, Some, Result, Ok, Err, IfOk, MatchOption, if◌then◌else◌}
+use Rattle.std.specs.Prelude.{◌≡◌, ℕ, zero, suc, ◌+◌, ◌*◌, ◌/◌, ◌%◌, ◌<◌, ◌≤◌, ◌==◌, ◌&&◌, ◌||◌, not, nat_le, nat_lt, is_none, min, max, slice_get, slice_index, Bool, true, false, List, [], ◌∷◌, ◌++◌, All, map, length, Option, None, Some, Result, Ok, Err, IfOk, MatchOption, if◌then◌else◌}
 use Rattle.std.specs.Borrow.{Bor}
 use Rattle.std.specs.Int.{bit_at}
 use Rattle.std.specs.List.{Contains, find, list_any}
 use Rattle.elf_base.specs.Refusal.{and_then, unless}
 use Rattle.elf_linking.specs.DynamicObject.{object_file, object_view}
 use Rattle.elf_linking.specs.DynamicView.{view_entries}
-use Rattle.elf_linking.specs.declared.error.LinkError.{LinkError}
+use Rattle.elf_loading.specs.Types.{DynamicObject, LinkError, LoadError, Relocated, Relocation, Segment, TableLocation, Word}
 use Rattle.elf_linking.specs.declared.error.LinkError.TheVariants.{ObjectIndex}
-use Rattle.elf_linking.specs.declared.object.DynamicObject.{DynamicObject}
-use Rattle.elf_loading.specs.ImageTables.{asks_for_text, check_tables, has_flag, tables_of}
+use Rattle.elf_loading.specs.ImageTables.{asks_for_text, check_tables, tables_of}
+use Rattle.elf_loading.specs.Segments.{has_flag}
 use Rattle.elf_loading.specs.Plan.{plan_loads, plan_size}
 use Rattle.elf_loading.specs.Words.{HasWord}
-use Rattle.elf_loading.specs.WordsLeft.{AreWordsOf, relocation_of, words_file, words_index, words_lazy, words_left, words_objects, words_of, words_own}
-use Rattle.elf_loading.specs.declared.error.LoadError.{LoadError}
+use Rattle.elf_loading.specs.WordsLeft.{HasWordOf, AreWordsOf, relocation_of, relocations_left, own_relocations}
 use Rattle.elf_loading.specs.declared.error.LoadError.TheVariants as error
-use Rattle.elf_linking.specs.declared.view.location.TableLocation.{TableLocation}
-use Rattle.elf_loading.specs.declared.in_order.Relocation.{Relocation}
 use Rattle.elf_loading.specs.declared.words.Binding.TheVariants.{Now}
-use Rattle.elf_loading.specs.declared.words.Relocated.{Relocated}
 use Rattle.elf_loading.specs.declared.plan.LoadPlan.{LoadPlan}
-use Rattle.elf_loading.specs.declared.words.Word.{Word}
 use Rattle.elf_loading.specs.declared.words.Words.{Words}
 use Rattle.xmas_elf.specs.Symbol.{SymbolFields}
-use Rattle.elf_linking.specs.declared.segments.Segment.{Segment}
 
 -- Ranges of addresses.
 
@@ -39,11 +33,12 @@ meet start size other many = nat_lt (max start other) (min (start + size) (other
 abbrev pub overlaps : Word → Word → Bool
 overlaps one other = meet one.address one.width other.address other.width
 
--- a word and a table have a byte in common
+-- a word and bytes at an address have a byte in common, if the address and the number of bytes are known
 abbrev pub touches_at : Word → Option ℕ → Option ℕ → Bool
 touches_at word (Some start) (Some size) = meet word.address word.width start size
 touches_at word _ _ = false
 
+-- a word and a table have a byte in common
 abbrev pub touches : Word → TableLocation → Bool
 touches word table = touches_at word table.start table.size
 
@@ -84,8 +79,8 @@ check_words loads text tables before (word ∷ words) = and_then (check_word loa
 -- The words of an object.
 
 -- the words of items
-abbrev pub words_in : {E : Type 0} → List (Relocated E) → List (Result Word LoadError)
-words_in items = map (λ item. item.word) items
+abbrev pub item_words : {E : Type 0} → List (Relocated E) → List (Result Word LoadError)
+item_words items = map (λ item. item.word) items
 
 -- these items are the first relocations of an object with the symbols that they get and the words that they write, and
 -- all of them if the result of a call is Ok
@@ -121,31 +116,31 @@ as_load_error (Err reason) = Err (error.Link reason)
 -- why not
 abbrev pub checked_relocations : {E : Type 0} → {r : _} → ℕ → DynamicObject E r → LoadPlan → ℕ → Result (List Relocation) LoadError
 checked_relocations size own plan bits = and_then (check_tables size own) (λ done.
-    and_then (as_load_error (words_of (Some own))) (λ relocations.
+    and_then (as_load_error (own_relocations (Some own))) (λ relocations.
     unless ((nat_lt bits (plan_size plan), error.FewMarks) ∷ []) relocations))
 
 -- the words of the object at an index, all of them left, where its tables can be used and `bits` marks are enough
 pub record IsBegun {E : Type 0} {r : _} (size : ℕ) (objects : Bor (List (DynamicObject E r))) (of : ℕ) (own : DynamicObject E r) (plan : LoadPlan) (bits : ℕ) (words : Words E r) : Type 0 where
-  pub relocations_are : checked_relocations size own plan bits ≡ Ok (words_left words)
+  pub relocations_are : checked_relocations size own plan bits ≡ Ok (relocations_left words)
   pub words_are : AreWordsOf objects of Now words
 
 -- the result of the check of the words that are left: these items are the first, and all of them if it is Ok
 pub record AreWordsFrom {E : Type 0} {r : _} (fields : E → SymbolFields) (loads : List Segment) (text : Bool) (tables : List TableLocation) (words : Words E r) (result : Result (Unit {0}) LoadError) : Type 0 where
   pub items : List (Relocated E)
   pub rest : List Relocation
-  pub are : words_left words ≡ map relocation_of items ++ rest
-  pub have_words : All (HasWord fields (words_objects words).now (words_file words) (words_own words) (words_index words) (words_lazy words)) items
+  pub are : relocations_left words ≡ map relocation_of items ++ rest
+  pub have_words : All (HasWordOf fields words) items
   pub all : IfOk result (λ _. rest ≡ [])
-  pub checked : result ≡ and_then (check_words loads text tables [] (words_in items)) (λ _. Ok tt)
+  pub checked : result ≡ and_then (check_words loads text tables [] (item_words items)) (λ _. Ok tt)
 
 -- the result of the check of an object with its plan: the first reason of its tables; or that of its words, in order
 pub data IsOwnCheck {E : Type 0} {r : _} (size : ℕ) (fields : E → SymbolFields) (objects : List (DynamicObject E r)) (of : ℕ) (own : DynamicObject E r) (plan : LoadPlan) (bits : ℕ) (result : Result (Unit {0}) LoadError) : Type 0 where
-  refused : (error : LoadError) → checked_relocations size own plan bits ≡ Err error → result ≡ Err error
+  not_begun : (error : LoadError) → checked_relocations size own plan bits ≡ Err error → result ≡ Err error
       → IsOwnCheck size fields objects of own plan bits result
   by_words : (relocations : List Relocation) (items : List (Relocated E)) → checked_relocations size own plan bits ≡ Ok relocations
       → AreFirstItems fields objects of own false relocations result items
       → result ≡ and_then (check_words (plan_loads plan) (asks_for_text (view_entries (object_view own)))
-      (tables_of size own) [] (words_in items)) (λ words. Ok tt)
+      (tables_of size own) [] (item_words items)) (λ words. Ok tt)
       → IsOwnCheck size fields objects of own plan bits result
 
 -- what holds of the object and the plan at an index of a scope, or what holds if one of them is missing
@@ -160,36 +155,33 @@ IsImageCheck size fields objects plans of bits result = MatchBoth (slice_get obj
 -- What holds of an object that passes.
 
 -- an address is one of `size` from `start` on
-abbrev pub IsIn : ℕ → ℕ → ℕ → Type 0
-IsIn start size address = (start ≤ address) × (address < start + size)
+abbrev pub IsInExtent : ℕ → ℕ → ℕ → Type 0
+IsInExtent start size address = (start ≤ address) × (address < start + size)
+
+-- a word is in the memory of one of these loads
+abbrev pub IsHeldByLoad : List Segment → Word → Type 0
+IsHeldByLoad loads word = (load : Segment) × Contains loads load × (load.address ≤ word.address)
+    × (word.address + word.width ≤ load.address + load.mem_size)
 
 -- a word is in the memory of one load, which is writable unless the file asks for writes elsewhere, and no byte of it is
 -- in one of these tables
 pub record IsWritableWord (loads : List Segment) (text : Bool) (tables : List TableLocation) (word : Word) : Type 0 where
-  pub load : Segment
-  pub is_load : Contains loads load
-  pub begins : load.address ≤ word.address
-  pub ends : word.address + word.width ≤ load.address + load.mem_size
-  pub writable : text ≡ false → bit_and load.flags.0 2 ≡ 2
+  pub held : IsHeldByLoad loads word
+  pub writable : text ≡ false → has_flag 2 held.0 ≡ true
   pub in_no_table : (table : TableLocation) (start size address : ℕ) → Contains tables table → table.start ≡ Some start
-      → table.size ≡ Some size → IsIn word.address word.width address → ¬ IsIn start size address
-
--- a word is in the memory of one of these loads
-abbrev pub IsHeld : List Segment → Word → Type 0
-IsHeld loads word = (load : Segment) × Contains loads load × (load.address ≤ word.address)
-    × (word.address + word.width ≤ load.address + load.mem_size)
+      → table.size ≡ Some size → IsInExtent word.address word.width address → ¬ IsInExtent start size address
 
 -- all relocations of an object have words; each with bytes is in the memory of one of these loads; no two have a byte in
 -- common
 pub record AreWordsApart {E : Type 0} {r : _} (fields : E → SymbolFields) (objects : List (DynamicObject E r)) (of : ℕ) (own : DynamicObject E r) (loads : List Segment) : Type 0 where
   pub items : List (Relocated E)
   pub words : List Word
-  pub relocations_are : words_of (Some own) ≡ Ok (map relocation_of items)
+  pub relocations_are : own_relocations (Some own) ≡ Ok (map relocation_of items)
   pub have_words : All (HasWord fields objects (object_file own) own of false) items
-  pub words_are : words_in items ≡ map (λ word. Ok word) words
-  pub held : (word : Word) → Contains words word → 0 < word.width → IsHeld loads word
+  pub words_are : item_words items ≡ map (λ word. Ok word) words
+  pub held : (word : Word) → Contains words word → 0 < word.width → IsHeldByLoad loads word
   pub apart : (i j : ℕ) (one other : Word) (address : ℕ) → i < j → slice_get words i ≡ Some one → slice_get words j ≡ Some other
-      → IsIn one.address one.width address → ¬ IsIn other.address other.width address
+      → IsInExtent one.address one.width address → ¬ IsInExtent other.address other.width address
 
 -- the words of an object are apart, and each with bytes can be written
 pub record AreWritten {E : Type 0} {r : _} (size : ℕ) (fields : E → SymbolFields) (objects : List (DynamicObject E r)) (of : ℕ) (own : DynamicObject E r) (plan : LoadPlan) : Type 0 where

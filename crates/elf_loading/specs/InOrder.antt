@@ -8,20 +8,10 @@ use Rattle.elf_linking.specs.References.{file_machine, record_size, relocation_t
 use Rattle.elf_linking.specs.RelocationTypes.{relative_of}
 use Rattle.elf_linking.specs.Relr.{relr_rest}
 use Rattle.elf_linking.specs.TableLocations.{table_by}
-use Rattle.elf_linking.specs.declared.error.LinkError.{LinkError}
-use Rattle.elf_linking.specs.declared.references.Reference.{Reference}
-use Rattle.elf_linking.specs.declared.references.types.Row.{Row}
+use Rattle.elf_loading.specs.Types.{Dynamic, ElfFile, InOrder, LinkError, Packed, Part, Reference, Relocation, Relr, Row, TableLocation}
 use Rattle.elf_linking.specs.declared.references.types.TheConstants.{R_X86_64_RELATIVE}
-use Rattle.elf_linking.specs.declared.relr.Relr.{Relr}
 use Rattle.elf_linking.specs.declared.view.tags.TheConstants.{DT_JMPREL, DT_PLTREL, DT_PLTRELSZ, DT_REL, DT_RELA, DT_RELASZ, DT_RELR, DT_RELRSZ, DT_RELSZ}
-use Rattle.elf_linking.specs.declared.view.location.TableLocation.{TableLocation}
 use Rattle.elf_loading.specs.Words.{address_size}
-use Rattle.elf_loading.specs.declared.in_order.InOrder.{InOrder}
-use Rattle.elf_loading.specs.declared.in_order.Packed.{Packed}
-use Rattle.elf_loading.specs.declared.in_order.Part.{Part}
-use Rattle.elf_loading.specs.declared.in_order.Relocation.{Relocation}
-use Rattle.elf_records.specs.declared.dynamic.Dynamic.{Dynamic}
-use Rattle.xmas_elf.specs.declared.ElfFile.{ElfFile}
 
 -- a relocation of a table, with addends in the records or in place, of the procedure linkage table or not
 abbrev pub place : Bool → Bool → Reference → Relocation
@@ -77,20 +67,25 @@ relocations_in_order file entries = and_then (relr_addresses file entries) (λ a
 
 -- What iterators have not yet returned.
 
+-- the addresses of packed relocations that are left, if there are any
 abbrev pub relr_left : Option Relr → List ℕ
 relr_left None = []
 relr_left (Some relr) = relr_rest relr
 
+-- the packed relocations that are left
 abbrev pub packed_left : Packed → List Relocation
 packed_left packed = map (relative_at packed.kind) (relr_left packed.rest)
 
+-- at most a number of references, or all of them
 abbrev pub take_most : Option ℕ → List Reference → List Reference
 take_most None references = references
 take_most (Some most) references = take most references
 
+-- the relocations of a table that are left
 abbrev pub part_left : Part → List Relocation
 part_left part = placed part.in_place part.slot (take_most part.most (table_left part.rest))
 
+-- the relocations of all tables that are left
 abbrev pub order_left : InOrder → List Relocation
 order_left order = packed_left order.packed
     ++ (part_left order.rela ++ (part_left order.rel ++ part_left order.slots))

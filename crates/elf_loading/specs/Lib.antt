@@ -1,3 +1,4 @@
+pub mod Types
 pub mod Message
 pub mod Pages
 pub mod Segments

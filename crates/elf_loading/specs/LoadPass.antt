@@ -4,16 +4,11 @@ use Rattle.std.specs.Int.{is_power_of_two}
 use Rattle.std.specs.List.{list_any}
 use Rattle.elf_base.specs.FileHeader.{header_fields}
 use Rattle.xmas_elf.specs.Types.{ElfFile}
-use Rattle.elf_linking.specs.declared.segments.Segment.{Segment}
+use Rattle.elf_loading.specs.Types.{Extent, Others, Pass, Segment, Tls, Wanted}
 use Rattle.elf_loading.specs.FileCheck.{covered_to, holder_in, holds_offset, is_put_at, kind_of}
 use Rattle.elf_loading.specs.LoadCheck.{holds_address, load_end, load_start}
 use Rattle.elf_loading.specs.Pages.{down}
 use Rattle.elf_loading.specs.Spans.{first_start}
-use Rattle.elf_loading.specs.declared.load_pass.Pass.{Pass}
-use Rattle.elf_loading.specs.declared.load_pass.Wanted.{Wanted}
-use Rattle.elf_loading.specs.declared.plan.Tls.{Tls}
-use Rattle.elf_loading.specs.declared.segments.Extent.{Extent}
-use Rattle.elf_loading.specs.declared.segments.Others.{Others}
 
 -- the first page of what is read-only after relocation, or 0 if there is none
 abbrev pub first_of : ℕ → Option Extent → ℕ

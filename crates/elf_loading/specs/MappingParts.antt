@@ -1,14 +1,11 @@
 -- The mappings of one load.
 use Rattle.std.specs.Prelude.{ℕ, min, nat_lt, List, [], ◌∷◌, Option, Some, if◌then◌else◌}
-use Rattle.elf_linking.specs.declared.segments.Segment.{Segment}
+use Rattle.elf_loading.specs.Types.{Loader, Mapping, Parts, Segment}
 use Rattle.elf_loading.specs.LoadCheck.{load_end, load_start}
 use Rattle.elf_loading.specs.Mappings.{mapped_end}
 use Rattle.elf_loading.specs.Pages.{down}
 use Rattle.elf_loading.specs.declared.mapping.Contents.TheVariants.{File, Zero, NoAccess}
-use Rattle.elf_loading.specs.declared.mapping.Loader.{Loader}
 use Rattle.elf_loading.specs.declared.mapping.Loader.TheVariants.{Glibc}
-use Rattle.elf_loading.specs.declared.mapping.Mapping.{Mapping}
-use Rattle.elf_loading.specs.declared.mapping.Parts.{Parts}
 
 -- where the mappings of a load and of the gap before it begin
 abbrev pub first_mapped : ℕ → Loader → Option ℕ → Segment → ℕ

@@ -1,15 +1,11 @@
 -- The mappings of a file, as Linux makes them for a program and its interpreter, and glibc for a library.
 use Rattle.std.specs.Prelude.{◌≤◌, ◌<◌, ℕ, ◌==◌, not, nat_lt, Bool, true, List, [], ◌∷◌, Option, Some, None, if◌then◌else◌}
 use Rattle.std.specs.List.{cons_option}
-use Rattle.elf_records.specs.declared.program.Flags.{Flags}
-use Rattle.elf_linking.specs.declared.segments.Segment.{Segment}
+use Rattle.elf_loading.specs.Types.{Contents, Flags, Loader, Mapping, Segment}
 use Rattle.elf_loading.specs.LoadCheck.{file_end, load_end, load_start}
 use Rattle.elf_loading.specs.Pages.{down}
-use Rattle.elf_loading.specs.declared.mapping.Loader.{Loader}
 use Rattle.elf_loading.specs.declared.mapping.Loader.TheVariants.{Kernel, Glibc}
-use Rattle.elf_loading.specs.declared.mapping.Contents.{Contents}
 use Rattle.elf_loading.specs.declared.mapping.Contents.TheVariants.{File, Zero, NoAccess}
-use Rattle.elf_loading.specs.declared.mapping.Mapping.{Mapping}
 
 -- a loader maps pages of the file for a load: Linux does not for a load without bytes
 abbrev pub maps_file : Loader → Segment → Bool

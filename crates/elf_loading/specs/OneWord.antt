@@ -6,22 +6,16 @@ use Rattle.std.specs.List.{count_by, find}
 use Rattle.elf_linking.specs.DynamicObject.{object_file, object_view}
 use Rattle.elf_linking.specs.DynamicView.{view_entries}
 use Rattle.elf_linking.specs.declared.error.LinkError.TheVariants.{ObjectIndex}
-use Rattle.elf_linking.specs.declared.object.DynamicObject.{DynamicObject}
+use Rattle.elf_loading.specs.Types.{Binding, DynamicObject, LoadError, Loader, Place, Relocated, Word}
 use Rattle.elf_loading.specs.Bytes.{byte_number, byte_of}
 use Rattle.elf_loading.specs.ImageWords.{AreWordsApart, MatchBoth, covers}
 use Rattle.elf_loading.specs.Plan.{IsImageBy, plan_loads}
-use Rattle.elf_loading.specs.Relocate.{sources_of, start_at, word_byte}
+use Rattle.elf_loading.specs.Relocate.{sources_of, image_start, word_byte}
 use Rattle.elf_loading.specs.Words.{HasWord, binds_lazily}
-use Rattle.elf_loading.specs.WordsLeft.{relocation_of, words_of}
-use Rattle.elf_loading.specs.declared.error.LoadError.{LoadError}
+use Rattle.elf_loading.specs.WordsLeft.{relocation_of, own_relocations}
 use Rattle.elf_loading.specs.declared.error.LoadError.TheVariants as error
-use Rattle.elf_loading.specs.declared.mapping.Loader.{Loader}
 use Rattle.elf_loading.specs.declared.plan.LoadPlan.{LoadPlan}
-use Rattle.elf_loading.specs.declared.relocate.Place.{Place}
 use Rattle.elf_loading.specs.declared.relocate.Sources.{Sources}
-use Rattle.elf_loading.specs.declared.words.Binding.{Binding}
-use Rattle.elf_loading.specs.declared.words.Relocated.{Relocated}
-use Rattle.elf_loading.specs.declared.words.Word.{Word}
 use Rattle.xmas_elf.specs.Symbol.{SymbolFields}
 
 -- an address is one of the bytes of a word, if that is known
@@ -34,9 +28,9 @@ abbrev pub is_over : {E : Type 0} → ℕ → Relocated E → Bool
 is_over address item = is_of_word address item.word
 
 -- the byte at an address after the word of an item was written, where `old` is the one before; that one if there is no item
-abbrev pub byte_by : {E : Type 0} → {r : _} → Sources E r → ℕ → Option (Relocated E) → ℕ → ℕ
-byte_by sources address None old = old
-byte_by sources address (Some item) old = word_byte sources address item.word old
+abbrev pub byte_by_item : {E : Type 0} → {r : _} → Sources E r → ℕ → Option (Relocated E) → ℕ → ℕ
+byte_by_item sources address None old = old
+byte_by_item sources address (Some item) old = word_byte sources address item.word old
 
 -- the byte at an address as a loader maps the file of a plan
 abbrev pub plan_byte : LoadPlan → Loader → ℕ → ℕ
@@ -48,15 +42,15 @@ plan_byte plan by address =
 -- if the words are apart, as the check of the image finds
 pub record IsByOneWord {E : Type 0} {r : _} (fields : E → SymbolFields) (sources : Sources E r) (own : DynamicObject E r) (plan : LoadPlan) (lazy : Bool) (before after : List ℕ) : Type 0 where
   pub items : List (Relocated E)
-  pub are : words_of (Some own) ≡ Ok (map relocation_of items)
+  pub are : own_relocations (Some own) ≡ Ok (map relocation_of items)
   pub have_words : All (HasWord fields sources.objects.now (object_file own) own sources.of lazy) items
-  pub bytes : (i : ℕ) → i < length before → count_by (is_over (start_at sources sources.of + i)) items ≤ 1
-      → slice_index after i ≡ byte_by sources (start_at sources sources.of + i)
-      (find (is_over (start_at sources sources.of + i)) items) (slice_index before i)
+  pub bytes : (i : ℕ) → i < length before → count_by (is_over (image_start sources sources.of + i)) items ≤ 1
+      → slice_index after i ≡ byte_by_item sources (image_start sources sources.of + i)
+      (find (is_over (image_start sources sources.of + i)) items) (slice_index before i)
   pub of_plan : (by : Loader) → IsImageBy by plan before → (i : ℕ) → i < length before
-      → count_by (is_over (start_at sources sources.of + i)) items ≤ 1
-      → slice_index after i ≡ byte_by sources (start_at sources sources.of + i)
-      (find (is_over (start_at sources sources.of + i)) items) (plan_byte plan by (start_at sources sources.of + i))
+      → count_by (is_over (image_start sources sources.of + i)) items ≤ 1
+      → slice_index after i ≡ byte_by_item sources (image_start sources sources.of + i)
+      (find (is_over (image_start sources sources.of + i)) items) (plan_byte plan by (image_start sources sources.of + i))
   pub once : AreWordsApart fields sources.objects.now sources.of own (plan_loads plan)
       → (address : ℕ) → count_by (is_over address) items ≤ 1
 

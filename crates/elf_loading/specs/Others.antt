@@ -1,14 +1,10 @@
 -- What a loader asks of the segments other than loads (gABI, "Program Header", p_type).
 use Rattle.std.specs.Prelude.{◌≡◌, ℕ, ◌==◌, ◌&&◌, ◌||◌, Bool, is_none, List, Option, Some, None, option_map, if◌then◌else◌}
 use Rattle.std.specs.List.{filter, find, last_or}
-use Rattle.elf_records.specs.declared.program.Flags.{Flags}
+use Rattle.elf_loading.specs.Types.{Extent, Flags, Others, Segment, Tls}
 use Rattle.xmas_elf.specs.Types.{ElfFile}
-use Rattle.elf_linking.specs.declared.segments.Segment.{Segment}
 use Rattle.elf_linking.specs.Segments.{segments_of}
 use Rattle.elf_loading.specs.Segments.{is_of_type}
-use Rattle.elf_loading.specs.declared.plan.Tls.{Tls}
-use Rattle.elf_loading.specs.declared.segments.Extent.{Extent}
-use Rattle.elf_loading.specs.declared.segments.Others.{Others}
 
 -- the address of a segment
 abbrev pub address_of : Segment → ℕ

@@ -1,13 +1,11 @@
 -- The plan of a load, by what its calls return.
 use Rattle.std.specs.Prelude.{◌≡◌, ◌<◌, ◌+◌, ◌-◌, ℕ, List, Ok, Option, length, option_map, slice_index}
 use Rattle.xmas_elf.specs.Types.{ElfFile}
-use Rattle.elf_linking.specs.declared.segments.Segment.{Segment}
+use Rattle.elf_loading.specs.Types.{Loader, Segment, Span}
 use Rattle.elf_loading.specs.Bytes.{byte_number, byte_of}
 use Rattle.elf_loading.specs.FileCheck.{check_file}
 use Rattle.elf_loading.specs.Segments.{loads_of, relro_of}
 use Rattle.elf_loading.specs.Spans.{relro_span, span_of}
-use Rattle.elf_loading.specs.declared.mapping.Loader.{Loader}
-use Rattle.elf_loading.specs.declared.span.Span.{Span}
 use Rattle.elf_loading.specs.declared.plan.LoadPlan.{LoadPlan}
 
 -- the file of a plan

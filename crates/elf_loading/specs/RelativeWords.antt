@@ -2,18 +2,13 @@
 -- (the processor supplements of the System V ABI; this project's own).
 use Rattle.std.specs.Prelude.{◌≡◌, ℕ, ◌+◌, ◌==◌, ◌&&◌, not, Bool, List, length, slice_index, Option, None, Some, Result, IfErr, IfOk, if◌then◌else◌}
 use Rattle.elf_linking.specs.DynamicObject.{object_file}
-use Rattle.elf_linking.specs.declared.object.DynamicObject.{DynamicObject}
-use Rattle.elf_linking.specs.declared.references.types.Row.{Row}
-use Rattle.elf_loading.specs.Relocate.{start_at, word_byte, write_item}
+use Rattle.elf_loading.specs.Types.{DynamicObject, LoadError, Relocated, Relocation, Row, Word}
+use Rattle.elf_loading.specs.Relocate.{image_start, word_byte, write_item}
 use Rattle.elf_loading.specs.Values.{low}
 use Rattle.elf_loading.specs.Words.{HasWord}
-use Rattle.elf_loading.specs.declared.error.LoadError.{LoadError}
-use Rattle.elf_loading.specs.declared.in_order.Relocation.{Relocation}
 use Rattle.elf_loading.specs.declared.relocate.Sources.{Sources}
 use Rattle.elf_loading.specs.declared.value.Origin.TheVariants.{Base}
 use Rattle.elf_loading.specs.declared.value.Value.TheVariants.{Sum}
-use Rattle.elf_loading.specs.declared.words.Relocated.{Relocated}
-use Rattle.elf_loading.specs.declared.words.Word.{Word}
 use Rattle.xmas_elf.specs.Symbol.{SymbolFields}
 
 -- the word of a relative relocation of the object at index `of`, by the row of their type, if its addend is in its record
@@ -36,7 +31,7 @@ pub record IsItemWritten {E : Type 0} {r : _} (fields : E → SymbolFields) (sou
   pub item : Relocated E
   pub relocation_is : item.relocation ≡ relocation
   pub has_word : HasWord fields sources.objects.now (object_file own) own sources.of lazy item
-  pub answer : result ≡ write_item fields sources own lazy (length before) item
+  pub result_is : result ≡ write_item fields sources own lazy (length before) item
   pub bytes : IfOk result (λ lacks. (i : ℕ) → slice_index after i
-      ≡ word_byte sources (start_at sources sources.of + i) item.word (slice_index before i))
+      ≡ word_byte sources (image_start sources sources.of + i) item.word (slice_index before i))
   pub same : IfErr result (λ error. after ≡ before)

@@ -6,32 +6,21 @@ use Rattle.std.specs.List.{count_by}
 use Rattle.elf_base.specs.FileHeader.{file_order}
 use Rattle.elf_base.specs.Refusal.{and_then, unless}
 use Rattle.elf_base.specs.Table.{table_items}
-use Rattle.elf_base.specs.declared.bytes.Order.{Order}
+use Rattle.elf_loading.specs.Types.{Binding, Bound, DynamicObject, LinkError, LoadError, Order, Origin, Place, Relocated, Relocation, Value, Word}
 use Rattle.elf_base.specs.declared.bytes.Order.TheVariants.{Big, Little}
 use Rattle.elf_linking.specs.DynamicObject.{object_file, object_records, object_view}
 use Rattle.elf_linking.specs.DynamicView.{view_entries}
 use Rattle.elf_linking.specs.References.{file_machine}
-use Rattle.elf_linking.specs.declared.error.LinkError.{LinkError}
 use Rattle.elf_linking.specs.declared.error.LinkError.TheVariants.{ObjectIndex}
-use Rattle.elf_linking.specs.declared.object.DynamicObject.{DynamicObject}
-use Rattle.elf_linking.specs.declared.scope.Bound.{Bound}
 use Rattle.elf_loading.specs.ImageWords.{MatchBoth, as_load_error, covers}
 use Rattle.elf_loading.specs.Plan.{plan_size, plan_span}
 use Rattle.elf_loading.specs.Words.{HasWord, binds_lazily, needs_symbol}
-use Rattle.elf_loading.specs.WordsLeft.{relocation_of, words_file, words_index, words_lazy, words_objects, words_of, words_own}
-use Rattle.elf_loading.specs.declared.error.LoadError.{LoadError}
+use Rattle.elf_loading.specs.WordsLeft.{relocation_of, words_file, words_index, words_lazy, words_objects, own_relocations, words_own}
 use Rattle.elf_loading.specs.declared.error.LoadError.TheVariants as error
-use Rattle.elf_loading.specs.declared.in_order.Relocation.{Relocation}
 use Rattle.elf_loading.specs.declared.plan.LoadPlan.{LoadPlan}
-use Rattle.elf_loading.specs.declared.relocate.Place.{Place}
 use Rattle.elf_loading.specs.declared.relocate.Sources.{Sources}
-use Rattle.elf_loading.specs.declared.value.Origin.{Origin}
 use Rattle.elf_loading.specs.declared.value.Origin.TheVariants.{Base, Call, Zero}
-use Rattle.elf_loading.specs.declared.value.Value.{Value}
 use Rattle.elf_loading.specs.declared.value.Value.TheVariants.{Copy, Descriptor, Distance, Module, Sum, Thread, ThreadNegated}
-use Rattle.elf_loading.specs.declared.words.Binding.{Binding}
-use Rattle.elf_loading.specs.declared.words.Relocated.{Relocated}
-use Rattle.elf_loading.specs.declared.words.Word.{Word}
 use Rattle.elf_loading.specs.declared.words.Words.{Words}
 use Rattle.xmas_elf.specs.Symbol.{SymbolFields}
 
@@ -93,13 +82,13 @@ plan_start None = 0
 plan_start (Some plan) = (plan_span plan).start
 
 -- the first address of the image of an object
-abbrev pub start_at : {E : Type 0} → {r : _} → Sources E r → ℕ → ℕ
-start_at sources object = plan_start (slice_get sources.plans.now object)
+abbrev pub image_start : {E : Type 0} → {r : _} → Sources E r → ℕ → ℕ
+image_start sources object = plan_start (slice_get sources.plans.now object)
 
 -- byte j of what a word of `width` bytes writes, where `old` is the byte that is there: of an object's bytes, or of a number
 abbrev pub value_byte : {E : Type 0} → {r : _} → Sources E r → ℕ → Value → ℕ → ℕ → ℕ
 value_byte sources width (Copy object offset size) j old =
-    slice_index (image_at sources object) (offset - start_at sources object + j)
+    slice_index (image_at sources object) (offset - image_start sources object + j)
 value_byte sources width value j old = number_byte sources.order width (value_number sources.places.now sources.of value) j old
 
 -- the byte at an address after a word was written, where `old` is the one before
@@ -139,7 +128,7 @@ is_outside start len address width = not (width == 0)
 -- the `width` bytes that a value copies are not all in the image of their object
 abbrev pub is_copy_outside : {E : Type 0} → {r : _} → Sources E r → ℕ → Value → Bool
 is_copy_outside sources width (Copy object offset size) =
-    is_outside (start_at sources object) (length (image_at sources object)) offset width
+    is_outside (image_start sources object) (length (image_at sources object)) offset width
 is_copy_outside sources width value = false
 
 -- a value that is written has no number: what a function returns, and a descriptor
@@ -151,7 +140,7 @@ has_no_number _ = false
 
 -- whether a word has no number, or why it can't be written to an image of `len` bytes
 abbrev pub write_word : {E : Type 0} → {r : _} → Sources E r → ℕ → Word → Result Bool LoadError
-write_word sources len word = unless ((is_outside (start_at sources sources.of) len word.address word.width, error.WordAddress)
+write_word sources len word = unless ((is_outside (image_start sources sources.of) len word.address word.width, error.WordAddress)
     ∷ (is_copy_outside sources word.width word.value, error.CopySource) ∷ []) (has_no_number word.value)
 
 -- the same for the word of an item: its own error comes first, and then that of its symbol
@@ -181,7 +170,7 @@ pub record AreItemsWritten {E : Type 0} {r : _} (fields : E → SymbolFields) (s
   pub counted : count ≡ min (count_by (λ item. lacks_number item.word) items) (2 ^ 64 - 1)
   pub same_size : length after ≡ length before
   pub bytes : (i : ℕ) → i < length before
-      → slice_index after i ≡ relocated_byte sources (start_at sources sources.of + i) items (slice_index before i)
+      → slice_index after i ≡ relocated_byte sources (image_start sources sources.of + i) items (slice_index before i)
 
 -- what a call does to an image by the relocations of its object: it writes all words and returns how many have no number,
 -- or it writes those before the first one that can't be written, and returns why not
@@ -205,7 +194,7 @@ is_wrong_size sources plan len = let count = length sources.objects.now in
 -- the relocations of an object, or why its image can't be relocated: the sizes, or an error of the relocations
 abbrev pub sized_relocations : {E : Type 0} → {r : _} → Sources E r → DynamicObject E r → LoadPlan → ℕ → Result (List Relocation) LoadError
 sized_relocations sources own plan len =
-    if is_wrong_size sources plan len then Err error.ImageSize else as_load_error (words_of (Some own))
+    if is_wrong_size sources plan len then Err error.ImageSize else as_load_error (own_relocations (Some own))
 
 -- what a call does to the image of an object with this plan, and its result
 abbrev pub IsRelocation : {E : Type 0} → {r : _} → (E → SymbolFields) → Sources E r → DynamicObject E r → LoadPlan → Bool → List ℕ → List ℕ → Result ℕ LoadError → Type 0

@@ -1,6 +1,6 @@
 -- The segments that a loader asks for, by their type (gABI, "Program Header", p_type; PT_GNU_STACK and
 -- PT_GNU_RELRO are GNU's).
-use Rattle.std.specs.Prelude.{ℕ, ◌==◌, ◌&&◌, nat_le, Bool, List, Option, None}
+use Rattle.std.specs.Prelude.{ℕ, ◌==◌, ◌&&◌, bit_and, nat_le, Bool, List, Option, None}
 use Rattle.std.specs.List.{filter, find, last_or}
 use Rattle.xmas_elf.specs.Types.{ElfFile}
 use Rattle.elf_linking.specs.Segments.{segments_of}
@@ -9,6 +9,10 @@ use Rattle.elf_linking.specs.declared.segments.Segment.{Segment}
 -- a segment has this type, and at least `size` bytes in memory
 abbrev pub is_of_type : ℕ → ℕ → Segment → Bool
 is_of_type kind size segment = segment.kind == kind && nat_le size segment.mem_size
+
+-- a segment has these permissions: readable (PF_R, 4), writable (PF_W, 2)
+abbrev pub has_flag : ℕ → Segment → Bool
+has_flag flag segment = bit_and segment.flags.0 flag == flag
 
 -- a segment is loaded (PT_LOAD)
 abbrev pub is_load : Segment → Bool

@@ -1,11 +1,9 @@
 -- The addresses that a plan covers (this project's own).
 use Rattle.std.specs.Prelude.{ℕ, ◌+◌, ◌<◌, ◌≤◌, ◌==◌, ◌&&◌, nat_le, nat_lt, Bool, false, List, [], ◌∷◌, Option, Some, None, Result, Ok, Err}
 use Rattle.std.specs.List.{Contains}
-use Rattle.elf_linking.specs.declared.segments.Segment.{Segment}
+use Rattle.elf_loading.specs.Types.{LoadError, Segment, Span}
 use Rattle.elf_loading.specs.LoadCheck.{load_end, load_start}
 use Rattle.elf_loading.specs.Pages.{down}
-use Rattle.elf_loading.specs.declared.error.LoadError.{LoadError}
-use Rattle.elf_loading.specs.declared.span.Span.{Span}
 
 -- the end of the pages of the last load, or `before` if there is none
 abbrev pub last_end : ℕ → ℕ → List Segment → ℕ

@@ -1,14 +1,9 @@
 -- What a relocation writes, in terms of the addresses at which files are loaded (the processor supplements of the System
 -- V ABI, "Relocation Types"; the values without a symbol, and of indirect functions, as glibc 2.36 has them).
 use Rattle.std.specs.Prelude.{ℕ, ◌+◌, ◌-◌, ◌*◌, ◌%◌, ◌^◌, ◌==◌, ◌&&◌, not, min, Bool, Option, None, Some, if◌then◌else◌}
-use Rattle.elf_linking.specs.declared.scope.Bound.{Bound}
-use Rattle.elf_linking.specs.declared.references.types.Formula.{Formula}
+use Rattle.elf_loading.specs.Types.{Bound, Formula, Origin, Target, Terms, Value}
 use Rattle.elf_linking.specs.declared.references.types.Formula.TheVariants as formulas
-use Rattle.elf_loading.specs.declared.value.Origin.{Origin}
 use Rattle.elf_loading.specs.declared.value.Origin.TheVariants.{Base, Call, Zero}
-use Rattle.elf_loading.specs.declared.value.Target.{Target}
-use Rattle.elf_loading.specs.declared.value.Terms.{Terms}
-use Rattle.elf_loading.specs.declared.value.Value.{Value}
 use Rattle.elf_loading.specs.declared.value.Value.TheVariants.{Copy, Descriptor, Distance, Module, Sum, Thread, ThreadNegated, Unchanged}
 use Rattle.xmas_elf.specs.Symbol.{SymbolFields}
 
@@ -43,6 +38,7 @@ target_of fields (Some bound) = if is_indirect (fields bound.symbol)
     then record { origin = Call (object_of fields bound) (fields bound.symbol).value; number = 0 }
     else record { origin = origin_of (object_of fields bound); number = (fields bound.symbol).value }
 
+-- the size of the symbol that a relocation gets; 0 without one
 abbrev pub size_of : {E : Type 0} → (E → SymbolFields) → Option (Bound E) → ℕ
 size_of fields None = 0
 size_of fields (Some bound) = (fields bound.symbol).size
@@ -70,6 +66,7 @@ bound_value fields terms bound formulas.Copy =
     Copy bound.object (fields bound.symbol).value (min (fields bound.symbol).size terms.size)
 bound_value fields terms bound _ = Unchanged
 
+-- the value of such a formula, with a symbol or without
 abbrev pub module_value : {E : Type 0} → (E → SymbolFields) → Terms → Option (Bound E) → Formula → Value
 module_value fields terms None formula = absent_value terms formula
 module_value fields terms (Some bound) formula = bound_value fields terms bound formula

@@ -9,29 +9,15 @@ use Rattle.elf_linking.specs.DynamicView.{flag_in, number_with}
 use Rattle.elf_linking.specs.Loaded.{word_at_of}
 use Rattle.elf_linking.specs.References.{file_machine}
 use Rattle.elf_linking.specs.Scope.{IsReferenceBound}
-use Rattle.elf_linking.specs.declared.error.LinkError.{LinkError}
-use Rattle.elf_linking.specs.declared.object.DynamicObject.{DynamicObject}
-use Rattle.elf_linking.specs.declared.references.Reference.{Reference}
-use Rattle.elf_linking.specs.declared.references.types.Row.{Row}
-use Rattle.elf_linking.specs.declared.scope.Bound.{Bound}
+use Rattle.elf_loading.specs.Types.{Binding, Bound, Dynamic, DynamicObject, ElfFile, Formula, LinkError, LoadError, Reference, Relocated, Relocation, Row, Segment, Terms, Word}
 use Rattle.elf_linking.specs.declared.view.tags.TheConstants.{DT_BIND_NOW, DT_FLAGS, DT_FLAGS_1}
 use Rattle.elf_linking.specs.RelocationTypes.{row_of}
 use Rattle.elf_loading.specs.Segments.{loads_of}
 use Rattle.elf_loading.specs.Values.{bytes_of, value_of}
-use Rattle.elf_loading.specs.declared.error.LoadError.{LoadError}
 use Rattle.elf_loading.specs.declared.error.LoadError.TheVariants.{Link, WordType}
-use Rattle.elf_linking.specs.declared.references.types.Formula.{Formula}
 use Rattle.elf_linking.specs.declared.references.types.Formula.TheVariants as formulas
-use Rattle.elf_loading.specs.declared.in_order.Relocation.{Relocation}
-use Rattle.elf_loading.specs.declared.value.Terms.{Terms}
-use Rattle.elf_loading.specs.declared.words.Binding.{Binding}
 use Rattle.elf_loading.specs.declared.words.Binding.TheVariants.{Lazy, Now}
-use Rattle.elf_loading.specs.declared.words.Relocated.{Relocated}
-use Rattle.elf_loading.specs.declared.words.Word.{Word}
-use Rattle.elf_records.specs.declared.dynamic.Dynamic.{Dynamic}
 use Rattle.xmas_elf.specs.Symbol.{SymbolFields}
-use Rattle.elf_linking.specs.declared.segments.Segment.{Segment}
-use Rattle.xmas_elf.specs.declared.ElfFile.{ElfFile}
 
 -- Jump slots that get their symbols when they are called first.
 
@@ -73,14 +59,14 @@ takes_addend formulas.Copy = false
 takes_addend _ = true
 
 -- there is a formula, and it has a symbol
-abbrev pub symbol_in : Option Formula → Bool
-symbol_in None = false
-symbol_in (Some formula) = takes_symbol formula
+abbrev pub formula_has_symbol : Option Formula → Bool
+formula_has_symbol None = false
+formula_has_symbol (Some formula) = takes_symbol formula
 
 -- the word of a relocation depends on a symbol
 abbrev pub needs_symbol : ℕ → Bool → Relocation → Bool
 needs_symbol machine lazy relocation =
-    symbol_in (formula_when (row_of machine relocation.reference.kind) lazy relocation)
+    formula_has_symbol (formula_when (row_of machine relocation.reference.kind) lazy relocation)
 
 -- the address of the word in place that is the addend: the second word of a descriptor (on 386, of 4 bytes); otherwise
 -- the word itself
@@ -112,6 +98,7 @@ abbrev pub addend_of : ElfFile → Bool → Formula → Reference → Result ℕ
 addend_of file in_place formula reference =
     if in_place && takes_addend formula then word_in_memory file (addend_place formula reference.offset) else Ok reference.addend
 
+-- the size of a symbol, if there is one; 0 otherwise
 abbrev pub size_in_own : {E : Type 0} → (E → SymbolFields) → Option E → ℕ
 size_in_own fields None = 0
 size_in_own fields (Some symbol) = (fields symbol).size

@@ -3,43 +3,47 @@ use Rattle.std.specs.Prelude.{◌≡◌, ℕ, Bool, List, Option, None, Some, Re
 use Rattle.std.specs.Borrow.{Bor}
 use Rattle.elf_linking.specs.DynamicObject.{object_file, object_view}
 use Rattle.elf_linking.specs.DynamicView.{view_entries}
-use Rattle.elf_linking.specs.declared.error.LinkError.{LinkError}
+use Rattle.elf_loading.specs.Types.{Binding, DynamicObject, ElfFile, LinkError, Relocated, Relocation}
 use Rattle.elf_linking.specs.declared.error.LinkError.TheVariants.{ObjectIndex}
-use Rattle.elf_linking.specs.declared.object.DynamicObject.{DynamicObject}
 use Rattle.elf_linking.specs.Scope.{scope_objects}
 use Rattle.elf_loading.specs.InOrder.{order_left, relocations_in_order}
-use Rattle.elf_loading.specs.Words.{binds_lazily}
-use Rattle.elf_loading.specs.declared.in_order.Relocation.{Relocation}
-use Rattle.elf_loading.specs.declared.words.Binding.{Binding}
-use Rattle.elf_loading.specs.declared.words.Relocated.{Relocated}
+use Rattle.elf_loading.specs.Words.{HasWord, binds_lazily}
+use Rattle.xmas_elf.specs.Symbol.{SymbolFields}
 use Rattle.elf_loading.specs.declared.words.Words.{Words}
-use Rattle.xmas_elf.specs.declared.ElfFile.{ElfFile}
 
 -- the relocations of an object in their order, if there is such an object
-abbrev pub words_of : {E : Type 0} → {r : _} → Option (DynamicObject E r) → Result (List Relocation) LinkError
-words_of None = Err ObjectIndex
-words_of (Some own) = relocations_in_order (object_file own) (view_entries (object_view own))
+abbrev pub own_relocations : {E : Type 0} → {r : _} → Option (DynamicObject E r) → Result (List Relocation) LinkError
+own_relocations None = Err ObjectIndex
+own_relocations (Some own) = relocations_in_order (object_file own) (view_entries (object_view own))
 
--- the objects of the scope, the file, its object, the index of the object, and whether its jump slots get their
--- symbols when they are called first
+-- the objects of the scope
 abbrev pub words_objects : {E : Type 0} → {r : _} → Words E r → Bor (List (DynamicObject E r))
 words_objects words = scope_objects words.scope
 
+-- the file whose words these are
 abbrev pub words_file : {E : Type 0} → {r : _} → Words E r → ElfFile
 words_file words = words.file
 
+-- the object of the file
 abbrev pub words_own : {E : Type 0} → {r : _} → Words E r → DynamicObject E r
 words_own words = words.own.now
 
+-- the index of the object in its scope
 abbrev pub words_index : {E : Type 0} → {r : _} → Words E r → ℕ
 words_index words = words.of
 
+-- the jump slots of the object get their symbols when they are called first
 abbrev pub words_lazy : {E : Type 0} → {r : _} → Words E r → Bool
 words_lazy words = words.lazy
 
 -- the relocations whose words are left
-abbrev pub words_left : {E : Type 0} → {r : _} → Words E r → List Relocation
-words_left words = order_left words.order
+abbrev pub relocations_left : {E : Type 0} → {r : _} → Words E r → List Relocation
+relocations_left words = order_left words.order
+
+-- an item has the symbol that its relocation gets, and the word that it writes, of the object of an iterator
+abbrev pub HasWordOf : {E : Type 0} → {r : _} → (E → SymbolFields) → Words E r → Relocated E → Type 0
+HasWordOf fields words item =
+    HasWord fields (words_objects words).now (words_file words) (words_own words) (words_index words) (words_lazy words) item
 
 -- two iterators are over the words of the same object
 abbrev pub IsSame : {E : Type 0} → {r : _} → Words E r → Words E r → Type 0

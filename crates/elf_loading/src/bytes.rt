@@ -36,7 +36,7 @@ fn is_zeroed(by: Loader, address: u64, load: &Segment) -> bool
 }
 
 // The end of the zeros that a loader writes after the bytes of a load.
-#[tactic(auto, using(crate::proofs::Fits::fits_facts))]
+#[tactic(auto, using(crate::proofs::LoadChecks::fits_facts))]
 #[inline(always)]
 fn zeroed_end(page: u64, limit: u64, by: Loader, load: &Segment) -> u64
     requires page { 0 < page }

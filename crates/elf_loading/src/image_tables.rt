@@ -5,7 +5,7 @@ ghost use Rattle.std.specs.List.{list_any};
 ghost use Rattle.elf_base.specs.Refusal.{unless};
 ghost use Rattle.elf_linking.specs.DynamicView.{view_entries};
 ghost use Rattle.elf_loading.specs.ImageTables.{asks_for_text, check_all_relocations};
-ghost use Rattle.elf_loading.specs.ImageTables.{check_tables, has_flag, hash_size, hash_tag};
+ghost use Rattle.elf_loading.specs.ImageTables.{check_tables, hash_size, hash_tag};
 ghost use Rattle.elf_loading.specs.ImageTables.{holds_dynamic, is_dynamic_lost, is_no_multiple};
 ghost use Rattle.elf_loading.specs.ImageTables.{is_other_machine, is_readable, is_unreadable};
 ghost use Rattle.elf_loading.specs.ImageTables.{relocation_rows, segment_extent, slot_rows};
@@ -13,6 +13,7 @@ ghost use Rattle.elf_loading.specs.ImageTables.{symbol_number, table_of_size, ta
 
 use crate::LoadError;
 use crate::in_order::{is_kind, record_size};
+use crate::segments::has_flag;
 use crate::words::{address_size, flag_in};
 use elf_linking::references::types::{EM_386, EM_AARCH64, EM_X86_64};
 use elf_linking::view::{
@@ -29,16 +30,9 @@ fn is_readable(segment: &Option<Segment>) -> bool
     ensures { result ≡ is_readable segment.now }
 {
     match segment {
-        Some(segment) => segment.flags.0 & FLAG_R == FLAG_R,
+        Some(segment) => has_flag(segment, FLAG_R),
         None => false,
     }
-}
-
-// Whether a segment is writable.
-pub(crate) fn is_writable(segment: &Segment) -> bool
-    ensures { result ≡ has_flag 2 segment.now }
-{
-    segment.flags.0 & FLAG_W == FLAG_W
 }
 
 // Whether the file has not all bytes of a table for a readable load.
@@ -132,8 +126,8 @@ fn holds_dynamic(dynamic: &Segment, holder: &Option<Segment>) -> bool
         return false;
     };
     let offset = u128::from(load.offset) + u128::from(dynamic.address - load.address);
-    load.flags.0 & FLAG_R == FLAG_R
-        && (!is_writable(dynamic) || is_writable(load))
+    has_flag(load, FLAG_R)
+        && (!has_flag(dynamic, FLAG_W) || has_flag(load, FLAG_W))
         && offset == u128::from(dynamic.offset)
 }
 

@@ -4,20 +4,23 @@ ghost use Rattle.std.specs.Prelude.{◌≡◌, ◌<◌, ◌≤◌, ◌+◌, ◌*
 ghost use Rattle.std.specs.Prelude.{MatchResult, Ok, Some, length, nat_le, nat_lt, not, slice_get};
 ghost use Rattle.std.specs.List.{find, list_any};
 ghost use Rattle.elf_linking.specs.Scope.{scope_objects};
-ghost use Rattle.elf_loading.specs.ImageTables.{has_flag, tables_of};
+ghost use Rattle.elf_loading.specs.ImageTables.{tables_of};
 ghost use Rattle.elf_loading.specs.ImageWords.{AreMarksOf, AreWordsFrom, IsBegun};
 ghost use Rattle.elf_loading.specs.ImageWords.{IsImageCheck, IsOwnCheck, check_word, checked_relocations};
 ghost use Rattle.elf_loading.specs.ImageWords.{holds_word, is_marked, meet, some_marked, touches};
 ghost use Rattle.elf_loading.specs.Plan.{plan_loads, plan_size, plan_span};
+ghost use Rattle.elf_loading.specs.Segments.{has_flag};
 ghost use Rattle.elf_loading.specs.declared.words.Word.{Word};
 
 use crate::LoadError;
-use crate::image_tables::{asks_for_text, check_tables, is_writable, tables_of};
+use crate::image_tables::{asks_for_text, check_tables, tables_of};
 use crate::plan::LoadPlan;
+use crate::segments::has_flag;
 use crate::words::{Binding, Word, Words};
 use elf_linking::scope::Scope;
 use elf_linking::view::{LinkedSymbol, TableLocation};
 use elf_linking::{DynamicObject, LinkError, Segment};
+use xmas_elf::program::FLAG_W;
 
 // What the check of a word asks of its object.
 #[derive(Drop)]
@@ -110,7 +113,7 @@ fn mark_all(marks: &mut [u8], start: u64, count: u64) -> bool
 fn is_shut(room: &Room<'_, '_>, load: &Segment) -> bool
     ensures { result ≡ (not room.now.text && not (has_flag 2 load.now)) }
 {
-    !room.text && !is_writable(load)
+    !room.text && !has_flag(load, FLAG_W)
 }
 
 // Whether a word can be written after those that have marks; the word gets marks.

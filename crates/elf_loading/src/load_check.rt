@@ -7,11 +7,12 @@ ghost use Rattle.elf_loading.specs.LoadCheck.{is_inside_page, is_past_data, load
 
 use crate::LoadError;
 use crate::pages::{down, inside, is_past, up};
+use crate::segments::has_flag;
 use elf_linking::Segment;
 use xmas_elf::program::{FLAG_R, FLAG_W};
 
 // The end of the pages of a load that fits below a limit.
-#[tactic(auto, using(crate::proofs::Fits::fits_facts))]
+#[tactic(auto, using(crate::proofs::LoadChecks::fits_facts))]
 #[inline(always)]
 pub(crate) fn load_end(page: u64, limit: u64, load: &Segment) -> u64
     requires page { 0 < page }
@@ -25,7 +26,7 @@ pub(crate) fn load_end(page: u64, limit: u64, load: &Segment) -> u64
 }
 
 // The end of the pages with bytes of the file, of a load that fits below a limit.
-#[tactic(auto, using(crate::proofs::Fits::fits_facts))]
+#[tactic(auto, using(crate::proofs::LoadChecks::fits_facts))]
 #[inline(always)]
 pub(crate) fn file_end(page: u64, limit: u64, load: &Segment) -> u64
     requires page { 0 < page }
@@ -93,8 +94,7 @@ fn is_past_data(page: u64, len: u64, load: &Segment) -> bool
 fn has_shut_zeros(load: &Segment) -> bool
     ensures { result ≡ has_shut_zeros load.now }
 {
-    let both = FLAG_R | FLAG_W;
-    load.file_size < load.mem_size && load.flags.0 & both != both
+    load.file_size < load.mem_size && !has_flag(load, FLAG_R | FLAG_W)
 }
 
 // The end of a load, or why it can't be mapped; `before` is the end of the load before it.

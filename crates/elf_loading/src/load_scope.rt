@@ -25,7 +25,7 @@ impl<'s, 'a, E: LinkedSymbol> LoadScope<'s, 'a, E> {
     ghost use Rattle.elf_loading.specs.LoadScope.{loaded_objects, loaded_plans};
     ghost use Rattle.elf_loading.specs.OneWord.{HasErrorLeft, IsByOneWordIn};
     ghost use Rattle.elf_loading.specs.Relocate.{IsRelocationIn};
-    ghost use Rattle.elf_loading.specs.WordsLeft.{AreWordsOf, words_left, words_of};
+    ghost use Rattle.elf_loading.specs.WordsLeft.{AreWordsOf, relocations_left, own_relocations};
 
     /// The objects of a scope, with the plan of each object's file at the same index.
     pub fn new(scope: Scope<'s, 'a, E>, plans: &'s [LoadPlan<'a>]) -> LoadScope<'s, 'a, E>
@@ -53,8 +53,8 @@ impl<'s, 'a, E: LinkedSymbol> LoadScope<'s, 'a, E> {
     ///
     /// The errors are those of `Words::new`.
     pub fn words(&self, of: usize, when: Binding) -> Result<Words<'s, 'a, E>, LinkError>
-        ensures exact { let answer = words_of (slice_get (loaded_objects self.now).now of) in
-            MatchResult result (λ words. answer ≡ Ok (words_left words))
+        ensures exact { let answer = own_relocations (slice_get (loaded_objects self.now).now of) in
+            MatchResult result (λ words. answer ≡ Ok (relocations_left words))
             (λ error. answer ≡ Err error) }
         ensures begun { IfOk result (AreWordsOf (loaded_objects self.now) of when) }
     {

@@ -1,10 +1,10 @@
 //! What a loader maps, and with which permissions.
 
-ghost use Rattle.std.specs.Prelude.{◌≡◌, ◌≤◌, ◌<◌, true};
+ghost use Rattle.std.specs.Prelude.{◌≡◌, ◌<◌, true};
 ghost use Rattle.std.specs.Iterator.{YieldsFirst};
 ghost use Rattle.elf_loading.specs.LoadCheck.{fits_below};
 ghost use Rattle.elf_loading.specs.MappingParts.{parts_of, parts_rest};
-ghost use Rattle.elf_loading.specs.Mappings.{mapped_end, maps_file};
+ghost use Rattle.elf_loading.specs.Mappings.{mapped_end};
 
 use crate::load_check::{file_end, load_end};
 use crate::pages::down;

@@ -1,8 +1,8 @@
 //! The bytes that relocations write to the image of an object.
 
-ghost use Rattle.std.specs.Prelude.{◌≡◌, ◌<◌, ◌≤◌, ◌+◌, ◌-◌, ◌&&◌, ◌*◌, ◌/◌, ◌%◌, ◌^◌, length};
-ghost use Rattle.std.specs.Prelude.{false, if◌then◌else◌, min, nat_le, nat_lt, slice_get};
-ghost use Rattle.std.specs.Prelude.{slice_index, true, Err, IfErr, IfOk, IfSome, MatchOption, Ok, Some, ℕ};
+ghost use Rattle.std.specs.Prelude.{◌-◌, ◌&&◌, ◌^◌, if◌then◌else◌, ◌%◌, ◌≤◌, ◌≡◌, ◌/◌, ◌+◌, ◌<◌};
+ghost use Rattle.std.specs.Prelude.{◌*◌, IfOk, Err, slice_get, true, nat_le, Ok, Some, MatchOption};
+ghost use Rattle.std.specs.Prelude.{IfErr, min, ℕ, IfSome, false, nat_lt, length, slice_index};
 ghost use Rattle.elf_base.specs.Table.{table_items};
 ghost use Rattle.elf_linking.specs.DynamicObject.{object_records, object_view};
 ghost use Rattle.elf_linking.specs.DynamicView.{view_entries};
@@ -11,14 +11,13 @@ ghost use Rattle.elf_linking.specs.RelocationTypes.{relative_of};
 ghost use Rattle.elf_linking.specs.Scope.{scope_objects};
 ghost use Rattle.elf_loading.specs.RelativeWords.{IsItemWritten, relative_word};
 ghost use Rattle.elf_loading.specs.Relocate.{AreWordsFor, IsRelocation, IsRelocationIn, IsWriting};
-ghost use Rattle.elf_loading.specs.Relocate.{byte_of_number, has_no_number, image_at};
+ghost use Rattle.elf_loading.specs.Relocate.{byte_of_number, has_no_number, image_at, image_start};
 ghost use Rattle.elf_loading.specs.Relocate.{is_copy_outside, is_outside, is_unresolved, is_weak};
-ghost use Rattle.elf_loading.specs.Relocate.{is_wrong_size};
-ghost use Rattle.elf_loading.specs.Relocate.{origin_sum, place_at, start_at, value_byte};
+ghost use Rattle.elf_loading.specs.Relocate.{is_wrong_size, origin_sum, place_at, value_byte};
 ghost use Rattle.elf_loading.specs.Relocate.{value_number, word_byte, write_item, write_word};
-ghost use Rattle.elf_loading.specs.Words.{HasWord, binds_lazily};
-ghost use Rattle.elf_loading.specs.WordsLeft.{words_file, words_index, words_lazy, words_left};
-ghost use Rattle.elf_loading.specs.WordsLeft.{words_objects, words_own};
+ghost use Rattle.elf_loading.specs.Words.{binds_lazily};
+ghost use Rattle.elf_loading.specs.WordsLeft.{HasWordOf, relocations_left, words_file, words_lazy};
+ghost use Rattle.elf_loading.specs.WordsLeft.{words_own};
 ghost use Rattle.elf_loading.specs.declared.error.LoadError.TheVariants.{CopySource};
 
 use crate::LoadError;
@@ -250,8 +249,8 @@ fn index_in(start: u64, len: usize, address: u64, width: u64) -> Option<usize>
 
 impl<'b, 's, 'a, E: LinkedSymbol> Sources<'b, 's, 'a, E> {
     // The first address of the image of an object.
-    fn start_at(&self, object: usize) -> u64
-        ensures { result ≡ start_at self.now object }
+    fn image_start(&self, object: usize) -> u64
+        ensures { result ≡ image_start self.now object }
     {
         match self.plans.get(object) {
             Some(plan) => plan.span().start,
@@ -281,16 +280,16 @@ impl<'b, 's, 'a, E: LinkedSymbol> Sources<'b, 's, 'a, E> {
         requires some { 0 < width }
         requires within { index + width ≤ length image.old }
         ensures len { length image.new ≡ length image.old }
-        ensures result { result ≡ (if is_outside (start_at self.now object)
+        ensures result { result ≡ (if is_outside (image_start self.now object)
             (length (image_at self.now object)) offset width then Err CopySource else Ok tt) }
         ensures bytes { IfOk result (λ done. (i : ℕ) → slice_index image.new i
             ≡ (if nat_le index i && nat_lt i (index + width)
-            then slice_index (image_at self.now object) (offset - start_at self.now object + (i - index))
+            then slice_index (image_at self.now object) (offset - image_start self.now object + (i - index))
             else slice_index image.old i)) }
         ensures same { IfErr result (λ error. image.new ≡ image.old) }
     {
         let bytes = self.image_at(object);
-        match index_in(self.start_at(object), bytes.len(), offset, width as u64) {
+        match index_in(self.image_start(object), bytes.len(), offset, width as u64) {
             Some(first) => write_bytes(image, index, &bytes[first..first + width]),
             None => return Err(LoadError::CopySource),
         }
@@ -329,7 +328,7 @@ impl<'b, 's, 'a, E: LinkedSymbol> Sources<'b, 's, 'a, E> {
     // Writes a word to an image that begins at `start`, and returns whether it has no number.
     #[inline(always)]
     fn write_word(&self, start: u64, image: &mut [u8], word: &Word) -> Result<bool, LoadError>
-        requires start { start ≡ start_at self.now self.now.of }
+        requires start { start ≡ image_start self.now self.now.of }
         ensures len { length image.new ≡ length image.old }
         ensures result { result ≡ write_word self.now (length image.old) word.now }
         ensures bytes { IfOk result (λ lacks. (i : ℕ) → slice_index image.new i
@@ -357,7 +356,7 @@ impl<'b, 's, 'a, E: LinkedSymbol> Sources<'b, 's, 'a, E> {
         image: &mut [u8],
         item: &Relocated<E>,
     ) -> Result<bool, LoadError>
-        requires start { start ≡ start_at self.now self.now.of }
+        requires start { start ≡ image_start self.now self.now.of }
         ensures len { length image.new ≡ length image.old }
         ensures result { result ≡ write_item E.fields self.now own.now lazy (length image.old) item.now }
         ensures bytes { IfOk result (λ lacks. (i : ℕ) → slice_index image.new i
@@ -381,13 +380,11 @@ impl<'b, 's, 'a, E: LinkedSymbol> Sources<'b, 's, 'a, E> {
         last: &mut Option<Relocated<E>>,
         image: &mut [u8],
     ) -> Result<bool, LoadError>
-        requires start { start ≡ start_at self.now self.now.of }
+        requires start { start ≡ image_start self.now self.now.of }
         requires words { AreWordsFor self.now.objects.now (words_own words.now) self.now.of
             (words_lazy words.now) words.now }
-        requires last { IfSome last.old (HasWord E.fields (words_objects words.now).now
-            (words_file words.now) (words_own words.now) (words_index words.now) (words_lazy words.now)) }
-        ensures last { IfSome last.new (HasWord E.fields (words_objects words.now).now
-            (words_file words.now) (words_own words.now) (words_index words.now) (words_lazy words.now)) }
+        requires last { IfSome last.old (HasWordOf E.fields words.now) }
+        ensures last { IfSome last.new (HasWordOf E.fields words.now) }
         ensures len { length image.new ≡ length image.old }
         ensures item { IsItemWritten E.fields self.now (words_own words.now) (words_lazy words.now)
             relocation image.old image.new result }
@@ -409,14 +406,12 @@ impl<'b, 's, 'a, E: LinkedSymbol> Sources<'b, 's, 'a, E> {
         last: &mut Option<Relocated<E>>,
         image: &mut [u8],
     ) -> Result<bool, LoadError>
-        requires start { start ≡ start_at self.now self.now.of }
+        requires start { start ≡ image_start self.now self.now.of }
         requires words { AreWordsFor self.now.objects.now (words_own words.now) self.now.of
             (words_lazy words.now) words.now }
         requires relative { relative.now ≡ relative_of (file_machine (words_file words.now)) }
-        requires last { IfSome last.old (HasWord E.fields (words_objects words.now).now
-            (words_file words.now) (words_own words.now) (words_index words.now) (words_lazy words.now)) }
-        ensures last { IfSome last.new (HasWord E.fields (words_objects words.now).now
-            (words_file words.now) (words_own words.now) (words_index words.now) (words_lazy words.now)) }
+        requires last { IfSome last.old (HasWordOf E.fields words.now) }
+        ensures last { IfSome last.new (HasWordOf E.fields words.now) }
         ensures len { length image.new ≡ length image.old }
         ensures item { IsItemWritten E.fields self.now (words_own words.now) (words_lazy words.now)
             relocation image.old image.new result }
@@ -436,10 +431,10 @@ impl<'b, 's, 'a, E: LinkedSymbol> Sources<'b, 's, 'a, E> {
         image: &mut [u8],
     ) -> Result<u64, LoadError>
         requires words { AreWordsFor self.now.objects.now own.now self.now.of lazy words }
-        ensures { IsWriting E.fields self.now own.now lazy (words_left words.entry) image.old
+        ensures { IsWriting E.fields self.now own.now lazy (relocations_left words.entry) image.old
             image.new result }
     {
-        let start = self.start_at(self.of);
+        let start = self.image_start(self.of);
         let relative = relative_of(own.file().header.pt2.machine().raw());
         let (mut words, mut last, mut count) = (words, None, 0u64);
         while let Some(relocation) = words.next_relocation() {

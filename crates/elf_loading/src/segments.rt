@@ -5,6 +5,7 @@ ghost use Rattle.elf_loading.specs.Loads.{loads_left};
 ghost use Rattle.elf_loading.specs.Others.{AreOthersIn, data_of, is_kept, memory_of, others_with};
 ghost use Rattle.elf_loading.specs.Others.{template_of};
 ghost use Rattle.elf_loading.specs.LoadsAmong.{loads_among};
+ghost use Rattle.elf_loading.specs.Segments.{has_flag};
 ghost use Rattle.elf_linking.specs.SegmentsLeft.{segments_left};
 
 use crate::loads::Loads;
@@ -28,6 +29,14 @@ const PT_GNU_STACK: u32 = 0x6474_e551;
 pub(crate) struct Extent {
     pub(crate) start: u64,
     pub(crate) size: u64,
+}
+
+// Whether a segment has a permission, or several.
+#[inline(always)]
+pub(crate) fn has_flag(segment: &Segment, flag: u32) -> bool
+    ensures { result ≡ has_flag flag segment.now }
+{
+    segment.flags.0 & flag == flag
 }
 
 // What a loader asks of the segments other than loads.

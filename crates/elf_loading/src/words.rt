@@ -2,21 +2,19 @@
 
 ghost use Rattle.std.specs.Prelude.{◌≡◌, ◌<◌, ◌≤◌, ◌^◌, Err, IfOk, IfSome, MatchResult, Ok, Some, slice_get};
 ghost use Rattle.std.specs.Iterator.{YieldsFirst, YieldsFirstBy, item_count};
-ghost use Rattle.elf_linking.specs.DynamicObject.{object_view};
 ghost use Rattle.elf_linking.specs.DynamicView.{flag_in, view_entries};
 ghost use Rattle.elf_linking.specs.References.{file_machine};
 ghost use Rattle.elf_linking.specs.Scope.{scope_objects};
 ghost use Rattle.std.specs.List.{list_any};
 ghost use Rattle.elf_loading.specs.Segments.{loads_of};
 ghost use Rattle.elf_loading.specs.RelativeWords.{asks_as};
-ghost use Rattle.elf_loading.specs.Words.{HasWord, IsBoundIf, addend_of, addend_place};
-ghost use Rattle.elf_loading.specs.Words.{address_size, has_zeros, word_in_memory};
-ghost use Rattle.elf_loading.specs.Words.{binds_lazily, formula_when, in_place_when};
-ghost use Rattle.elf_loading.specs.Words.{is_lazy, needs_symbol, own_size, takes_addend, takes_symbol};
-ghost use Rattle.elf_loading.specs.Words.{value_word, word_of};
-ghost use Rattle.elf_loading.specs.WordsLeft.{AreWordsOf, IsSame, relocation_of, words_file};
-ghost use Rattle.elf_loading.specs.WordsLeft.{words_index, words_lazy, words_left, words_objects};
-ghost use Rattle.elf_loading.specs.WordsLeft.{words_of, words_own};
+ghost use Rattle.elf_loading.specs.Words.{IsBoundIf, addend_of, addend_place, address_size};
+ghost use Rattle.elf_loading.specs.Words.{binds_lazily, formula_when, has_zeros, in_place_when};
+ghost use Rattle.elf_loading.specs.Words.{is_lazy, needs_symbol, own_size, takes_addend};
+ghost use Rattle.elf_loading.specs.Words.{takes_symbol, value_word, word_in_memory, word_of};
+ghost use Rattle.elf_loading.specs.WordsLeft.{AreWordsOf, HasWordOf, IsSame, own_relocations};
+ghost use Rattle.elf_loading.specs.WordsLeft.{relocation_of, relocations_left, words_file};
+ghost use Rattle.elf_loading.specs.WordsLeft.{words_index, words_lazy, words_objects};
 
 use crate::LoadError;
 use crate::in_order::{InOrder, Relocation};
@@ -308,8 +306,8 @@ impl<'s, 'a, E: LinkedSymbol> Words<'s, 'a, E> {
     /// Errors: `ObjectIndex` if there is no object at `of`; those of `DynamicView::relr`; those of
     /// `DynamicView::relocations`.
     pub fn new(scope: Scope<'s, 'a, E>, of: usize, when: Binding) -> Result<Self, LinkError>
-        ensures exact { let answer = words_of (slice_get (scope_objects scope.entry).now of) in
-            MatchResult result (λ words. answer ≡ Ok (words_left words))
+        ensures exact { let answer = own_relocations (slice_get (scope_objects scope.entry).now of) in
+            MatchResult result (λ words. answer ≡ Ok (relocations_left words))
             (λ error. answer ≡ Err error) }
         ensures begun { IfOk result (AreWordsOf (scope_objects scope.entry) of when) }
     {
@@ -331,7 +329,7 @@ impl<'s, 'a, E: LinkedSymbol> Words<'s, 'a, E> {
     // The next relocation.
     #[inline(always)]
     pub(crate) fn next_relocation(&mut self) -> Option<Relocation>
-        ensures first { YieldsFirst words_left self.old result self.new }
+        ensures first { YieldsFirst relocations_left self.old result self.new }
         ensures same { IsSame self.old self.new }
     {
         self.order.next()
@@ -354,8 +352,7 @@ impl<'s, 'a, E: LinkedSymbol> Words<'s, 'a, E> {
     // A relocation with its word.
     fn item(&self, relocation: Relocation) -> Relocated<E>
         ensures relocation { result.relocation ≡ relocation }
-        ensures word { HasWord E.fields (words_objects self.now).now
-            (words_file self.now) (words_own self.now) (words_index self.now) (words_lazy self.now) result }
+        ensures word { HasWordOf E.fields self.now result }
     {
         let bound = self.bound(&relocation);
         self.item_with(relocation, bound)
@@ -368,11 +365,9 @@ impl<'s, 'a, E: LinkedSymbol> Words<'s, 'a, E> {
         relocation: Relocation,
         last: &Option<Relocated<E>>,
     ) -> Relocated<E>
-        requires { IfSome last.now (HasWord E.fields (words_objects self.now).now (words_file self.now)
-            (words_own self.now) (words_index self.now) (words_lazy self.now)) }
+        requires { IfSome last.now (HasWordOf E.fields self.now) }
         ensures relocation { result.relocation ≡ relocation }
-        ensures word { HasWord E.fields (words_objects self.now).now
-            (words_file self.now) (words_own self.now) (words_index self.now) (words_lazy self.now) result }
+        ensures word { HasWordOf E.fields self.now result }
     {
         match last {
             Some(last) if asks_as(&last.relocation, &relocation) => {
@@ -392,8 +387,7 @@ impl<'s, 'a, E: LinkedSymbol> Words<'s, 'a, E> {
             relocation) E.fields (words_objects self.now).now (words_index self.now)
             relocation.reference bound }
         ensures relocation { result.relocation ≡ relocation }
-        ensures word { HasWord E.fields (words_objects self.now).now
-            (words_file self.now) (words_own self.now) (words_index self.now) (words_lazy self.now) result }
+        ensures word { HasWordOf E.fields self.now result }
     {
         let word = word_of(
             &self.file,
@@ -414,11 +408,10 @@ impl<'s, 'a, E: LinkedSymbol> Words<'s, 'a, E> {
 impl<E: LinkedSymbol> Iterator for Words<'_, '_, E> {
     type Item = Relocated<E>;
 
-    ghost next_gives = { λ s r t. YieldsFirstBy relocation_of words_left s r t × IsSame s t
-        × IfSome r (HasWord E.fields (words_objects s).now (words_file s) (words_own s)
-        (words_index s) (words_lazy s)) };
+    ghost next_gives = { λ s r t. YieldsFirstBy relocation_of relocations_left s r t × IsSame s t
+        × IfSome r (HasWordOf E.fields s) };
 
-    ghost remaining = { item_count words_left };
+    ghost remaining = { item_count relocations_left };
 
     fn next(&mut self) -> Option<Relocated<E>> {
         let relocation = self.next_relocation()?;

@@ -3,16 +3,12 @@ use Rattle.std.proofs.Common.{◌≡◌, ℕ, List, Some, Result, Ok, Err, subst
 use Rattle.std.specs.Borrow.{Bor}
 use Rattle.std.specs.Prelude.{MatchResult, slice_get, ⊤}
 use Rattle.elf_linking.specs.DynamicObject.{object_dynamic_symbols}
-use Rattle.elf_linking.specs.declared.object.DynamicObject.{DynamicObject}
+use Rattle.elfload.specs.Types.{DynamicObject, Input, LoadError, LoadPlan, Stop}
 use Rattle.elf_loading.specs.ImageWords.{IsImageCheck}
-use Rattle.elf_loading.specs.declared.error.LoadError.{LoadError}
-use Rattle.elf_loading.specs.declared.plan.LoadPlan.{LoadPlan}
 use Rattle.elfload.specs.Images.{IsChecked, IsCheckError, IsImageGood, IsRefusedAt, by_words}
 use Rattle.linking_programs.specs.Checks.{IsGood}
-use Rattle.linking_programs.specs.declared.Input.{Input}
 use Rattle.linking_programs.specs.declared.Refused as reasons
 use Rattle.program_ends.specs.Stops.{IsStop}
-use Rattle.program_ends.specs.declared.Stop.{Stop}
 use Rattle.xmas_elf.specs.Symbol.{SymbolFields}
 
 module _ {E : Type 0} {r : _} (size : ℕ) (fields : E → SymbolFields) (inputs : List Input) (objects : List (DynamicObject E r)) (plans : List LoadPlan) (index : ℕ) (object : DynamicObject E r) (there : slice_get objects index ≡ Some object) (good : IsGood (object_dynamic_symbols fields object)) where

@@ -2,12 +2,10 @@
 use Rattle.std.proofs.Common.{◌≡◌, ℕ, Some, None, Result, Ok, Err, refl, sym, ap, subst, ◌∙◌}
 use Rattle.std.specs.Prelude.{IsSomeAnd, MatchOption, MatchResult}
 use Rattle.elf_linking.specs.DynamicObject.{object_file}
-use Rattle.elf_linking.specs.declared.object.DynamicObject.{DynamicObject}
+use Rattle.elfload.specs.Types.{DynamicObject, LoadError, LoadPlan}
 use Rattle.elf_loading.specs.FileCheck.{check_file}
 use Rattle.elf_loading.specs.Plan.{IsPlanOf}
-use Rattle.elf_loading.specs.declared.error.LoadError.{LoadError}
 use Rattle.elf_loading.specs.declared.error.LoadError.TheVariants.{Machine}
-use Rattle.elf_loading.specs.declared.plan.LoadPlan.{LoadPlan}
 use Rattle.elfload.specs.Images.{IsPlanFor, LacksPlan}
 use Rattle.elfload.specs.Plans.{header_limit}
 use Rattle.xmas_elf.specs.Types.{ElfFile}

@@ -6,19 +6,14 @@ use Rattle.std.specs.Prelude.{IsSomeAnd, MatchResult, slice_get, ⊤}
 use Rattle.std.proofs.KnownBytes.{Appends-trans}
 use Rattle.elf_linking.specs.DynamicObject.{object_file}
 use Rattle.elf_linking.specs.References.{file_machine}
-use Rattle.elf_linking.specs.declared.object.DynamicObject.{DynamicObject}
-use Rattle.elf_loading.specs.WordsLeft.{AreWordsOf, words_left, words_of}
-use Rattle.elf_loading.specs.declared.error.LoadError.{LoadError}
-use Rattle.elf_loading.specs.declared.words.Binding.{Binding}
-use Rattle.elf_loading.specs.declared.words.Words.{Words}
+use Rattle.elfload.specs.Types.{Binding, DynamicObject, Input, LoadError, Stop, Words}
+use Rattle.elf_loading.specs.WordsLeft.{AreWordsOf, relocations_left, own_relocations}
 use Rattle.linking_programs.specs.Files.{IsOfInput}
 use Rattle.elfload.specs.Words.{IsItemsText, IsObjectText, IsTextError, IsWordError, by_word, path_text}
-use Rattle.linking_programs.specs.declared.Input.{Input}
 use Rattle.linking_programs.specs.declared.Refused as reasons
 use Rattle.program_ends.proofs.Ends.{stop_so}
 use Rattle.program_ends.specs.Appended.{AppendsSome}
 use Rattle.program_ends.specs.Stops.{IsStop}
-use Rattle.program_ends.specs.declared.Stop.{Stop}
 use Rattle.xmas_elf.specs.Symbol.{SymbolFields}
 
 -- a property of what is there, where another holds
@@ -26,7 +21,7 @@ pub some_so : {A : Type 0} (found : Option A) (P Q : A → Type 0) → ((item : 
 some_so None P Q so never = never
 some_so (Some item) P Q so is = so item is
 
-module _ {E : Type 0} {r : _} (fields : E → SymbolFields) (when : Binding) (inputs : List Input) (objects : List (DynamicObject E r)) (lent : Bor (List (DynamicObject E r))) (same : lent.now ≡ objects) (of machine : ℕ) (object : DynamicObject E r) (words : Words E r) (path : Bor (List ℕ)) (old begun : Option (List ℕ)) (there : slice_get objects of ≡ Some object) (by : machine ≡ file_machine (object_file object)) (are : AreWordsOf lent of when words) (left : words_of (slice_get objects of) ≡ Ok (words_left words)) (named : IsSomeAnd (slice_get inputs of) (λ input. path ≡ input.path)) (heading : Appends old begun (path_text path.now)) where
+module _ {E : Type 0} {r : _} (fields : E → SymbolFields) (when : Binding) (inputs : List Input) (objects : List (DynamicObject E r)) (lent : Bor (List (DynamicObject E r))) (same : lent.now ≡ objects) (of machine : ℕ) (object : DynamicObject E r) (words : Words E r) (path : Bor (List ℕ)) (old begun : Option (List ℕ)) (there : slice_get objects of ≡ Some object) (by : machine ≡ file_machine (object_file object)) (are : AreWordsOf lent of when words) (left : own_relocations (slice_get objects of) ≡ Ok (relocations_left words)) (named : IsSomeAnd (slice_get inputs of) (λ input. path ≡ input.path)) (heading : Appends old begun (path_text path.now)) where
   pub object_ends : (new : Option (List ℕ)) (result : Result (Unit {0}) (Stop (reasons.Refused LoadError))) → MatchResult result (λ done. AppendsSome (IsItemsText fields machine of words) begun new) (IsStop (λ refused. (refused.path ≡ path) × IsWordError fields words refused.error) ⊤ ⊥)
       → MatchResult result (λ done. IsSomeAnd (slice_get objects of) (λ one. AppendsSome (IsObjectText fields when inputs objects of one) old new)) (IsStop (λ refused. IsOfInput inputs of refused × IsTextError fields when objects of refused.error) ⊤ ⊥)
   object_ends new (Ok done) (text, items, grown) = subst (λ found. IsSomeAnd found (λ one. AppendsSome (IsObjectText fields when inputs objects of one) old new)) (sym there) (
@@ -36,7 +31,7 @@ module _ {E : Type 0} {r : _} (fields : E → SymbolFields) (when : Binding) (in
       lent_is = same;
       words = words;
       words_are = are;
-      left = subst (λ found. words_of found ≡ Ok (words_left words)) there left;
+      left = subst (λ found. own_relocations found ≡ Ok (relocations_left words)) there left;
       items = text;
       items_are = subst (λ m. IsItemsText fields m of words text) by items;
       text_is = some_so (slice_get inputs of) (λ (input : Input). path ≡ input.path) (λ (input : Input). path_text path.now ++ text ≡ path_text input.path.now ++ text) (λ (input : Input) is. subst (λ (p : Bor (List ℕ)). path_text path.now ++ text ≡ path_text p.now ++ text) is refl) named;

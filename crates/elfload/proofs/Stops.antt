@@ -2,19 +2,14 @@
 use Rattle.std.proofs.Common.{◌≡◌, ℕ, List, Some, slice_get, take, Result, Ok, Err, refl, sym, subst}
 use Rattle.std.specs.Prelude.{OnOk, ⊤}
 use Rattle.elf_linking.specs.DynamicObject.{object_file}
-use Rattle.elf_linking.specs.declared.error.LinkError.{LinkError}
-use Rattle.elf_linking.specs.declared.object.DynamicObject.{DynamicObject}
-use Rattle.elf_loading.specs.declared.error.LoadError.{LoadError}
-use Rattle.elf_loading.specs.declared.plan.LoadPlan.{LoadPlan}
+use Rattle.elfload.specs.Types.{DynamicObject, Input, LinkError, LoadError, LoadPlan, Stop}
 use Rattle.elfload.specs.Ends.{AreRefused, by_input, load_stop}
 use Rattle.elfload.specs.Images.{ArePlansOf, IsCheckError, IsPlanMissing, IsRefusedAt, LacksPlan}
 use Rattle.elfload.specs.declared.Options.{Options}
 use Rattle.linking_programs.specs.Files.{IsInputRefused, IsOfInput}
-use Rattle.linking_programs.specs.declared.Input.{Input}
 use Rattle.linking_programs.specs.declared.Refused as reasons
 use Rattle.program_ends.proofs.Ends.{stop_so}
 use Rattle.program_ends.specs.Stops.{IsStop}
-use Rattle.program_ends.specs.declared.Stop.{Stop}
 use Rattle.program_ends.specs.declared.Stop.TheVariants.{Memory, Refused, Write}
 use Rattle.xmas_elf.specs.Symbol.{SymbolFields}
 

@@ -1,37 +1,22 @@
 -- The lines of the relocations of an object so far.
+use Rattle.std.proofs.lemmas.List.{map-append}
 use Rattle.std.proofs.Common.{◌≡◌, ℕ, List, [], ◌∷◌, ◌++◌, map, All, Option, Err, refl, sym, ap, ◌∙◌, subst, append_assoc, append-nil}
 use Rattle.std.specs.Prelude.{IsOk}
 use Rattle.std.specs.List.{flat_map}
 use Rattle.std.proofs.KnownBytes.{Appends-nil, Appends-trans}
 use Rattle.std.proofs.lemmas.List.Elements.{All-nil, All-push}
-use Rattle.elf_loading.specs.Words.{HasWord}
-use Rattle.elf_loading.specs.WordsLeft.{IsSame, relocation_of, words_file, words_index, words_lazy, words_left, words_objects, words_own}
-use Rattle.elf_loading.specs.declared.error.LoadError.{LoadError}
-use Rattle.elf_loading.specs.declared.in_order.Relocation.{Relocation}
-use Rattle.elf_loading.specs.declared.words.Relocated.{Relocated}
-use Rattle.elf_loading.specs.declared.words.Words.{Words}
-use Rattle.elfload.specs.Words.{HasKnownWord, IsItemOf, IsItemsText, IsWordError, item_text}
+use Rattle.elf_loading.proofs.ImageChecks.{has_word_of}
+use Rattle.elf_loading.specs.WordsLeft.{HasWordOf, IsSame, relocation_of, relocations_left}
+use Rattle.elfload.specs.Types.{LoadError, Relocated, Relocation, Words}
+use Rattle.elfload.specs.Words.{HasKnownWord, IsItemsText, IsWordError, item_text}
 use Rattle.program_ends.specs.Appended.{AppendsSome}
 use Rattle.xmas_elf.specs.Symbol.{SymbolFields}
-
-map_more : {A B : Type 0} (f : A → B) (xs : List A) (x : A) → map f (xs ++ (x ∷ [])) ≡ map f xs ++ (f x ∷ [])
-map_more f [] x = refl
-map_more f (y ∷ ys) x = ap (λ rest. f y ∷ rest) (map_more f ys x)
 
 flat_map_more : {A B : Type 0} (f : A → List B) (xs : List A) (x : A) → flat_map f (xs ++ (x ∷ [])) ≡ flat_map f xs ++ f x
 flat_map_more f [] x = append-nil (f x)
 flat_map_more f (y ∷ ys) x = ap (λ rest. f y ++ rest) (flat_map_more f ys x) ∙ sym (append_assoc (f y) (flat_map f ys) (f x))
 
 module _ {E : Type 0} {r : _} (fields : E → SymbolFields) where
-  -- an item of an iterator over the same relocations
-  pub same_item : (one other : Words E r) (item : Relocated E) → IsSame one other → IsItemOf fields other item → IsItemOf fields one item
-  same_item one other item (objects, file, own, index, lazy) is =
-      subst (λ o. HasWord fields o.now (words_file one) (words_own one) (words_index one) (words_lazy one) item) objects
-      (subst (λ f. HasWord fields (words_objects other).now f (words_own one) (words_index one) (words_lazy one) item) file
-      (subst (λ o. HasWord fields (words_objects other).now (words_file other) o (words_index one) (words_lazy one) item) own
-      (subst (λ i. HasWord fields (words_objects other).now (words_file other) (words_own other) i (words_lazy one) item) index
-      (subst (λ l. HasWord fields (words_objects other).now (words_file other) (words_own other) (words_index other) l item) lazy is))))
-
   pub same_then : (one other next : Words E r) → IsSame one other → IsSame other next → IsSame one next
   same_then one other next (objects, file, own, index, lazy) (objects2, file2, own2, index2, lazy2) =
       (objects2 ∙ objects, file2 ∙ file, own2 ∙ own, index2 ∙ index, lazy2 ∙ lazy)
@@ -40,23 +25,23 @@ module _ {E : Type 0} {r : _} (fields : E → SymbolFields) where
     -- with these relocations left, the text is that of those before them
     pub record IsTextSoFar (left : List Relocation) (text : List ℕ) : Type 0 where
       pub items : List (Relocated E)
-      pub are : words_left words ≡ map relocation_of items ++ left
-      pub have_words : All (IsItemOf fields words) items
+      pub are : relocations_left words ≡ map relocation_of items ++ left
+      pub have_words : All (HasWordOf fields words) items
       pub known : All HasKnownWord items
       pub text_is : text ≡ flat_map (item_text machine of) items
 
     -- the same of an iterator that has come this far
     pub record AreLinesSoFar (now : Words E r) (old new : Option (List ℕ)) : Type 0 where
       pub same : IsSame words now
-      pub written : AppendsSome (IsTextSoFar (words_left now)) old new
+      pub written : AppendsSome (IsTextSoFar (relocations_left now)) old new
 
     pub lines_begin : (now : Words E r) (old : Option (List ℕ)) → now ≡ words → AreLinesSoFar now old old
     lines_begin now old same = subst (λ w. AreLinesSoFar w old old) (sym same) (record {
       same = (refl, refl, refl, refl, refl);
-      written = ([], record { items = []; are = refl; have_words = All-nil (IsItemOf fields words); known = All-nil HasKnownWord; text_is = refl }, Appends-nil old);
+      written = ([], record { items = []; are = refl; have_words = All-nil (HasWordOf fields words); known = All-nil HasKnownWord; text_is = refl }, Appends-nil old);
     })
 
-    module _ (now next : Words E r) (item : Relocated E) (old before : Option (List ℕ)) (so_far : AreLinesSoFar now old before) (first : words_left now ≡ relocation_of item ∷ words_left next) (is : IsItemOf fields now item) where
+    module _ (now next : Words E r) (item : Relocated E) (old before : Option (List ℕ)) (so_far : AreLinesSoFar now old before) (first : relocations_left now ≡ relocation_of item ∷ relocations_left next) (is : HasWordOf fields now item) where
       pub lines_more : (after : Option (List ℕ)) → IsSame now next → IsOk item.word → AppendsSome (λ text. text ≡ item_text machine of item) before after → AreLinesSoFar next old after
       lines_more after same known (line, line_is, more) =
           let (text, done, grown) = so_far.written in
@@ -67,9 +52,9 @@ module _ {E : Type 0} {r : _} (fields : E → SymbolFields) where
               record {
                 items = done.items ++ (item ∷ []);
                 are = done.are ∙ ap (λ left. map relocation_of done.items ++ left) first
-                    ∙ sym (append_assoc (map relocation_of done.items) (relocation_of item ∷ []) (words_left next))
-                    ∙ ap (λ front. front ++ words_left next) (sym (map_more relocation_of done.items item));
-                have_words = All-push (IsItemOf fields words) done.items item done.have_words (same_item words now item so_far.same is);
+                    ∙ sym (append_assoc (map relocation_of done.items) (relocation_of item ∷ []) (relocations_left next))
+                    ∙ ap (λ front. front ++ relocations_left next) (sym (map-append relocation_of done.items (item ∷ [])));
+                have_words = All-push (HasWordOf fields words) done.items item done.have_words (has_word_of fields words now item so_far.same is);
                 known = All-push HasKnownWord done.items item done.known known;
                 text_is = ap (λ front. front ++ line) done.text_is ∙ ap (λ last. flat_map (item_text machine of) done.items ++ last) line_is
                     ∙ sym (flat_map_more (item_text machine of) done.items item);
@@ -84,14 +69,14 @@ module _ {E : Type 0} {r : _} (fields : E → SymbolFields) where
           record {
             earlier = done.items;
             item = item;
-            later = words_left next;
+            later = relocations_left next;
             are = done.are ∙ ap (λ left. map relocation_of done.items ++ left) first;
             known = done.known;
-            has_word = same_item words now item so_far.same is;
+            has_word = has_word_of fields words now item so_far.same is;
             word_is = word;
           }
 
-    pub lines_end : (now : Words E r) (old new : Option (List ℕ)) → words_left now ≡ [] → AreLinesSoFar now old new → AppendsSome (IsItemsText fields machine of words) old new
+    pub lines_end : (now : Words E r) (old new : Option (List ℕ)) → relocations_left now ≡ [] → AreLinesSoFar now old new → AppendsSome (IsItemsText fields machine of words) old new
     lines_end now old new end so_far =
         let (text, done, grown) = so_far.written in (
           text,

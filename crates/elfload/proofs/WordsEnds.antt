@@ -6,13 +6,10 @@ use Rattle.program_ends.specs.Ends.{status_of}
 use Rattle.elfload.specs.Images as images
 use Rattle.elfload.specs.Images.{AreImagesGood, AreInputsChecked}
 use Rattle.elfload.specs.declared.plans.Refusal.{Refusal}
-use Rattle.elf_loading.specs.declared.error.LoadError.{LoadError}
-use Rattle.program_ends.specs.declared.Fault.{Fault}
+use Rattle.elfload.specs.Types.{Fault, Input, LoadError, Stop}
 use Rattle.elfload.specs.declared.Options.{Options}
-use Rattle.linking_programs.specs.declared.Input.{Input}
 use Rattle.linking_programs.specs.declared.Refused as reasons
 use Rattle.program_ends.specs.Stops.{IsStop}
-use Rattle.program_ends.specs.declared.Stop.{Stop}
 use Rattle.xmas_elf.specs.Symbol.{SymbolFields}
 
 pub words_end_of : {E W : Type 0} (r : _) (fields : E → SymbolFields) (class size : ℕ) (options : Options) (inputs : List Input) (printed : Result W (Stop (reasons.Refused LoadError))) (ended : Result (Unit {0}) (Fault Refusal))

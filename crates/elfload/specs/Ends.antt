@@ -1,11 +1,8 @@
 -- How the program ends (this project's own).
 use Rattle.std.specs.Prelude.{◌≡◌, ℕ, true, false, List, Result, Ok, Err, ⊤}
 use Rattle.std.specs.Borrow.{Bor}
-use Rattle.elf_linking.specs.declared.error.LinkError.{LinkError}
-use Rattle.elf_linking.specs.declared.object.DynamicObject.{DynamicObject}
-use Rattle.elf_loading.specs.declared.error.LoadError.{LoadError}
+use Rattle.elfload.specs.Types.{DynamicObject, Fault, Input, LinkError, LoadError, LoadPlan, Refused}
 use Rattle.elf_loading.specs.declared.error.LoadError.TheVariants.{Link}
-use Rattle.elf_loading.specs.declared.plan.LoadPlan.{LoadPlan}
 use Rattle.elfload.specs.Images.{AreAllChecked, AreInputsChecked, ArePlansOf, IsImageRefused, IsPlanMissing}
 use Rattle.elfload.specs.Plans.{IsInputLoaded, IsInputPlan, IsInputRefused as IsPlanRefused}
 use Rattle.elfload.specs.Words.{IsTextRefused}
@@ -13,12 +10,9 @@ use Rattle.elfload.specs.declared.Options.{Options}
 use Rattle.elfload.specs.declared.plans.Refusal.{Refusal}
 use Rattle.elfload.specs.declared.plans.Refusal.TheVariants.{Load}
 use Rattle.linking_programs.specs.Files.{AreObjectsOf, IsInputRefused, is_first_narrow}
-use Rattle.linking_programs.specs.declared.Input.{Input}
-use Rattle.linking_programs.specs.declared.Refused.{Refused}
 use Rattle.program_ends.specs.Appended.{AppendsSome}
 use Rattle.program_ends.specs.Ends.{fault_of}
 use Rattle.program_ends.specs.Stops.{HasBegun, IsStop}
-use Rattle.program_ends.specs.declared.Fault.{Fault}
 use Rattle.program_ends.specs.declared.Fault.TheVariants as faults_are
 use Rattle.program_ends.specs.declared.Stop as stops
 use Rattle.program_ends.specs.declared.Stop.TheVariants as stops_are

@@ -2,11 +2,9 @@
 use Rattle.std.specs.Prelude.{◌≡◌, ℕ, List, IfSome, IsSomeAnd, None, Ok, Err, slice_get}
 use Rattle.std.specs.Borrow.{Bor}
 use Rattle.elf_base.specs.FileHeader.{header_of}
-use Rattle.elf_base.specs.declared.error.ElfError.{ElfError}
+use Rattle.elfload.specs.Types.{ElfError, ElfFile, Input}
 use Rattle.elf_linking.specs.DynamicView.{dynamic_segment_of}
 use Rattle.elfload.specs.Plans.{IsInputLoaded}
-use Rattle.linking_programs.specs.declared.Input.{Input}
-use Rattle.xmas_elf.specs.declared.ElfFile.{ElfFile}
 
 -- Linux and glibc would load the file that these bytes are, with pages of a size
 abbrev pub AreBytesLoaded : ℕ → List ℕ → Type 0

@@ -2,19 +2,14 @@
 use Rattle.std.specs.Prelude.{◌≡◌, ◌<◌, ℕ, true, false, List, length, IsSomeAnd, MatchOption, Some, Ok, Err, slice_get, take}
 use Rattle.std.specs.List.{AllZip}
 use Rattle.elf_linking.specs.DynamicObject.{object_dynamic_symbols, object_file}
-use Rattle.elf_linking.specs.declared.error.LinkError.{LinkError}
-use Rattle.elf_linking.specs.declared.object.DynamicObject.{DynamicObject}
+use Rattle.elfload.specs.Types.{DynamicObject, Input, LinkError, LoadError, LoadPlan, Refused}
 use Rattle.elf_loading.specs.FileCheck.{check_file}
 use Rattle.elf_loading.specs.ImageWords.{IsImageCheck}
 use Rattle.elf_loading.specs.Plan.{IsPlanOf}
-use Rattle.elf_loading.specs.declared.error.LoadError.{LoadError}
 use Rattle.elf_loading.specs.declared.error.LoadError.TheVariants.{Link, Machine}
-use Rattle.elf_loading.specs.declared.plan.LoadPlan.{LoadPlan}
 use Rattle.linking_programs.specs.Checks.{AreChecked, IsGood}
 use Rattle.linking_programs.specs.Files.{AreObjectsOf, IsOfInput, is_first_narrow}
 use Rattle.elfload.specs.Plans.{header_limit}
-use Rattle.linking_programs.specs.declared.Input.{Input}
-use Rattle.linking_programs.specs.declared.Refused.{Refused}
 use Rattle.xmas_elf.specs.Symbol.{SymbolFields, dyn_entry_32_fields, dyn_entry_64_fields}
 use Rattle.xmas_elf.specs.Types.{DynEntry32, DynEntry64, ElfFile}
 

@@ -3,13 +3,11 @@ use Rattle.std.specs.Prelude.{◌≡◌, ℕ, ◌++◌, ◌==◌, ◌&&◌, ◌|
 use Rattle.std.specs.Borrow.{Bor}
 use Rattle.elf_base.specs.FileHeader.{file_class, header_fields, header_of, machine_number}
 use Rattle.elf_base.specs.Text.{EndsInZero}
-use Rattle.elf_base.specs.declared.error.ElfError.{ElfError}
+use Rattle.elfload.specs.Types.{ElfError, LoadError, Loader}
 use Rattle.elf_loading.specs.FileCheck.{check_file, kind_of}
 use Rattle.elf_loading.specs.Mappings.{mappings_of}
 use Rattle.elf_loading.specs.Segments.{interpreter_of, loads_of, relro_of, stack_of, tls_of}
 use Rattle.elf_loading.specs.Spans.{relro_span, span_of}
-use Rattle.elf_loading.specs.declared.error.LoadError.{LoadError}
-use Rattle.elf_loading.specs.declared.mapping.Loader.{Loader}
 use Rattle.elf_loading.specs.declared.mapping.Loader.TheVariants.{Glibc, Kernel}
 use Rattle.elfload.specs.Texts.{head_text, mappings_text}
 use Rattle.elfload.specs.declared.plans.Head.{Head}
@@ -89,9 +87,11 @@ pub data IsFileRefused (page : ℕ) (file : ElfFile) : refusals.Refusal → Type
 
 -- The same of an input.
 
+-- an input is a file that Linux and glibc would load, and this is the text of its plan
 abbrev pub IsInputPlan : ℕ → Bor (List ℕ) → Bor (List ℕ) → List ℕ → Type 0
 IsInputPlan page path input text = OfHeader input (λ file. IsFilePlan page path file text)
 
+-- an input is a file that Linux and glibc would load
 abbrev pub IsInputLoaded : ℕ → Bor (List ℕ) → Type 0
 IsInputLoaded page input = OfHeader input (IsLoaded page)
 

@@ -2,11 +2,8 @@
 use Rattle.std.specs.Prelude.{ℕ, ◌++◌, ◌==◌, List, Option, Some, None, false, codes, decimal, bit_and, nat_lt, if◌then◌else◌}
 use Rattle.std.specs.Fmt.{digits}
 use Rattle.std.specs.List.{flat_map}
-use Rattle.elf_loading.specs.declared.mapping.Contents.{Contents}
+use Rattle.elfload.specs.Types.{Contents, Mapping, Span, Tls}
 use Rattle.elf_loading.specs.declared.mapping.Contents.TheVariants.{File, NoAccess, Zero}
-use Rattle.elf_loading.specs.declared.mapping.Mapping.{Mapping}
-use Rattle.elf_loading.specs.declared.plan.Tls.{Tls}
-use Rattle.elf_loading.specs.declared.span.Span.{Span}
 use Rattle.elfload.specs.declared.plans.Head.{Head}
 use Rattle.xmas_elf.specs.Types.{Flags}
 

@@ -5,25 +5,13 @@ use Rattle.std.specs.List.{flat_map, starts_with}
 use Rattle.elf_linking.specs.DynamicObject.{object_file}
 use Rattle.elf_linking.specs.References.{file_machine}
 use Rattle.elf_linking.specs.RelocationNames.{relocation_name}
-use Rattle.elf_linking.specs.declared.error.LinkError.{LinkError}
-use Rattle.elf_linking.specs.declared.object.DynamicObject.{DynamicObject}
-use Rattle.elf_loading.specs.Words.{HasWord}
-use Rattle.elf_loading.specs.WordsLeft.{AreWordsOf, relocation_of, words_file, words_index, words_lazy, words_left, words_objects, words_of, words_own}
-use Rattle.elf_loading.specs.declared.error.LoadError.{LoadError}
+use Rattle.elfload.specs.Types.{Binding, DynamicObject, Input, LinkError, LoadError, Origin, Refused, Relocated, Relocation, Value, Word, Words}
+use Rattle.elf_loading.specs.WordsLeft.{AreWordsOf, HasWordOf, relocation_of, relocations_left, own_relocations}
 use Rattle.elf_loading.specs.declared.error.LoadError.TheVariants.{Link}
-use Rattle.elf_loading.specs.declared.in_order.Relocation.{Relocation}
-use Rattle.elf_loading.specs.declared.value.Origin.{Origin}
 use Rattle.elf_loading.specs.declared.value.Origin.TheVariants.{Base, Call, Zero}
-use Rattle.elf_loading.specs.declared.value.Value.{Value}
 use Rattle.elf_loading.specs.declared.value.Value.TheVariants as values
-use Rattle.elf_loading.specs.declared.words.Binding.{Binding}
-use Rattle.elf_loading.specs.declared.words.Relocated.{Relocated}
-use Rattle.elf_loading.specs.declared.words.Word.{Word}
-use Rattle.elf_loading.specs.declared.words.Words.{Words}
 use Rattle.linking_programs.specs.Files.{IsOfInput}
 use Rattle.elfload.specs.Texts.{hex}
-use Rattle.linking_programs.specs.declared.Input.{Input}
-use Rattle.linking_programs.specs.declared.Refused.{Refused}
 use Rattle.xmas_elf.specs.Symbol.{SymbolFields}
 
 -- The text of a word.
@@ -55,14 +43,14 @@ value_text of (values.Copy object offset size) =
 abbrev pub prefix_of : ℕ → List ℕ
 prefix_of machine = if machine == 3 then codes "R_386_" else (if machine == 62 then codes "R_X86_64_" else codes "R_AARCH64_")
 
--- a text without what it begins with
-abbrev pub without : List ℕ → List ℕ → List ℕ
-without prefix text = if starts_with nat_eq text prefix then drop (length prefix) text else text
+-- `text` without `prefix`, if it begins with it
+abbrev pub without_prefix : List ℕ → List ℕ → List ℕ
+without_prefix prefix text = if starts_with nat_eq text prefix then drop (length prefix) text else text
 
 -- a name without the prefix of its machine, or the number where there is no name
 abbrev pub name_text_of : ℕ → ℕ → Option (List ℕ) → List ℕ
 name_text_of machine kind None = decimal kind
-name_text_of machine kind (Some name) = without (prefix_of machine) name
+name_text_of machine kind (Some name) = without_prefix (prefix_of machine) name
 
 -- the name of a relocation type of a machine, without what all of them begin with, or else its number
 abbrev pub name_text : ℕ → ℕ → List ℕ
@@ -94,18 +82,14 @@ path_text path = codes "words " ++ (path ++ codes "\n")
 
 -- What is written of the relocations of an object.
 
--- an item has the symbol that its relocation gets, and the word that it writes
-abbrev pub IsItemOf : {E : Type 0} → {r : _} → (E → SymbolFields) → Words E r → Relocated E → Type 0
-IsItemOf fields words item = HasWord fields (words_objects words).now (words_file words) (words_own words) (words_index words) (words_lazy words) item
-
 -- the word of an item is known
 abbrev pub HasKnownWord : {E : Type 0} → Relocated E → Type 0
 HasKnownWord item = IsOk item.word
 
 -- these are the items of the relocations that are left, and each has its word
 pub record AreItemsOf {E : Type 0} {r : _} (fields : E → SymbolFields) (words : Words E r) (items : List (Relocated E)) : Type 0 where
-  pub are : map relocation_of items ≡ words_left words
-  pub have_words : All (IsItemOf fields words) items
+  pub are : map relocation_of items ≡ relocations_left words
+  pub have_words : All (HasWordOf fields words) items
   pub known : All HasKnownWord items
 
 -- the text of the relocations that are left, of the object at index `of` in a file for a machine
@@ -119,9 +103,9 @@ pub record IsWordError {E : Type 0} {r : _} (fields : E → SymbolFields) (words
   pub earlier : List (Relocated E)
   pub item : Relocated E
   pub later : List Relocation
-  pub are : words_left words ≡ map relocation_of earlier ++ (relocation_of item ∷ later)
+  pub are : relocations_left words ≡ map relocation_of earlier ++ (relocation_of item ∷ later)
   pub known : All HasKnownWord earlier
-  pub has_word : IsItemOf fields words item
+  pub has_word : HasWordOf fields words item
   pub word_is : item.word ≡ Err error
 
 -- the text of the object at an index: the path of its file, and its words
@@ -130,7 +114,7 @@ pub record IsObjectText {E : Type 0} {r : _} (fields : E → SymbolFields) (when
   pub lent_is : lent.now ≡ objects
   pub words : Words E r
   pub words_are : AreWordsOf lent of when words
-  pub left : words_of (Some object) ≡ Ok (words_left words)
+  pub left : own_relocations (Some object) ≡ Ok (relocations_left words)
   pub items : List ℕ
   pub items_are : IsItemsText fields (file_machine (object_file object)) of words items
   pub text_is : IsSomeAnd (slice_get inputs of) (λ input. text ≡ path_text input.path.now ++ items)
@@ -148,7 +132,7 @@ AreWordsWritten fields when inputs objects = AreTexts (IsObjectText fields when 
 -- why the text ends before the last word: the relocations of the object at an index can't be read, or one of them has a
 -- word that is not known
 pub data IsTextError {E : Type 0} {r : _} (fields : E → SymbolFields) (when : Binding) (objects : List (DynamicObject E r)) (of : ℕ) : LoadError → Type 0 where
-  by_relocations : (error : LinkError) → words_of (slice_get objects of) ≡ Err error → IsTextError fields when objects of (Link error)
+  by_relocations : (error : LinkError) → own_relocations (slice_get objects of) ≡ Err error → IsTextError fields when objects of (Link error)
   by_word : (lent : Bor (List (DynamicObject E r))) (words : Words E r) (error : LoadError) → lent.now ≡ objects
       → AreWordsOf lent of when words → IsWordError fields words error
       → IsTextError fields when objects of error

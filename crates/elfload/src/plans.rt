@@ -2,12 +2,10 @@
 
 ghost use Rattle.std.specs.Prelude.{◌≡◌, ◌<◌, IsOk, MatchResult, None, OnOk, Some};
 ghost use Rattle.std.specs.Io.KnownBytes.{Appends};
-ghost use Rattle.elf_base.specs.FileHeader.{file_class};
-ghost use Rattle.elf_loading.specs.FileCheck.{kind_of};
 ghost use Rattle.elf_loading.specs.MappingsLeft.{mappings_left};
 ghost use Rattle.elfload.specs.Plans.{IsFilePlan, IsFileRefused, IsInputLoaded, IsInputPlan};
 ghost use Rattle.elfload.specs.Plans.{IsInputRefused, IsInterpreterText, IsLoaded, IsPlanText};
-ghost use Rattle.elfload.specs.Plans.{head_of, header_limit, limit_of, machine_of};
+ghost use Rattle.elfload.specs.Plans.{head_of, header_limit, limit_of};
 ghost use Rattle.elfload.specs.Texts.{contents_text, head_text, letter, mapping_text};
 ghost use Rattle.elfload.specs.Texts.{mappings_text, permissions_text, range_text, span_text};
 ghost use Rattle.elfload.specs.Texts.{stack_text, tls_text};

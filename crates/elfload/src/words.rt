@@ -4,7 +4,7 @@ ghost use Rattle.std.specs.Prelude.{◌≡◌, ◌<◌, Err, IsOk, IsSomeAnd, Ma
 ghost use Rattle.std.specs.Prelude.{⊤};
 ghost use Rattle.elfload.specs.Words.{AreWordsWritten, IsItemsText, IsObjectText, IsTextError};
 ghost use Rattle.elfload.specs.Words.{IsTextRefused, IsWordError, is_unchanged, item_text, line_text, name_text};
-ghost use Rattle.elfload.specs.Words.{path_text, prefix_of, start_text, value_text, without};
+ghost use Rattle.elfload.specs.Words.{path_text, prefix_of, start_text, value_text, without_prefix};
 ghost use Rattle.linking_programs.specs.Files.{IsOfInput};
 ghost use Rattle.program_ends.proofs.Flushed.{appended_flushed};
 ghost use Rattle.program_ends.specs.Appended.{AppendsSome};
@@ -199,7 +199,7 @@ impl Display for Name {
 
     fn fmt<W: fmt::Write>(&self, f: &mut fmt::Formatter<W>) -> fmt::Result {
         match relocation_name(self.0, self.1) {
-            Some(name) => write!(f, "{}", without(prefix_of(self.0), name)),
+            Some(name) => write!(f, "{}", without_prefix(prefix_of(self.0), name)),
             None => write!(f, "{}", self.1),
         }
     }
@@ -216,9 +216,9 @@ fn prefix_of(machine: u16) -> &'static str
     }
 }
 
-// A text without what it begins with.
-fn without(prefix: &'static str, text: &'static str) -> &'static str
-    ensures { result.now ≡ without prefix.now text.now }
+// `text` without `prefix`, if it begins with it.
+fn without_prefix(prefix: &'static str, text: &'static str) -> &'static str
+    ensures { result.now ≡ without_prefix prefix.now text.now }
 {
     match text.strip_prefix(prefix) {
         Some(rest) => rest,

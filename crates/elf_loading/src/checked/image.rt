@@ -64,11 +64,10 @@ impl<'s, 'a, E: LinkedSymbol> Model for CheckedImage<'s, 'a, E> {
 }
 
 impl<'s, 'a, E: LinkedSymbol> CheckedImage<'s, 'a, E> {
-    ghost use Rattle.std.specs.Prelude.{◌*◌, ◌≤◌, ◌↔◌, ℕ, IfErr, IfOk, IsOk, Ok, Some};
-    ghost use Rattle.std.specs.Prelude.{length};
+    ghost use Rattle.std.specs.Prelude.{◌≤◌, ◌*◌, ◌↔◌, ℕ, IfOk, length, IfErr, IsOk, Ok, Some};
     ghost use Rattle.std.specs.List.{count_by};
     ghost use Rattle.elf_base.specs.Refusal.{and_then};
-    ghost use Rattle.elf_loading.specs.CheckedImage.{AreWordsWritten, IsMapped};
+    ghost use Rattle.elf_loading.specs.CheckedImage.{AreWordsWritten, IsMappedImage};
     ghost use Rattle.elf_loading.specs.CheckedImage.{image_at_index, image_result, image_words};
     ghost use Rattle.elf_loading.specs.CheckedImage.{written_words};
     ghost use Rattle.elf_loading.specs.CheckedLoadScope.{checked_loads};
@@ -129,7 +128,7 @@ impl<'s, 'a, E: LinkedSymbol> CheckedImage<'s, 'a, E> {
     pub fn fill(&self, by: Loader, image: &mut [u8]) -> Result<(), ImageError>
         ensures size { IsOk result ↔ (length image.old ≡ self.now.size) }
         ensures error { IfErr result (λ error. (error ≡ Size) × (image.new ≡ image.old)) }
-        ensures bytes { IfOk result (λ done. IsMapped self.now by image.new) }
+        ensures bytes { IfOk result (λ done. IsMappedImage self.now by image.new) }
     {
         match self.plan.fill(by, image) {
             Ok(()) => Ok(()),

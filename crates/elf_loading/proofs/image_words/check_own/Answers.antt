@@ -2,17 +2,17 @@ use Rattle.std.proofs.Common.{◌*◌, length, refl, ap, ◌∙◌, arith}
 use Rattle.elf_linking.specs.DynamicView.{view_entries}
 use Rattle.elf_linking.specs.Scope.{scope_objects}
 use Rattle.elf_loading.specs.ImageTables.{asks_for_text}
-use Rattle.elf_loading.specs.ImageWords.{refused}
-use Rattle.elf_loading.specs.WordsLeft.{words_left}
+use Rattle.elf_loading.specs.ImageWords.{not_begun}
+use Rattle.elf_loading.specs.WordsLeft.{relocations_left}
 use Rattle.elf_loading.proofs.ImageChecks.{enough_marks, own_checked}
 use Rattle.elf_loading.proofs.image_words.check_own.Goals as goal
 
 pub returns-in-Err : goal.returns-in-Err
-returns-in-Err g c = refused c.in-Err.error c.in-Err.ensures refl
+returns-in-Err g c = not_begun c.in-Err.error c.in-Err.ensures refl
 
 pub check_words-requires-clause-room : goal.check_words-requires-clause-room
 check_words-requires-clause-room g c =
-    let enough = enough_marks g.E.Record.SIZE c.args.own.now c.args.plan.now (8 * length c.args.marks.now) (words_left c.in-Ok.words) c.in-Ok.ensures.relocations_are in
+    let enough = enough_marks g.E.Record.SIZE c.args.own.now c.args.plan.now (8 * length c.args.marks.now) (relocations_left c.in-Ok.words) c.in-Ok.ensures.relocations_are in
     omega (arith, enough, c.clear.ensures.len)
 
 pub check_words-requires-clause-clear : goal.check_words-requires-clause-clear

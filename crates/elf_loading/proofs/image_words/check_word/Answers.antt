@@ -2,7 +2,7 @@ use Rattle.std.proofs.Common.{◌∷◌, sym, ◌∙◌}
 use Rattle.std.proofs.lemmas.Bool.{ne_eqb}
 use Rattle.elf_loading.specs.Plan.{plan_loads}
 use Rattle.elf_loading.proofs.ImageLoads.{word_room}
-use Rattle.elf_loading.proofs.ImageWord.{passed, refused_overlap, refused_table}
+use Rattle.elf_loading.proofs.ImageChecks.{passed, overlap_error, table_error}
 use Rattle.elf_loading.proofs.Marks.{marks_with, taken_is}
 use Rattle.elf_loading.proofs.image_words.check_word.Goals as goal
 
@@ -19,7 +19,7 @@ returns-then-mark_all-clause-exact c = λ before marks.
     let found = sym c.holder_of.ensures ∙ c.in-Some.is in
     let within = word_room room.plan.now _ _ word c.in-Some.load c.requires.start c.requires.marks found in
     let taken = taken_is room.start word before c.args.marks.now within.0 marks within.1 in
-    refused_overlap (plan_loads room.plan.now) room.text room.tables before word (ne_eqb word.width 0 c.if-word-eq0.false) c.in-Some.load found
+    overlap_error (plan_loads room.plan.now) room.text room.tables before word (ne_eqb word.width 0 c.if-word-eq0.false) c.in-Some.load found
     (sym c.is_shut.ensures ∙ c.if-is_shut.false) (sym taken ∙ sym c.mark_all.ensures.was ∙ c.if-mark_all.true)
 
 pub returns-then-is_in_table-clause-exact : goal.returns-then-is_in_table-clause-exact
@@ -29,7 +29,7 @@ returns-then-is_in_table-clause-exact c = λ before marks.
     let found = sym c.holder_of.ensures ∙ c.in-Some.is in
     let within = word_room room.plan.now _ _ word c.in-Some.load c.requires.start c.requires.marks found in
     let taken = taken_is room.start word before c.args.marks.now within.0 marks within.1 in
-    refused_table (plan_loads room.plan.now) room.text room.tables before word (ne_eqb word.width 0 c.if-word-eq0.false) c.in-Some.load found
+    table_error (plan_loads room.plan.now) room.text room.tables before word (ne_eqb word.width 0 c.if-word-eq0.false) c.in-Some.load found
     (sym c.is_shut.ensures ∙ c.if-is_shut.false) (sym taken ∙ sym c.mark_all.ensures.was ∙ c.if-mark_all.false) (sym c.is_in_table.ensures ∙ c.if-is_in_table.true)
 
 pub returns-clause-exact : goal.returns-clause-exact

@@ -3,7 +3,7 @@ use Rattle.std.specs.Prelude.{slice_get, ⊤}
 use Rattle.std.proofs.lemmas.Option.{slice_get_read}
 use Rattle.elf_base.specs.FileHeader.{machine_number}
 use Rattle.elf_linking.specs.References.{file_machine}
-use Rattle.elf_loading.specs.WordsLeft.{AreWordsOf, words_left, words_of}
+use Rattle.elf_loading.specs.WordsLeft.{AreWordsOf, relocations_left, own_relocations}
 use Rattle.elf_loading.specs.declared.error.LoadError.TheVariants.{Link}
 use Rattle.elfload.specs.Words.{IsTextError, by_relocations}
 use Rattle.linking_programs.specs.declared.Input.{Input}
@@ -24,7 +24,7 @@ returns-in-Ok g c =
     object_ends g.E.Entry.fields c.args.when inputs objects c.args.objects refl of c.raw-machine.result object c.in-Ok.words path _ _ there
     (c.raw-machine.ensures ∙ ap machine_number c.machine.ensures ∙ ap file_machine c.file.ensures)
     (subst (λ lent. AreWordsOf lent of c.args.when c.in-Ok.words) c.new.ensures c.in-Ok.ensures.begun)
-    (subst (λ lent. words_of (slice_get lent.now of) ≡ Ok (words_left c.in-Ok.words)) c.new.ensures c.in-Ok.ensures.exact)
+    (subst (λ lent. own_relocations (slice_get lent.now of) ≡ Ok (relocations_left c.in-Ok.words)) c.new.ensures c.in-Ok.ensures.exact)
     (at_index (λ (input : Input). path ≡ input.path) inputs of c.index-inputs-of.result below c.index-inputs-of.is (ap (λ (input : Input). input.path) (sym c.index-inputs-of.is)))
     c.in_ok-write.ensures.bytes _ c.write_items.result c.write_items.ensures
 
@@ -32,4 +32,4 @@ pub returns-in-Err : goal.returns-in-Err
 returns-in-Err g c =
     let of = c.args.of in
     error_stops c.args.inputs.now of (IsTextError g.E.Entry.fields c.args.when c.args.objects.now of) ⊤ ⊥ (Link c.in-Err.error) c.refusal_at.result
-    (by_relocations c.in-Err.error (subst (λ lent. words_of (slice_get lent.now of) ≡ Err c.in-Err.error) c.new.ensures c.in-Err.ensures.exact)) c.refusal_at.ensures
+    (by_relocations c.in-Err.error (subst (λ lent. own_relocations (slice_get lent.now of) ≡ Err c.in-Err.error) c.new.ensures c.in-Err.ensures.exact)) c.refusal_at.ensures

@@ -1,6 +1,5 @@
 use Rattle.elf_loading.specs.LoadScope.{loaded_objects, loaded_plans}
-use Rattle.elf_loading.proofs.ErrorsLeft.{error_in}
-use Rattle.elf_loading.proofs.OneWords.{kept_in, once_in}
+use Rattle.elf_loading.proofs.OneWords.{error_in, kept_in, once_in}
 use Rattle.elf_loading.proofs.load_scope.LoadScope.relocate.Goals as goal
 
 pub returns-clause-once : goal.returns-clause-once

@@ -3,7 +3,7 @@ use Rattle.std.specs.List.{AllByRecursion}
 use Rattle.elf_loading.specs.Bytes.{IsByteOf}
 use Rattle.elf_loading.specs.Mappings.{IsMapped, mappings_of}
 use Rattle.elf_loading.specs.Segments.{loads_of}
-use Rattle.elf_loading.proofs.Headlines.{byte_of_file, byte_of_mapping, byte_of_zeros}
+use Rattle.elf_loading.proofs.LoadBytes.{byte_of_file, byte_of_mapping, byte_of_zeros}
 use Rattle.elf_loading.proofs.plan.LoadPlan.byte_at.Goals as goal
 use Rattle.elf_loading.specs.Plan.{plan_file}
 

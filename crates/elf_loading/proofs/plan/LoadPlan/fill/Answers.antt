@@ -5,7 +5,7 @@ use Rattle.elf_loading.specs.LoadCheck.{fits_below, load_end, load_start}
 use Rattle.elf_loading.specs.Loads.{loads_left}
 use Rattle.elf_loading.specs.Plan.{plan_file, plan_loads}
 use Rattle.elf_loading.specs.Spans.{first_start, last_end}
-use Rattle.elf_loading.proofs.Agree.{none_below}
+use Rattle.elf_loading.proofs.Follows.{none_below}
 use Rattle.elf_loading.proofs.FileChecks.{passes_apart, passes_fit}
 use Rattle.elf_loading.proofs.Filled.{AreBetween, all_between, first_between, none_filled, one_filled, zero_at}
 use Rattle.elf_loading.proofs.Lists.{fits_rest}

@@ -3,7 +3,7 @@ use Rattle.elf_linking.specs.DynamicObject.{object_view}
 use Rattle.elf_linking.specs.DynamicView.{view_entries}
 use Rattle.elf_linking.specs.Scope.{scope_objects}
 use Rattle.elf_loading.specs.Words.{binds_lazily}
-use Rattle.elf_loading.specs.WordsLeft.{words_left, words_of}
+use Rattle.elf_loading.specs.WordsLeft.{relocations_left, own_relocations}
 use Rattle.elf_loading.proofs.Written.{is_written}
 use Rattle.elf_loading.proofs.relocate.Sources.relocate.Goals as goal
 
@@ -11,7 +11,7 @@ pub returns-in-Ok : goal.returns-in-Ok
 returns-in-Ok g c =
     let own = c.args.own.now in
     let there : slice_get (scope_objects c.args.scope).now c.args.self.now.of ≡ Some own = ap (λ lent. slice_get lent.now c.args.self.now.of) c.requires.scope ∙ c.requires.own in
-    let are : words_of (Some own) ≡ Ok (words_left c.in-Ok.words) = ap words_of (sym there) ∙ c.in-Ok.ensures.exact in
+    let are : own_relocations (Some own) ≡ Ok (relocations_left c.in-Ok.words) = ap own_relocations (sym there) ∙ c.in-Ok.ensures.exact in
     let writing = rw (c.binds_lazily.ensures, c.view.ensures) at c.write_words.ensures in
-    is_written g.E.Entry.fields c.args.self.now own c.args.plan.now (binds_lazily (view_entries (object_view own)) c.args.when) c.args.image.now c.write_words.new.image c.write_words.result (words_left c.in-Ok.words)
+    is_written g.E.Entry.fields c.args.self.now own c.args.plan.now (binds_lazily (view_entries (object_view own)) c.args.when) c.args.image.now c.write_words.new.image c.write_words.result (relocations_left c.in-Ok.words)
     (search rules) are writing

@@ -6,7 +6,7 @@ use Rattle.elf_linking.specs.RelocationTypes.{relative_of}
 use Rattle.elf_loading.specs.RelativeWords.{relative_word}
 use Rattle.elf_loading.specs.Relocate.{word_byte}
 use Rattle.elf_loading.specs.WordsLeft.{words_file, words_lazy, words_own}
-use Rattle.elf_loading.proofs.RelativeWords.{relative_written}
+use Rattle.elf_loading.proofs.Written.{relative_written}
 use Rattle.elf_loading.proofs.relocate.Sources.write_next.Goals as goal
 
 pub returns-in-Some-clause-item : goal.returns-in-Some-clause-item

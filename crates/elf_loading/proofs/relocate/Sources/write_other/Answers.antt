@@ -13,7 +13,7 @@ returns-clause-item g c =
       item = item;
       relocation_is = c.item_after-item.ensures.relocation;
       has_word = has_word sources.objects.now (words_own words) sources.of (words_lazy words) g.E.Entry.fields words item c.requires.words c.item_after-item.ensures.word;
-      answer = c.write_item.ensures.result;
+      result_is = c.write_item.ensures.result;
       bytes = subst (λ start. IfOk c.write_item.result (λ lacks. (i : ℕ) → slice_index c.write_item.new.image i ≡ word_byte sources (start + i) item.word (slice_index c.args.image.now i))) c.requires.start c.write_item.ensures.bytes;
       same = c.write_item.ensures.same;
     }

@@ -1,13 +1,12 @@
 use Rattle.std.proofs.Common.{rules, ◌∷◌, refl, sym, ap, ◌∙◌, subst}
-use Rattle.elf_loading.specs.WordsLeft.{words_left}
-use Rattle.elf_loading.proofs.RelativeWords.{of_words}
-use Rattle.elf_loading.proofs.Written.{SoFar, all_written, more_written, none_written, one_refused, still_words}
+use Rattle.elf_loading.specs.WordsLeft.{relocations_left}
+use Rattle.elf_loading.proofs.Written.{SoFar, all_written, more_written, none_written, of_words, one_failed, still_words}
 use Rattle.elf_loading.proofs.relocate.Sources.write_words.Goals as goal
 
 pub loop-relocation-init : goal.loop-relocation-init
 loop-relocation-init g c = record {
   words = c.requires.words;
-  so_far = none_written g.E.Entry.fields c.args.self.now c.args.own.now c.args.lazy (words_left c.args.words) c.args.image.now _ refl;
+  so_far = none_written g.E.Entry.fields c.args.self.now c.args.own.now c.args.lazy (relocations_left c.args.words) c.args.image.now _ refl;
   last = tt;
 }
 
@@ -21,9 +20,9 @@ loop-relocation-preserved g c =
     let one = of_words g.E.Entry.fields sources own c.args.lazy later c.in-Some.relocation c.loop-relocation.image c.write_next.new.image _ words c.in-Ok.ensures.item in
     let sum = sym c.counted-count.ensures in record {
       words = words;
-      so_far = subst (λ count. SoFar g.E.Entry.fields sources own c.args.lazy (words_left c.args.words) c.args.image.now (words_left later) c.write_next.new.image count) sum
-          (more_written g.E.Entry.fields sources own c.args.lazy (words_left c.args.words) c.args.image.now (words_left c.loop-relocation.words) (words_left later) one.item c.loop-relocation.image c.loop-relocation.count
-          (c.in-Some.ensures.first ∙ ap (λ x. x ∷ words_left later) (sym one.relocation_is)) invariant.so_far one.has_word c.write_next.new.image c.in-Ok.lacks c.in-Ok.ensures.len one.answer one.bytes);
+      so_far = subst (λ count. SoFar g.E.Entry.fields sources own c.args.lazy (relocations_left c.args.words) c.args.image.now (relocations_left later) c.write_next.new.image count) sum
+          (more_written g.E.Entry.fields sources own c.args.lazy (relocations_left c.args.words) c.args.image.now (relocations_left c.loop-relocation.words) (relocations_left later) one.item c.loop-relocation.image c.loop-relocation.count
+          (c.in-Some.ensures.first ∙ ap (λ x. x ∷ relocations_left later) (sym one.relocation_is)) invariant.so_far one.has_word c.write_next.new.image c.in-Ok.lacks c.in-Ok.ensures.len one.result_is one.bytes);
       last = c.in-Ok.ensures.last;
     }
 
@@ -35,8 +34,8 @@ returns-in-Err g c =
     let invariant = c.loop-relocation.invariant in
     let words = still_words sources.objects.now own sources.of c.args.lazy c.loop-relocation.words later c.in-Some.ensures.same invariant.words in
     let one = of_words g.E.Entry.fields sources own c.args.lazy later c.in-Some.relocation c.loop-relocation.image c.write_next.new.image _ words c.in-Err.ensures.item in
-    one_refused g.E.Entry.fields sources own c.args.lazy (words_left c.args.words) c.args.image.now (words_left c.loop-relocation.words) (words_left later) one.item c.loop-relocation.image c.loop-relocation.count
-    (c.in-Some.ensures.first ∙ ap (λ x. x ∷ words_left later) (sym one.relocation_is)) invariant.so_far one.has_word c.write_next.new.image c.in-Err.error one.answer one.same
+    one_failed g.E.Entry.fields sources own c.args.lazy (relocations_left c.args.words) c.args.image.now (relocations_left c.loop-relocation.words) (relocations_left later) one.item c.loop-relocation.image c.loop-relocation.count
+    (c.in-Some.ensures.first ∙ ap (λ x. x ∷ relocations_left later) (sym one.relocation_is)) invariant.so_far one.has_word c.write_next.new.image c.in-Err.error one.result_is one.same
 
 pub returns : goal.returns
-returns g c = all_written g.E.Entry.fields c.args.self.now c.args.own.now c.args.lazy (words_left c.args.words) c.args.image.now _ c.loop-relocation.image c.loop-relocation.count (search rules) c.loop-relocation.invariant.so_far
+returns g c = all_written g.E.Entry.fields c.args.self.now c.args.own.now c.args.lazy (relocations_left c.args.words) c.args.image.now _ c.loop-relocation.image c.loop-relocation.count (search rules) c.loop-relocation.invariant.so_far

@@ -8,8 +8,7 @@ use Rattle.elf_loading.specs.Relocate.{IsRelocationIn}
 use Rattle.elf_loading.specs.declared.error.LoadError.{LoadError}
 use Rattle.elf_loading.specs.declared.words.Binding.TheVariants.{Now}
 use Rattle.elf_loading.proofs.CheckedImages.{relocated_in}
-use Rattle.elf_loading.proofs.CheckedResults.{fault_is, left_by, ok_is, result_is}
-use Rattle.elf_loading.proofs.CheckedWritten.{written_in}
+use Rattle.elf_loading.proofs.CheckedResults.{fault_is, left_by, ok_is, result_is, written_in}
 use Rattle.elf_loading.proofs.checked.image.CheckedImage.relocate.Goals as goal
 
 pub image_error-requires : goal.image_error-requires

@@ -1,5 +1,5 @@
 use Rattle.elfload.proofs.Prefixes.{without_none, without_some}
-use Rattle.elfload.proofs.words.without.Goals as goal
+use Rattle.elfload.proofs.words.without_prefix.Goals as goal
 
 pub returns-in-Some : goal.returns-in-Some
 returns-in-Some c = without_some c.args.prefix.now c.args.text.now c.in-Some.rest.now c.in-Some.ensures.cases

@@ -1,0 +1,23 @@
+-- The types of the crates below that the definitions and lemmas of this program speak of, for import in one line.
+pub use Rattle.elf_base.specs.declared.error.ElfError.{ElfError}
+pub use Rattle.elf_linking.specs.declared.error.LinkError.{LinkError}
+pub use Rattle.elf_linking.specs.declared.object.DynamicObject.{DynamicObject}
+pub use Rattle.elf_loading.specs.declared.error.LoadError.{LoadError}
+pub use Rattle.elf_loading.specs.declared.in_order.Relocation.{Relocation}
+pub use Rattle.elf_loading.specs.declared.mapping.Contents.{Contents}
+pub use Rattle.elf_loading.specs.declared.mapping.Loader.{Loader}
+pub use Rattle.elf_loading.specs.declared.mapping.Mapping.{Mapping}
+pub use Rattle.elf_loading.specs.declared.plan.LoadPlan.{LoadPlan}
+pub use Rattle.elf_loading.specs.declared.plan.Tls.{Tls}
+pub use Rattle.elf_loading.specs.declared.span.Span.{Span}
+pub use Rattle.elf_loading.specs.declared.value.Origin.{Origin}
+pub use Rattle.elf_loading.specs.declared.value.Value.{Value}
+pub use Rattle.elf_loading.specs.declared.words.Binding.{Binding}
+pub use Rattle.elf_loading.specs.declared.words.Relocated.{Relocated}
+pub use Rattle.elf_loading.specs.declared.words.Word.{Word}
+pub use Rattle.elf_loading.specs.declared.words.Words.{Words}
+pub use Rattle.linking_programs.specs.declared.Input.{Input}
+pub use Rattle.linking_programs.specs.declared.Refused.{Refused}
+pub use Rattle.program_ends.specs.declared.Fault.{Fault}
+pub use Rattle.program_ends.specs.declared.Stop.{Stop}
+pub use Rattle.xmas_elf.specs.declared.ElfFile.{ElfFile}
