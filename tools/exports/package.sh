@@ -1,6 +1,6 @@
 #!/usr/bin/env bash
-# Writes the release folder: the static library that `rt lib` proves, its header, the Rust crate, the Python wheel and the
-# page for browsers.
+# Writes the release folder: the static library that `rt lib` proves, its header, the Rust crate, the Python wheel, the page
+# for browsers, and a Debian package with these and the programs, which `rt ci` has built before.
 #   tools/exports/package.sh [--draft] [FOLDER]    FOLDER is dist where it isn't named; what it held is gone
 # Files that aren't committed are refused but for a draft, whose checksums say so. A draft may take the library from the
 # folder that XMAS_ELF_ARCHIVE names.
@@ -34,6 +34,8 @@ fi
 export XMAS_ELF_ARCHIVE
 version="$(sed -n 's/^version = "\(.*\)"/\1/p' bindings/rust/Cargo.toml)"
 grep -qx "version = \"$version\"" bindings/python/pyproject.toml || { echo "the crate and the wheel differ in their version" >&2; exit 1; }
+grep -qx "pub const VERSION: &str = \"$version\";" crates/program_ends/src/lib.rt ||
+    { echo "the crate and the programs differ in their version" >&2; exit 1; }
 grep -qx "#define XMAS_ELF_VERSION \"$version\"" bindings/include/xmas_elf.h ||
     { echo "the crate and the header differ in their version" >&2; exit 1; }
 
@@ -64,6 +66,8 @@ if [ -z "$draft" ] || [ -n "${XMAS_ELF_MODULE:-}" ]; then
     tools/web/web.sh --build > /dev/null
     cp -r bindings/web/out/site "$dist/web"
 fi
+# A draft may be without the programs.
+if [ -z "$draft" ] || [ -x crates/elfsize/out/elfsize ]; then tools/exports/debian.py "$dist"; fi
 
 {
     echo "# version $version, commit $(git rev-parse HEAD)$draft"

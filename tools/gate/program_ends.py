@@ -9,6 +9,7 @@ other builds of them: tools/gate/program_ends.py [PROGRAM..]
 """
 import os
 import pathlib
+import re
 import resource
 import signal
 import subprocess
@@ -45,6 +46,9 @@ COUNTER, PLANS = data("elfload/data/counter"), data("elfload/stdout")
 COUNTER_PLAN = PLANS[: PLANS.index(b"library.so\n")]
 # The symbol of its slot is in the library.
 COUNTER_ALONE = COUNTER_PLAN + b"words counter\nword 0x1ff8 8 JUMP_SLOT = 0x0\n"
+
+# The version of the packages is that of the programs.
+VERSION = re.search(r'^version = "(.*)"', (TOP / "bindings/rust/Cargo.toml").read_text(), re.M)[1]
 
 # A program as LLVM builds it, and as Rattle's own compiler does.
 BUILDS = ("", ".by-rattle")
@@ -127,6 +131,7 @@ class Program:
             "an empty file": (["empty.elf", *words], path_of("empty.elf") + SHORT),
             "a refused file": (["zeros.elf", *words], path_of("zeros.elf") + NO_MAGIC)})
         self.prints({
+            "its version": ("--version", f"{name} {VERSION}\n"),
             "a good file": (good, output),
             "a good file through a pipe": (["/dev/stdin", *good[1:]], output.replace(good[0].encode(), b"/dev/stdin"))})
 
@@ -166,7 +171,10 @@ HASH_SECTIONS = "1 Ok(StrTab) = .strtab\n2 Ok(Hash) = ab\n3 Ok(SymTab) = ab\n"
 INFO.prints({
     "a file with a link": ("link.elf", report_text(DEBUG_LINK_HEADER, "ok", DEBUG_LINK_SECTIONS)),
     "a file with a hash table": ("hash.elf", report_text(HASH_HEADER, "ok", HASH_SECTIONS, "", "ok")),
-    "further arguments": ("strtab.elf missing.elf", REPORT)})
+    "further arguments": ("strtab.elf missing.elf", REPORT),
+    "help": ("--help", """usage: elfinfo <binary_path>
+Prints the header, the sections and the program headers of a file, and checks its hash table.
+""")})
 
 ASKED = data("elfsym/args").decode().split()[1:]
 SYM = Program(
@@ -189,7 +197,11 @@ SYM.prints({
     "a second at": ("linked.so ab@@V2 ab@ @V1", "ab@@V2: none\nab@: none\n@V1: none\n"),
     "a name of a file whose definitions are cut": ("cut.so ab", "ab 0x2f6 0x6\n"),
     "names of a file that needs a library": ("needs.so ab cd outer ef", "ab 0x230 0xa\ncd 0x240 0x3\nouter: none\nef 0x23a 0x6\n"),
-    "a name like an option": ("linked.so --needed", "--needed: none\n")})
+    "a name like an option": ("linked.so --needed", "--needed: none\n"),
+    "help": ("--help", f"""{SYM.usage}Prints the value and the size of the symbol that dlsym finds by each name in the dynamic segment of
+a file, and by a name and a version what dlvsym finds.
+--needed  the names of the libraries that the file needs instead
+""")})
 
 # What crates/elfaddr/data/places.s says of these addresses.
 ADDR = Program(
@@ -207,7 +219,12 @@ ADDR.prints({
     "what dladdr finds by GNU's of two tables": ("--dladdr both.so 20a 20c 20d", "outer+0x4\n.text+0x6\nalias+0x0\n"),
     "sections of other types": ("types.so 120 2c8", ".gnu.hash+0x0\n.data+0x8\n"),
     "a file without section headers": ("needs.so 230 243", "ab+0x0\n?\n"),
-    "what dladdr finds in a file without section headers": ("--dladdr needs.so 242 243", "cd+0x2\n?\n")})
+    "what dladdr finds in a file without section headers": ("--dladdr needs.so 242 243", "cd+0x2\n?\n"),
+    "help": ("--help", f"""{ADDR.usage}Prints the symbol that each address of a file is in, and the offset there; otherwise the section.
+Addresses are in hexadecimal; - reads them from standard input, one on a line.
+--dynamic  by the dynamic symbols, also if the file has a symbol table
+--dladdr   by the symbols that dladdr finds
+""")})
 ADDR.fails({"a file without symbols": ("strtab.elf 0", "strtab.elf: No dynamic segment"), **damaged("0", NEEDS_REFUSALS[:-1])})
 
 BIND = Program(

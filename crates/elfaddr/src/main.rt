@@ -18,7 +18,7 @@ ghost use Rattle.program_ends.specs.declared.Fault.{Fault};
 
 use crate::print::print_file;
 use elf_linking::LinkError;
-use program_ends::{Fault, arguments, exit_code, read_whole, say, status_of};
+use program_ends::{Fault, arguments, exit_code, read_whole, say, status_of, write_about};
 use std::alloc::Global;
 use std::convert::AsStr;
 use std::fs::File;
@@ -34,6 +34,12 @@ mod print;
 const NAME: &str = "elfaddr";
 
 const USAGE: &str = "elfaddr [--dynamic | --dladdr] <binary_path> (<address>.. | -)";
+
+const HELP: &str =
+    "Prints the symbol that each address of a file is in, and the offset there; otherwise the section.
+Addresses are in hexadecimal; - reads them from standard input, one on a line.
+--dynamic  by the dynamic symbols, also if the file has a symbol table
+--dladdr   by the symbols that dladdr finds";
 
 /// The symbols that name addresses.
 #[derive(Clone, Copy, Debug)]
@@ -148,6 +154,9 @@ fn main(rt: HostRuntime) -> ExitCode {
 // The status, or why the arguments can't be read: for want of memory, or since one is not UTF-8.
 fn run_on_arguments(rt: &HostRuntime) -> io::Result<u8> {
     let words = arguments(rt)?;
+    if write_about(NAME, USAGE, HELP, &words, &mut rt.stdout())? {
+        return Ok(0);
+    }
     let (source, words) = source_of(&words);
     match words.split_first() {
         Some((path, [word])) if word.as_str() == "-" => {

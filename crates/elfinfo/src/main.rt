@@ -9,7 +9,9 @@ ghost use Rattle.xmas_elf.specs.FileHeader.{header_of};
 ghost use Rattle.xmas_elf.specs.Report.{WritesReport};
 ghost use Rattle.xmas_elf.specs.Types.{ElfError};
 
-use program_ends::{Output, Stop, arguments, exit_code, read_whole, say, write_buffered};
+use program_ends::{
+    Output, Stop, arguments, exit_code, read_whole, say, write_about, write_buffered,
+};
 use std::alloc::Global;
 use std::fs::File;
 use std::io;
@@ -21,6 +23,11 @@ use xmas_elf::sections::{SectionData, SectionHeader, ShType};
 use xmas_elf::{ElfError, ElfFile};
 
 const NAME: &str = "elfinfo";
+
+const USAGE: &str = "elfinfo <binary_path>";
+
+const HELP: &str =
+    "Prints the header, the sections and the program headers of a file, and checks its hash table.";
 
 /// Why the program ends with status 1, and what it says then after its name. It names no path of a
 /// file with an error.
@@ -144,6 +151,9 @@ fn main(rt: HostRuntime) -> ExitCode {
 // The status, or why the arguments can't be read: for want of memory, or since one is not UTF-8.
 fn run_on_arguments(rt: &HostRuntime) -> io::Result<u8> {
     let words = arguments(rt)?;
+    if write_about(NAME, USAGE, HELP, &words, &mut rt.stdout())? {
+        return Ok(0);
+    }
     let path = words.first().map(|path| path.as_str());
     let file = path.and_then(|path| File::open(rt, path).ok());
     Ok(run(rt.alloc(), path, file, &mut rt.stdout(), &mut rt.stderr()))

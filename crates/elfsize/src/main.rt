@@ -21,7 +21,7 @@ ghost use Rattle.program_ends.specs.declared.Fault.{Fault};
 use crate::lines::{Lines, Refusal};
 use crate::sums::{Sums, input_sums};
 use crate::view::{View, read_shown};
-use program_ends::{Fault, Stop, arguments, exit_code, say, write_buffered};
+use program_ends::{Fault, Stop, arguments, exit_code, say, write_about, write_buffered};
 use std::alloc::Global;
 use std::convert::AsStr;
 use std::fs::File;
@@ -156,8 +156,7 @@ fn main(rt: HostRuntime) -> ExitCode {
 // The status, or why the arguments can't be read: for want of memory, or since one is not UTF-8.
 fn run_on_arguments(rt: &HostRuntime) -> io::Result<u8> {
     let words = arguments(rt)?;
-    if words.first().is_some_and(|word| word.as_str() == "--help") {
-        writeln!(rt.stdout(), "usage: {}\n{}", USAGE, HELP)?;
+    if write_about(NAME, USAGE, HELP, &words, &mut rt.stdout())? {
         return Ok(0);
     }
     let (view, paths) = asked(&words);

@@ -25,7 +25,7 @@ use crate::libraries::Libraries;
 use crate::lines::Lines;
 use elf_linking::LinkError;
 use program_ends::{
-    Fault, arguments, exit_code, fault_of, read_whole, say, status_of, write_buffered,
+    Fault, arguments, exit_code, fault_of, read_whole, say, status_of, write_about, write_buffered,
 };
 use std::alloc::Global;
 use std::convert::AsStr;
@@ -40,6 +40,11 @@ mod lines;
 const NAME: &str = "elfsym";
 
 const USAGE: &str = "elfsym <binary_path> <name>[@<version>].. | elfsym --needed <binary_path>";
+
+const HELP: &str =
+    "Prints the value and the size of the symbol that dlsym finds by each name in the dynamic segment of
+a file, and by a name and a version what dlvsym finds.
+--needed  the names of the libraries that the file needs instead";
 
 /// What is asked of a file.
 #[derive(Drop)]
@@ -165,6 +170,9 @@ fn main(rt: HostRuntime) -> ExitCode {
 fn run_on_arguments(rt: &HostRuntime) -> io::Result<u8> {
     let words = arguments(rt)?;
     let (mut out, mut err) = (rt.stdout(), rt.stderr());
+    if write_about(NAME, USAGE, HELP, &words, &mut out)? {
+        return Ok(0);
+    }
     let Some((path, question)) = asked(&words) else {
         return Ok(say("usage", &USAGE, &mut out));
     };
