@@ -33,7 +33,9 @@ use elf_linking::view::LinkedSymbol;
 use elf_linking::{DynamicObject, LinkError};
 use elf_loading::{Binding, LoadError};
 use linking_programs::{Input, Refused, is_first_narrow, read_inputs, read_objects, refusal};
-use program_ends::{Fault, Stop, arguments, exit_code, fault_of, say, status_of, write_buffered};
+use program_ends::{
+    Fault, Stop, arguments, exit_code, fault_of, say, status_of, write_about, write_buffered,
+};
 use std::alloc::Global;
 use std::convert::AsStr;
 use std::io;
@@ -341,8 +343,7 @@ fn main(rt: HostRuntime) -> ExitCode {
 fn run_on_arguments(rt: &HostRuntime) -> io::Result<u8> {
     let words = arguments(rt)?;
     let (mut out, mut err) = (rt.stdout(), rt.stderr());
-    if words.first().is_some_and(|word| word.as_str() == "--help") {
-        writeln!(out, "usage: {}\n{}", USAGE, HELP)?;
+    if write_about(NAME, USAGE, HELP, &words, &mut out)? {
         return Ok(0);
     }
     let Some((asked, paths)) = asked(&words) else {
