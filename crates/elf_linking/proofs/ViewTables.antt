@@ -6,7 +6,7 @@ use Rattle.std.specs.Int.{is_power_of_two}
 use Rattle.elf_base.specs.declared.bytes.Order.{Order}
 use Rattle.elf_base.specs.declared.header.numbers.Class.{Class}
 use Rattle.elf_base.specs.Number.{number}
-use Rattle.elf_linking.specs.DynamicView.{LieAsSymbols, checked, number_with}
+use Rattle.elf_linking.specs.DynamicView.{LieAsSymbols, number_with}
 use Rattle.elf_linking.specs.Layouts.{IsGnuTable, bloom_count_in, chains_in, gnu_table_of, is_known}
 use Rattle.elf_linking.specs.Loaded.{IsAt, LiesAsLoaded}
 use Rattle.elf_records.specs.declared.dynamic.Dynamic.{Dynamic}
@@ -31,11 +31,15 @@ gnu_accepted class order bytes is =
     none_holds (is_known class) (nat_lt (length bytes) 16) (is_power_of_two (bloom_count_in order bytes)) (nat_lt (length bytes) (chains_in class order bytes)) tt
     is.known (le-ltb (length bytes) 16 is.long) is.bloom (le-ltb (length bytes) (chains_in class order bytes) is.whole)
 
+-- the bytes, if they are accepted
+abbrev accepted : Class → Order → List ℕ → Result (List ℕ) LinkError
+accepted class order bytes = and_then (gnu_table_of class order bytes) (λ _. Ok bytes)
+
 -- the bytes that were found to be GNU's hash table are accepted
-pub gnu_read : (found : Result (List ℕ) LinkError) (class known : Class) (order kept : Order) (bytes held : List ℕ) → found ≡ Ok bytes → class ≡ known → order ≡ kept → IsGnuTable class order bytes → held ≡ bytes → checked (gnu_table_of known kept) found ≡ Ok held
+pub gnu_read : (found : Result (List ℕ) LinkError) (class known : Class) (order kept : Order) (bytes held : List ℕ) → found ≡ Ok bytes → class ≡ known → order ≡ kept → IsGnuTable class order bytes → held ≡ bytes → and_then found (accepted known kept) ≡ Ok held
 gnu_read found class known order kept bytes held e c o is same =
-    let here : checked (gnu_table_of class order) found ≡ Ok held = ap (checked (gnu_table_of class order)) e ∙ ap (λ test. and_then test (λ _. Ok bytes)) (gnu_accepted class order bytes is) ∙ ap (λ b. Ok b) (sym same) in
-    subst (λ k. checked (gnu_table_of k kept) found ≡ Ok held) c (subst (λ w. checked (gnu_table_of class w) found ≡ Ok held) o here)
+    let here : and_then found (accepted class order) ≡ Ok held = ap (λ read. and_then read (accepted class order)) e ∙ ap (λ test. and_then test (λ _. Ok bytes)) (gnu_accepted class order bytes is) ∙ ap (λ b. Ok b) (sym same) in
+    subst (λ k. and_then found (accepted k kept) ≡ Ok held) c (subst (λ w. and_then found (accepted class w) ≡ Ok held) o here)
 
 -- the chain count of the table that was found
 pub count_read : (found : Result (List ℕ) LinkError) (kept order : Order) (bytes : List ℕ) (n : ℕ) → found ≡ Ok bytes → kept ≡ order → n ≡ number kept 4 4 bytes → Ok n ≡ and_then found (λ own. Ok (number order 4 4 own))
