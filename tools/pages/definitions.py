@@ -163,7 +163,8 @@ class Reader:
         """The definitions that the words of a text stand for."""
         bound = re.findall(r"\{([a-z])\}", text)  # what stands for a bound, as `r` in `table_items {T} {r} table`
         own = {*re.findall(r"^  pub (\w+) :", text, re.M), *" ".join(re.findall(r"λ \(?([\w ]+)", text)).split()}  # fields and variables
-        for word in dict.fromkeys(WORD.findall(re.sub(r"--.*|///.*", "", text))):
+        text = re.sub(r"(^ +|[{;] )(\w+) = (?=[^=])", r"\1= ", re.sub(r"--.*|///.*", "", text), flags=re.M)  # but what a record gives to a field
+        for word in dict.fromkeys(WORD.findall(text)):
             first, _, member = word.partition(".")
             if first in own:
                 continue
@@ -189,6 +190,30 @@ class Reader:
         """The contract of a public call, `name` or `Type::name` of a module."""
         source = self.sources[module.split("::")[0], "::".join(module.split("::")[1:])]
         return self.contract(source, next(it for it in source.functions if it.path == f"{module}::{call}"))
+
+    def ghosts(self, source):
+        """The texts of the ghost members and fields of a source, and what their words mean."""
+        outside = "\n".join(line for line in source.lines if not line.startswith(" "))
+        for at, line in enumerate(source.lines):
+            if re.match(r"    ghost (?!use )", line):
+                block = source.block_at(at)
+                inside = "\n".join(source.lines[block.at : block.end]) if block else ""
+                end = next(it for it in range(at, len(source.lines)) if source.lines[it].endswith((";", ",", "}")))
+                yield "\n".join(source.lines[at : end + 1]), uses_in(outside + "\n" + inside)
+
+    def unreached(self, crates=LIBRARIES) -> list:
+        """The definitions in the spec files of some crates to which no contract, ghost member or ghost field leads."""
+        seen, self.types = set(), None
+        given = [self.contract(source, one)[:2] for source in self.sources.values() for one in source.functions]
+        given += [it for source in self.sources.values() for it in self.ghosts(source)]
+        left = [one for text, uses in given for one in self.used(text, uses, {})]
+        while left:
+            one = left.pop()
+            if (one.path, one.line) not in seen:
+                seen.add((one.path, one.line))
+                left += self.used_by(one)
+        files = [it for crate in crates for it in sorted((ROOT / "crates" / crate / "specs").rglob("*.antt"))]
+        return [one for file in files for name, one in self.spec(file).items() if one.name == name and (file, one.line) not in seen]
 
     def reached(self, contracts: list) -> list:
         """The definitions that the words of some contracts lead to, each behind those that it uses."""

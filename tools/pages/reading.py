@@ -5,7 +5,7 @@
     tools/pages/reading.py --check    fails where they aren't what the sources give; writes nothing
 
 Both print how many definitions the contracts of some calls lead to, and their lines, and fail where there are more than the
-call's bounds.
+call's bounds, and where no contract leads to a definition of a library's specs/.
 
 The page is written by hand but for two kinds of rooms. `<!-- read CRATE::MODULE CALL .. -->` takes the text of each definition that
 the clauses of these calls lead to (tools/pages/definitions.py), and a folded list of those that stand in a room above.
@@ -26,18 +26,18 @@ BOUNDS = {
     "xmas_elf::hash::lookup HashTable::lookup_in": (85, 290),
     "xmas_elf::hash::check HashTable::check_in": (80, 285),
     "elf_linking::gnu_hash::lookup GnuHashTable::lookup_in": (95, 295),
-    "elf_linking::object DynamicObject::read": (165, 650),
+    "elf_linking::object DynamicObject::read": (150, 600),
     "elf_linking::object DynamicObject::find": (155, 600),
-    "elf_linking::scope Scope::bind": (216, 860),
+    "elf_linking::scope Scope::bind": (210, 820),
     "elf_linking::checked CheckedObject::find": (40, 135),
     "elf_linking::checked::scope CheckedScope::bind": (65, 280),
-    "elf_linking::values value_by_name": (220, 935),
+    "elf_linking::values value_by_name": (215, 900),
     "elf_loading::plan LoadPlan::check_load": (75, 305),
     "elf_loading::bytes LoadPlan::byte_at": (56, 200),
     "elf_loading::bytes LoadPlan::fill": (51, 215),
     "elf_loading::checked::image CheckedImage::relocate": (125, 550),
     "elf_loading::checked::image CheckedImage::loads": (240, 900),
-    "elf_loading::load_scope LoadScope::words": (162, 630),
+    "elf_loading::load_scope LoadScope::words": (150, 560),
     "elf_loading::load_scope LoadScope::check_image": (378, 1450),
     "elf_loading::load_scope LoadScope::relocate": (385, 1505),
 }
@@ -87,8 +87,13 @@ def bytes_of(named: str) -> str:
 
 
 def closures() -> int:
-    """Prints the definitions and the lines of each call beside its bounds; how many calls are above theirs."""
+    """Prints the definitions and the lines of each call beside its bounds, and each definition of the libraries to which no
+    contract leads, but for the names of types that other crates import; how many calls are above their bounds, and how many
+    such definitions there are."""
     reader, above = Reader(), 0
+    for one in (it for it in reader.unreached() if it.path.name != "Types.antt"):
+        above += 1
+        print(f"{one.path.relative_to(ROOT)}:{one.line}: no contract leads to {one.name}: move it to proofs/, or delete it")
     for named, (most, most_lines) in BOUNDS.items():
         whole, call = named.split()
         found = reader.reached([reader.named(whole, call)])

@@ -8,7 +8,7 @@ use Rattle.elf_base.specs.Table.{records}
 use Rattle.elf_linking.proofs.lemmas.Objects.{class_symbols}
 use Rattle.elf_linking.specs.AnyTable.{LooksWhereBy}
 use Rattle.elf_linking.specs.DynamicView.{AreSymbols, as_link_error, dynamic_entries_of}
-use Rattle.elf_linking.specs.Find.{DynamicSymbols, IsAsked, IsDefault, IsFound, IsShown, accepted, faulty, asked_first, none_shown, one_shown, otherwise, two_shown}
+use Rattle.elf_linking.specs.Find.{DynamicSymbols, IsAsked, IsDefaultBy, IsFound, IsShown, Seeks, accepted, faulty, asked_first, none_shown, one_shown, otherwise, two_shown}
 use Rattle.elf_linking.specs.GnuHash as gnu
 use Rattle.elf_linking.specs.VersionTables.{result_map}
 use Rattle.elf_linking.specs.declared.any_table.AnyTable.{AnyTable}
@@ -76,7 +76,7 @@ module _ {E : Type 0} (file : DynamicSymbols E) (name : List ℕ) (at : ℕ × E
   is_one : (one : ℕ × E) → Stands one → Some at ≡ Some one → Stands at
   is_one one stands is = let same : one ≡ at = cc in subst Stands same stands
 
-  default_stands : (wanted : Wanted) (found : Option (ℕ × E)) → IsDefault file name wanted Any found → found ≡ Some at → Stands at
+  default_stands : (wanted : Wanted) (found : Option (ℕ × E)) → IsDefaultBy (λ P. Seeks P file name) (IsShown file name wanted Any) found → found ≡ Some at → Stands at
   default_stands wanted _ (none_shown none) is = absurd (cc)
   default_stands wanted _ (one_shown one some none) is =
       is_one one (by_table (IsShown file name wanted Any None) one file.table file.symbols.items name some.0 some.1) (sym is)

@@ -6,7 +6,7 @@ use Rattle.elf_base.specs.Refusal.{and_then}
 use Rattle.elf_base.specs.declared.bytes.Order.{Order}
 use Rattle.elf_base.specs.declared.error.ElfError.{ElfError}
 use Rattle.elf_base.specs.declared.error.ElfError.TheVariants.{ShortData}
-use Rattle.elf_linking.specs.DynamicView.{as_link_error, checked}
+use Rattle.elf_linking.specs.DynamicView.{as_link_error}
 use Rattle.elf_linking.specs.Layouts.{gnu_table_of}
 use Rattle.elf_linking.specs.LinkedSections.{gnu_hash_in}
 use Rattle.elf_linking.specs.declared.any_table.AnyTable.{AnyTable}
@@ -87,7 +87,7 @@ hash_read file header range is = by_type ((section_fields header).type_ == SHT_G
       reads = λ one reads. gnu_reads bytes one tested (subst (λ (b : Bool). IsTableIn b (class_of (file_class file.header)) (file_order file.header) bytes one) gnu reads);
     }
 
-    by_data : (found : Result (List ℕ) ElfError) → ((section_fields header).type_ == SHT_GNU_HASH) ≡ true → section_data_of file header ≡ found → gnu_range header (checked (gnu_table_of (class_of (file_class file.header)) (file_order file.header)) (as_link_error found)) ≡ Ok range → IsRead file header range
+    by_data : (found : Result (List ℕ) ElfError) → ((section_fields header).type_ == SHT_GNU_HASH) ≡ true → section_data_of file header ≡ found → gnu_range header (and_then (as_link_error found) (λ bytes. and_then (gnu_table_of (class_of (file_class file.header)) (file_order file.header) bytes) (λ _. Ok bytes))) ≡ Ok range → IsRead file header range
     by_data (Err error) gnu at same = absurd (cc)
     by_data (Ok bytes) gnu at same = by_check bytes (gnu_table_of (class_of (file_class file.header)) (file_order file.header) bytes) gnu at refl same
 

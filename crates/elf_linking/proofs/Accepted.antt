@@ -21,10 +21,10 @@ below least (Err error) = tt
 
 module _ (name : List ℕ) (hash : ℕ) (hidden : Bool) where
   -- the version has the hash number and the name
-  abbrev Bears : Option VersionEntry → Type 0
-  Bears named = (n : VersionEntry) × (named ≡ Some n) × (n.hash ≡ hash) × (n.name ≡ Ok name)
+  abbrev HasVersion : Option VersionEntry → Type 0
+  HasVersion named = (n : VersionEntry) × (named ≡ Some n) × (n.hash ≡ hash) × (n.name ≡ Ok name)
 
-  by_name : (n : VersionEntry) (read : Result (List ℕ) LinkError) → n.name ≡ read → n.hash ≡ hash → IfOk (result_map (λ other. bytes_eq other name) read) (λ held. IsTrue held ↔ Bears (Some n))
+  by_name : (n : VersionEntry) (read : Result (List ℕ) LinkError) → n.name ≡ read → n.hash ≡ hash → IfOk (result_map (λ other. bytes_eq other name) read) (λ held. IsTrue held ↔ HasVersion (Some n))
   by_name n (Ok other) is agrees = (
     λ held. (n, refl, agrees, is ∙ ap (λ t. Ok t) ((bytes_eq-Decides other name).0 held)),
     λ (m, one, hashed, named). let same_part : n ≡ m = cc in
@@ -34,11 +34,11 @@ module _ (name : List ℕ) (hash : ℕ) (hidden : Bool) where
   )
   by_name n (Err error) is agrees = tt
 
-  bears : (named : Option VersionEntry) → IfOk (is_version name hash named) (λ held. IsTrue held ↔ Bears named)
-  bears None = (λ no. absurd (cc), λ (m, one, hashed, read). absurd (cc))
-  bears (Some n) = go (eqb n.hash hash) refl (eqb_tells n.hash hash)
+  numbered : (named : Option VersionEntry) → IfOk (is_version name hash named) (λ held. IsTrue held ↔ HasVersion named)
+  numbered None = (λ no. absurd (cc), λ (m, one, hashed, read). absurd (cc))
+  numbered (Some n) = go (eqb n.hash hash) refl (eqb_tells n.hash hash)
     where
-      go : (agrees : Bool) → eqb n.hash hash ≡ agrees → ((eqb n.hash hash ≡ true) × (n.hash ≡ hash)) ⊎ ((eqb n.hash hash ≡ false) × (n.hash ≢ hash)) → IfOk (if agrees then result_map (λ other. bytes_eq other name) n.name else Ok false) (λ held. IsTrue held ↔ Bears (Some n))
+      go : (agrees : Bool) → eqb n.hash hash ≡ agrees → ((eqb n.hash hash ≡ true) × (n.hash ≡ hash)) ⊎ ((eqb n.hash hash ≡ false) × (n.hash ≢ hash)) → IfOk (if agrees then result_map (λ other. bytes_eq other name) n.name else Ok false) (λ held. IsTrue held ↔ HasVersion (Some n))
       go true is (inl (_, agrees)) = by_name n n.name refl agrees
       go true is (inr (other, _)) = absurd (cc)
       go false is (inl (other, _)) = absurd (cc)
@@ -68,7 +68,7 @@ module _ (name : List ℕ) (hash : ℕ) (hidden : Bool) where
   or_right true b is = refl
   or_right false b is = is
 
-  version_law : (version : VersionParts VersionEntry) (answer : Result Bool LinkError) → IfOk answer (λ held. IsTrue held ↔ Bears version.named) → IfOk (result_map (λ held. held || is_open hidden version) answer) (λ held. IsTrue held ↔ IsAcceptedBy name hash hidden (Some version))
+  version_law : (version : VersionParts VersionEntry) (answer : Result Bool LinkError) → IfOk answer (λ held. IsTrue held ↔ HasVersion version.named) → IfOk (result_map (λ held. held || is_open hidden version) answer) (λ held. IsTrue held ↔ IsAcceptedBy name hash hidden (Some version))
   version_law version (Ok held) law = (to, back)
     where
       to : (held || is_open hidden version) ≡ true → IsAcceptedBy name hash hidden (Some version)
@@ -85,7 +85,7 @@ module _ (name : List ℕ) (hash : ℕ) (hidden : Bool) where
 
   accepts_law : (version : Option (VersionParts VersionEntry)) → IfOk (accepts_version name hash hidden version) (λ held. IsTrue held ↔ IsAcceptedBy name hash hidden version)
   accepts_law None = (λ held. unnumbered, λ has. refl)
-  accepts_law (Some version) = version_law version (is_version name hash version.named) (bears version.named)
+  accepts_law (Some version) = version_law version (is_version name hash version.named) (numbered version.named)
 
   at_law : (read : Result (Option (VersionParts VersionEntry)) LinkError) → IfOk (and_then read (accepts_version name hash hidden)) (λ held. IsTrue held ↔ IsOkAnd read (λ version. IsAcceptedBy name hash hidden version))
   at_law (Ok version) = accepts_law version

@@ -15,7 +15,7 @@ use Rattle.elf_base.specs.Refusal.{and_then}
 use Rattle.elf_linking.specs.AnyTable.{IsGoodBy}
 use Rattle.elf_linking.specs.Checked.{accepts, default_of, found_fields, found_in, found_parts, is_candidate, is_name, is_shown, is_version_name, lacks_hash, only}
 use Rattle.elf_linking.specs.Exports.{SymbolParts, exports_of, symbol_parts, version_in, version_name}
-use Rattle.elf_linking.specs.Find.{AreReadable, DynamicSymbols, IsAsked, IsDefault, IsFound, IsShown, Seeks, accepted, accepts_version, asked_first, faulty, has_no_hash, is_below, is_by_version, is_default, is_version, none_shown, one_shown, otherwise, serves, two_shown}
+use Rattle.elf_linking.specs.Find.{AreReadable, DynamicSymbols, IsAsked, IsFound, IsShown, Seeks, accepted, accepts_version, asked_first, faulty, has_no_hash, is_below, is_by_version, is_default, is_version, none_shown, one_shown, otherwise, serves, two_shown}
 use Rattle.elf_linking.specs.VersionList.{VersionEntry, VersionList}
 use Rattle.elf_linking.specs.VersionTables.{is_hidden, result_map, version_number}
 use Rattle.elf_linking.specs.Versions.{HasReadableName, VersionParts, item_with, number_of, version_at, version_with}
@@ -23,7 +23,7 @@ use Rattle.elf_linking.specs.declared.error.LinkError.{LinkError}
 use Rattle.elf_linking.specs.declared.find.Use as uses
 use Rattle.elf_linking.specs.declared.find.Wanted.{Wanted}
 use Rattle.elf_linking.specs.declared.find.Wanted.TheVariants.{Newest, Unversioned, Version}
-use Rattle.elf_linking.proofs.Finds.{found_right}
+use Rattle.elf_linking.proofs.Finds.{IsDefault, found_right}
 use Rattle.elf_linking.proofs.ExportChains.{IsTestOf, seeks_first}
 use Rattle.elf_linking.proofs.ExportSearch.{and_true, both_true, eqb_other, eqb_same, filter-filter, find-filter, find_never, is_other, only_found, only_never}
 use Rattle.elf_linking.proofs.VersionsRead.{HasName, version_readable}

@@ -21,7 +21,6 @@ pub mod ViewTables
 pub mod SymbolCounts
 pub mod SymbolsInPlace
 pub mod SegmentSymbols
-pub mod Classes
 pub mod BuildIdSearch
 pub mod AnyTables
 pub mod VersionPlaces

@@ -5,73 +5,73 @@ use Rattle.std.proofs.lemmas.Bool.{and_parts, cases_order, eq-eqb, eqb-true, eqb
 use Rattle.std.proofs.lemmas.List.{get_or-replicate, get_or_past, get_or-set_other, get_or-set_same, length-set}
 use Rattle.elf_base.specs.Number.{number}
 use Rattle.elf_base.specs.declared.bytes.Order.{Order}
-use Rattle.elf_linking.specs.MarkedVersions.{AreMarks, bears_at, first_place, marked_at}
+use Rattle.elf_linking.specs.MarkedVersions.{AreMarks, has_number_at, first_place, marked_at}
 use Rattle.elf_linking.specs.VersionTables.{DefinitionParts, VersionRecords, definition_at, result_map, places_of, version_number}
-use Rattle.elf_linking.specs.Versions.{bears_defined, first_item}
+use Rattle.elf_linking.specs.Versions.{defines_number, first_item}
 use Rattle.elf_linking.specs.declared.error.LinkError.{LinkError}
 use Rattle.elf_linking.proofs.VersionPlaces.{more_suc, place_first}
-use Rattle.elf_linking.proofs.VersionSearch.{BearsDefined, bears_hits}
+use Rattle.elf_linking.proofs.VersionSearch.{DefinesNumber, numbered_hits}
 use Rattle.elf_linking.proofs.lemmas.FirstItems.{search_found, search_other}
 
 not_of : (a : Bool) → not a ≡ true → a ≡ false
 not_of true is = absurd (cc)
 not_of false is = refl
 
--- a definition at a place bears a number, and the first of some definitions that does so is at a place
-abbrev pub BearsAt : Order → List ℕ → ℕ → ℕ → Type 0
-BearsAt order bytes n place = (version_number (number order 2 (place + 4) bytes) ≡ n) × (number order 2 (place + 2) bytes % 2 ≢ 1)
+-- a definition at a place numbered a number, and the first of some definitions that does so is at a place
+abbrev pub HasNumberAt : Order → List ℕ → ℕ → ℕ → Type 0
+HasNumberAt order bytes n place = (version_number (number order 2 (place + 4) bytes) ≡ n) × (number order 2 (place + 2) bytes % 2 ≢ 1)
 
 pub data LeadsTo (order : Order) (bytes : List ℕ) (n : ℕ) : ℕ → ℕ → ℕ → Type 0 where
-  here : (start count : ℕ) → start + 20 ≤ length bytes → BearsAt order bytes n start → LeadsTo order bytes n start (suc count) start
-  behind : (start count place : ℕ) → start + 20 ≤ length bytes → (BearsAt order bytes n start → ⊥) → number order 4 (start + 16) bytes ≢ 0 → LeadsTo order bytes n (start + number order 4 (start + 16) bytes) count place → LeadsTo order bytes n start (suc count) place
+  here : (start count : ℕ) → start + 20 ≤ length bytes → HasNumberAt order bytes n start → LeadsTo order bytes n start (suc count) start
+  behind : (start count place : ℕ) → start + 20 ≤ length bytes → (HasNumberAt order bytes n start → ⊥) → number order 4 (start + 16) bytes ≢ 0 → LeadsTo order bytes n (start + number order 4 (start + 16) bytes) count place → LeadsTo order bytes n start (suc count) place
 
 module _ (order : Order) (bytes : List ℕ) (n : ℕ) where
-  bears_yes : (place : ℕ) → BearsAt order bytes n place → bears_at order bytes n place ≡ true
-  bears_yes place bears =
-      let one : (version_number (number order 2 (place + 4) bytes) == n) ≡ true = eq-eqb (version_number (number order 2 (place + 4) bytes)) n bears.0 in
-      let base : (number order 2 (place + 2) bytes % 2 == 1) ≡ false = ne_eqb (number order 2 (place + 2) bytes % 2) 1 bears.1 in
+  numbered_yes : (place : ℕ) → HasNumberAt order bytes n place → has_number_at order bytes n place ≡ true
+  numbered_yes place numbered =
+      let one : (version_number (number order 2 (place + 4) bytes) == n) ≡ true = eq-eqb (version_number (number order 2 (place + 4) bytes)) n numbered.0 in
+      let base : (number order 2 (place + 2) bytes % 2 == 1) ≡ false = ne_eqb (number order 2 (place + 2) bytes % 2) 1 numbered.1 in
       rw (one, base) refl
 
-  bears_hit : (place : ℕ) → bears_at order bytes n place ≡ true → BearsAt order bytes n place
-  bears_hit place is =
+  numbered_hit : (place : ℕ) → has_number_at order bytes n place ≡ true → HasNumberAt order bytes n place
+  numbered_hit place is =
       let both = and_parts (version_number (number order 2 (place + 4) bytes) == n) (not (number order 2 (place + 2) bytes % 2 == 1)) is in
       (eqb-true (version_number (number order 2 (place + 4) bytes)) n both.0, eqb-false (number order 2 (place + 2) bytes % 2) 1 (not_of (number order 2 (place + 2) bytes % 2 == 1) both.1))
 
-  bears_miss : (place : ℕ) → bears_at order bytes n place ≡ false → BearsAt order bytes n place → ⊥
-  bears_miss place is bears = let so : bears_at order bytes n place ≡ true = bears_yes place bears in cc
+  numbered_miss : (place : ℕ) → has_number_at order bytes n place ≡ false → HasNumberAt order bytes n place → ⊥
+  numbered_miss place is numbered = let so : has_number_at order bytes n place ≡ true = numbered_yes place numbered in cc
 
-  bears_never : (place : ℕ) → (BearsAt order bytes n place → ⊥) → bears_at order bytes n place ≡ false
-  bears_never place never = go (bears_at order bytes n place) refl
+  numbered_never : (place : ℕ) → (HasNumberAt order bytes n place → ⊥) → has_number_at order bytes n place ≡ false
+  numbered_never place never = go (has_number_at order bytes n place) refl
     where
-      go : (b : Bool) → bears_at order bytes n place ≡ b → bears_at order bytes n place ≡ false
-      go true is = absurd (never (bears_hit place is))
+      go : (b : Bool) → has_number_at order bytes n place ≡ b → has_number_at order bytes n place ≡ false
+      go true is = absurd (never (numbered_hit place is))
       go false is = is
 
   -- the computed place is that of the first
   leads_place : (start count place : ℕ) → LeadsTo order bytes n start count place → first_place order bytes n start count ≡ Some place
   unfolding first_place
-  leads_place start _ _ (here _ count whole bears) =
+  leads_place start _ _ (here _ count whole numbered) =
       let fits : nat_lt (length bytes) (start + 20) ≡ false = le-ltb _ _ whole in
-      let hit : bears_at order bytes n start ≡ true = bears_yes start bears in rw (fits, hit) refl
+      let hit : has_number_at order bytes n start ≡ true = numbered_yes start numbered in rw (fits, hit) refl
   leads_place start _ place (behind _ count _ whole never goes leads) =
       let fits : nat_lt (length bytes) (start + 20) ≡ false = le-ltb _ _ whole in
-      let miss : bears_at order bytes n start ≡ false = bears_never start never in
+      let miss : has_number_at order bytes n start ≡ false = numbered_never start never in
       let on : (number order 4 (start + 16) bytes == 0) ≡ false = ne_eqb (number order 4 (start + 16) bytes) 0 goes in
       let step : first_place order bytes n start (suc count) ≡ first_place order bytes n (start + number order 4 (start + 16) bytes) count = rw (fits, miss, on) refl in
       step ∙ leads_place (start + number order 4 (start + 16) bytes) count place leads
 
   module _ (start count place : ℕ) (rest : Option ℕ) (on : rest ≡ Some place → LeadsTo order bytes n (start + number order 4 (start + 16) bytes) count place) where
-    by_next : (b : Bool) → (number order 4 (start + 16) bytes == 0) ≡ b → start + 20 ≤ length bytes → (BearsAt order bytes n start → ⊥) → (if b then None else rest) ≡ Some place → LeadsTo order bytes n start (suc count) place
+    by_next : (b : Bool) → (number order 4 (start + 16) bytes == 0) ≡ b → start + 20 ≤ length bytes → (HasNumberAt order bytes n start → ⊥) → (if b then None else rest) ≡ Some place → LeadsTo order bytes n start (suc count) place
     by_next true done whole never is = absurd (cc)
     by_next false goes whole never is = behind start count place whole never (eqb-false (number order 4 (start + 16) bytes) 0 goes) (on is)
 
-    by_bears : (b : Bool) → bears_at order bytes n start ≡ b → start + 20 ≤ length bytes → (if b then Some start else (if number order 4 (start + 16) bytes == 0 then None else rest)) ≡ Some place → LeadsTo order bytes n start (suc count) place
-    by_bears true hit whole is = let same : start ≡ place = cc in subst (LeadsTo order bytes n start (suc count)) same (here start count whole (bears_hit start hit))
-    by_bears false miss whole is = by_next (number order 4 (start + 16) bytes == 0) refl whole (bears_miss start miss) is
+    by_number : (b : Bool) → has_number_at order bytes n start ≡ b → start + 20 ≤ length bytes → (if b then Some start else (if number order 4 (start + 16) bytes == 0 then None else rest)) ≡ Some place → LeadsTo order bytes n start (suc count) place
+    by_number true hit whole is = let same : start ≡ place = cc in subst (LeadsTo order bytes n start (suc count)) same (here start count whole (numbered_hit start hit))
+    by_number false miss whole is = by_next (number order 4 (start + 16) bytes == 0) refl whole (numbered_miss start miss) is
 
-    by_cut : (b : Bool) → nat_lt (length bytes) (start + 20) ≡ b → (if b then None else (if bears_at order bytes n start then Some start else (if number order 4 (start + 16) bytes == 0 then None else rest))) ≡ Some place → LeadsTo order bytes n start (suc count) place
+    by_cut : (b : Bool) → nat_lt (length bytes) (start + 20) ≡ b → (if b then None else (if has_number_at order bytes n start then Some start else (if number order 4 (start + 16) bytes == 0 then None else rest))) ≡ Some place → LeadsTo order bytes n start (suc count) place
     by_cut true cut is = absurd (cc)
-    by_cut false fits is = by_bears (bears_at order bytes n start) refl (ltb-false (length bytes) (start + 20) fits) is
+    by_cut false fits is = by_number (has_number_at order bytes n start) refl (ltb-false (length bytes) (start + 20) fits) is
 
   place_leads : (start count place : ℕ) → first_place order bytes n start count ≡ Some place → LeadsTo order bytes n start count place
   unfolding first_place
@@ -80,17 +80,17 @@ module _ (order : Order) (bytes : List ℕ) (n : ℕ) where
       by_cut start count place (first_place order bytes n (start + number order 4 (start + 16) bytes) count) (place_leads (start + number order 4 (start + 16) bytes) count place) (nat_lt (length bytes) (start + 20)) refl is
 
 -- what a test of a definition says
-bears_so : (n : ℕ) (d : DefinitionParts) → version_number d.number ≡ n → d.flags % 2 ≢ 1 → bears_defined n d ≡ true
-bears_so n d one other =
+numbered_so : (n : ℕ) (d : DefinitionParts) → version_number d.number ≡ n → d.flags % 2 ≢ 1 → defines_number n d ≡ true
+numbered_so n d one other =
     let same : (version_number d.number == n) ≡ true = eq-eqb (version_number d.number) n one in
     let base : (d.flags % 2 == 1) ≡ false = ne_eqb (d.flags % 2) 1 other in
     rw (same, base) refl
 
-bears_not : (n : ℕ) (d : DefinitionParts) → (BearsDefined n d → ⊥) → bears_defined n d ≡ false
-bears_not n d never = go (bears_defined n d) refl
+numbered_not : (n : ℕ) (d : DefinitionParts) → (DefinesNumber n d → ⊥) → defines_number n d ≡ false
+numbered_not n d never = go (defines_number n d) refl
   where
-    go : (b : Bool) → bears_defined n d ≡ b → bears_defined n d ≡ false
-    go true is = absurd (never (bears_hits n d is))
+    go : (b : Bool) → defines_number n d ≡ b → defines_number n d ≡ false
+    go true is = absurd (never (numbered_hits n d is))
     go false is = is
 
 -- the definitions lead to that which a search finds
@@ -98,16 +98,16 @@ module _ (records : VersionRecords) (n : ℕ) where
   abbrev items : ℕ → ℕ → List (Result DefinitionParts LinkError)
   items start count = map (result_map (definition_at records)) (places_of records 16 start count)
 
-  leads_first : (start count place : ℕ) → LeadsTo records.order records.bytes n start count place → first_item (bears_defined n) (items start count) ≡ Ok (Some (definition_at records place))
-  leads_first start _ _ (here _ count whole bears) =
+  leads_first : (start count place : ℕ) → LeadsTo records.order records.bytes n start count place → first_item (defines_number n) (items start count) ≡ Ok (Some (definition_at records place))
+  leads_first start _ _ (here _ count whole numbered) =
       let (rest, begins) = place_first records 16 start count (omega (arith, whole)) in
-      search_found (bears_defined n) _ (map (result_map (definition_at records)) rest) (definition_at records start) (ap (map (result_map (definition_at records))) begins) (bears_so n (definition_at records start) bears.0 bears.1)
+      search_found (defines_number n) _ (map (result_map (definition_at records)) rest) (definition_at records start) (ap (map (result_map (definition_at records))) begins) (numbered_so n (definition_at records start) numbered.0 numbered.1)
   leads_first start _ place (behind _ count _ whole never goes leads) =
-      search_other (bears_defined n) _ (items (start + number records.order 4 (start + 16) records.bytes) count) (definition_at records start) (ap (map (result_map (definition_at records))) (more_suc records 16 start count (omega (arith, whole)) goes)) (bears_not n (definition_at records start) never)
+      search_other (defines_number n) _ (items (start + number records.order 4 (start + 16) records.bytes) count) (definition_at records start) (ap (map (result_map (definition_at records))) (more_suc records 16 start count (omega (arith, whole)) goes)) (numbered_not n (definition_at records start) never)
       ∙ leads_first (start + number records.order 4 (start + 16) records.bytes) count place leads
 
 leads_whole : (order : Order) (bytes : List ℕ) (n start count place : ℕ) → LeadsTo order bytes n start count place → place + 20 ≤ length bytes
-leads_whole order bytes n start _ _ (here _ count whole bears) = whole
+leads_whole order bytes n start _ _ (here _ count whole numbered) = whole
 leads_whole order bytes n start _ place (behind _ count _ whole never goes leads) = leads_whole order bytes n (start + number order 4 (start + 16) bytes) count place leads
 
 -- what a mark says
@@ -118,7 +118,7 @@ mark_leads order bytes count n mark marks are is some =
 pub mark_whole : (order : Order) (bytes : List ℕ) (count n mark : ℕ) (marks : List ℕ) → AreMarks order bytes count marks → mark ≡ slice_index marks n → mark ≢ 0 → mark - 1 + 20 ≤ length bytes
 mark_whole order bytes count n mark marks are is some = leads_whole order bytes n 0 count (mark - 1) (mark_leads order bytes count n mark marks are is some)
 
-pub mark_first : (records : VersionRecords) (n mark : ℕ) (marks : List ℕ) → AreMarks records.order records.bytes records.count marks → mark ≡ slice_index marks n → mark ≢ 0 → Ok (Some (definition_at records (mark - 1))) ≡ first_item (bears_defined n) (map (result_map (definition_at records)) (places_of records 16 0 records.count))
+pub mark_first : (records : VersionRecords) (n mark : ℕ) (marks : List ℕ) → AreMarks records.order records.bytes records.count marks → mark ≡ slice_index marks n → mark ≢ 0 → Ok (Some (definition_at records (mark - 1))) ≡ first_item (defines_number n) (map (result_map (definition_at records)) (places_of records 16 0 records.count))
 mark_first records n mark marks are is some = sym (leads_first records n 0 records.count (mark - 1) (mark_leads records.order records.bytes records.count n mark marks are is some))
 
 -- what holds of marks in these words
@@ -218,18 +218,18 @@ module _ (order : Order) (bytes : List ℕ) (count place left : ℕ) (marks : Li
       go n some (inr (inr more)) = other n (λ same. omega (arith, more, same)) some
 
   -- a number without a mark had none before, and the definition doesn't bear it
-  none_before : (b : Bool) → is_marked ≡ b → (n : ℕ) → n < 64 → slice_index (marks_by b) n ≡ 0 → (slice_index marks n ≡ 0) × (BearsAt order bytes n place → ⊥)
+  none_before : (b : Bool) → is_marked ≡ b → (n : ℕ) → n < 64 → slice_index (marks_by b) n ≡ 0 → (slice_index marks n ≡ 0) × (HasNumberAt order bytes n place → ⊥)
   none_before false is n below none = (
     none,
-    λ bears.
-        let so : is_marked ≡ true = tests (subst (λ m. m < 64) (sym bears.0) below) (subst (λ m. slice_index marks m ≡ 0) (sym bears.0) none) bears.1 in cc,
+    λ numbered.
+        let so : is_marked ≡ true = tests (subst (λ m. m < 64) (sym numbered.0) below) (subst (λ m. slice_index marks m ≡ 0) (sym numbered.0) none) numbered.1 in cc,
   )
   none_before true is n below none = go (cases_order n num)
     where
-      unlike_by : n ≢ num → (slice_index marks n ≡ 0) × (BearsAt order bytes n place → ⊥)
-      unlike_by unlike = (sym (other_mark n unlike) ∙ none, λ bears. unlike (sym bears.0))
+      unlike_by : n ≢ num → (slice_index marks n ≡ 0) × (HasNumberAt order bytes n place → ⊥)
+      unlike_by unlike = (sym (other_mark n unlike) ∙ none, λ numbered. unlike (sym numbered.0))
 
-      go : (n ≡ num) ⊎ ((n < num) ⊎ (num < n)) → (slice_index marks n ≡ 0) × (BearsAt order bytes n place → ⊥)
+      go : (n ≡ num) ⊎ ((n < num) ⊎ (num < n)) → (slice_index marks n ≡ 0) × (HasNumberAt order bytes n place → ⊥)
       go (inl same) =
           let value : slice_index others num ≡ place + 1 = own_mark (low is) in
           let gone : slice_index others num ≡ 0 = subst (λ m. slice_index others m ≡ 0) same none in

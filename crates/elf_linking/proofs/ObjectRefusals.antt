@@ -1,9 +1,9 @@
 -- A file is read as one value with its dynamic symbols, or refused, in one way only.
-use Rattle.std.proofs.Common.{◌≡◌, ◌/◌, ℕ, List, length, Result, Ok, Err, refl, sym, ap, ◌∙◌, subst}
+use Rattle.std.proofs.Common.{◌≡◌, ◌/◌, ℕ, List, length, None, Result, Ok, Err, refl, sym, ap, ◌∙◌, subst}
 use Rattle.elf_base.specs.Refusal.{and_then}
 use Rattle.elf_linking.proofs.SymbolCounts.{symbols_once}
 use Rattle.elf_linking.specs.AnyTable.{IsLinkedTable, by_gnu, by_hash, no_gnu, no_hash}
-use Rattle.elf_linking.specs.DynamicObject.{AreOfClass, IsObjectRefused, no_entries, no_strings, no_symbols, no_table, no_versions, other_class, same_class}
+use Rattle.elf_linking.specs.DynamicObject.{AreOfClassFor, IsObjectRefused, no_entries, no_strings, no_symbols, no_table, no_versions, other_class, same_class}
 use Rattle.elf_linking.specs.DynamicView.{dynamic_entries_of, strings_by}
 use Rattle.elf_linking.specs.VersionTables.{VersionTables, version_tables_of}
 use Rattle.elf_linking.specs.declared.any_table.AnyTable.{AnyTable}
@@ -23,7 +23,7 @@ table_once file entries error _ (no_hash _ none refused) (no_gnu b other some ag
 table_once file entries error _ (no_hash _ none refused) (no_hash other same again) = cc
 
 -- there is only one result for the symbols
-class_once : (class size : ℕ) (file : ElfFile) (entries : List (Dynamic ℕ)) (one other : Result (List ℕ) LinkError) → AreOfClass class size file entries one → AreOfClass class size file entries other → one ≡ other
+class_once : (class size : ℕ) (file : ElfFile) (entries : List (Dynamic ℕ)) (one other : Result (List ℕ) LinkError) → AreOfClassFor None class size file entries one → AreOfClassFor None class size file entries other → one ≡ other
 class_once class size file entries one other (same_class _ same are) (same_class _ again too) = symbols_once file entries size one other are too
 class_once class size file entries _ _ (same_class _ same are) (other_class different) = absurd (different same)
 class_once class size file entries _ _ (other_class different) (same_class _ same are) = absurd (different same)
@@ -40,7 +40,7 @@ with_strings size file entries bytes strings =
 -- how the reading of a file with these entries ends
 data Ends (class size : ℕ) (file : ElfFile) (entries : List (Dynamic ℕ)) : Result (Unit {0}) LinkError → Type 0 where
   at_table : (error : LinkError) → IsLinkedTable file entries (Err error) → Ends class size file entries (Err error)
-  at_symbols : (table : AnyTable) (bytes : Result (List ℕ) LinkError) (answer : Result (Unit {0}) LinkError) → IsLinkedTable file entries (Ok table) → AreOfClass class size file entries bytes
+  at_symbols : (table : AnyTable) (bytes : Result (List ℕ) LinkError) (answer : Result (Unit {0}) LinkError) → IsLinkedTable file entries (Ok table) → AreOfClassFor None class size file entries bytes
       → and_then bytes (λ b. with_strings size file entries b (strings_by file entries)) ≡ answer → Ends class size file entries answer
 
 ends_once : (class size : ℕ) (file : ElfFile) (entries : List (Dynamic ℕ)) (one other : Result (Unit {0}) LinkError) → Ends class size file entries one → Ends class size file entries other → one ≡ other
@@ -86,7 +86,7 @@ refused_once class size file one other is again = by_entries (dynamic_entries_of
 
 -- a file of which all parts were read is not refused
 pub all_read : (class size : ℕ) (file : ElfFile) (entries : List (Dynamic ℕ)) (table : AnyTable) (bytes text : List ℕ) (tables : VersionTables) (error : LinkError) → dynamic_entries_of file ≡ Ok entries → IsLinkedTable file entries (Ok table)
-    → AreOfClass class size file entries (Ok bytes) → strings_by file entries ≡ Ok text → version_tables_of file entries (Ok text) (length bytes / size) ≡ Ok tables → IsObjectRefused class size file error → ⊥
+    → AreOfClassFor None class size file entries (Ok bytes) → strings_by file entries ≡ Ok text → version_tables_of file entries (Ok text) (length bytes / size) ≡ Ok tables → IsObjectRefused class size file error → ⊥
 all_read class size file entries table bytes text tables error read linked are found versions refused =
     let whole : Ends class size file entries (Ok tt) = at_symbols table (Ok bytes) (Ok tt) linked are (ap (with_strings size file entries bytes) found ∙ ap with_tables versions) in
     let both : ◌≡◌ {A = Result (Unit {0}) LinkError} (Ok tt) (Err error) = ends_once class size file entries (Ok tt) (Err error) whole (refused_ends class size file entries error read refused) in cc

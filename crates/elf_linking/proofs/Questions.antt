@@ -5,7 +5,7 @@ use Rattle.std.proofs.lemmas.Option.{slice_get_within}
 use Rattle.elf_base.specs.Refusal.{and_then}
 use Rattle.elf_base.specs.Table.{table_items}
 use Rattle.elf_linking.specs.DynamicObject.{object_dynamic_symbols, object_machine, object_name, object_records, object_versions}
-use Rattle.elf_linking.specs.Find.{AreReadable, DynamicSymbols, IsDefault, IsFound, asked_first, faulty, none_shown, one_shown, otherwise, two_shown}
+use Rattle.elf_linking.specs.Find.{AreReadable, DynamicSymbols, IsFound, asked_first, faulty, none_shown, one_shown, otherwise, two_shown}
 use Rattle.elf_linking.specs.RelocationTypes.{row_of}
 use Rattle.elf_linking.specs.Scope.{asked_of, asked_with, binds_to_itself, if_protected, text_alone, wanted_by, wanted_of, wanted_parts}
 use Rattle.elf_linking.specs.VersionTables.{result_map}
@@ -19,6 +19,7 @@ use Rattle.elf_linking.specs.declared.object.DynamicObject.{DynamicObject}
 use Rattle.elf_linking.specs.declared.references.Reference.{Reference}
 use Rattle.elf_linking.specs.declared.scope.asking.Asked.{Asked}
 use Rattle.elf_linking.specs.declared.scope.asking.Asked.TheVariants.{Look, Own}
+use Rattle.elf_linking.proofs.Finds.{IsDefault}
 use Rattle.elf_linking.proofs.VersionsRead.{HasName, item_ok, version_read}
 use Rattle.xmas_elf.specs.Symbol.{SymbolFields}
 

@@ -1,17 +1,22 @@
 -- The first object that gives a symbol or an error, object by object; and what an object gives, by what a search in it
 -- finds.
-use Rattle.std.proofs.Common.{◌≡◌, ◌<◌, ℕ, ◌⊎◌, inl, inr, Bool, true, false, List, Option, Some, None, Result, Ok, Err, IsSomeAnd, MatchOption, slice_get, refl, sym, ap, subst, ◌∙◌, if◌then◌else◌}
+use Rattle.std.proofs.Common.{◌≡◌, ◌<◌, ℕ, ◌⊎◌, inl, inr, Bool, true, false, List, Option, Some, None, Result, Ok, Err, MatchOption, length, slice_get, refl, sym, ap, subst, ◌∙◌, if◌then◌else◌}
 use Rattle.std.proofs.lemmas.Bool.{cases_eq}
 use Rattle.std.proofs.lemmas.Option.{slice_get-get_or}
 use Rattle.std.specs.Borrow.{Bor}
 use Rattle.std.specs.Slice.{IsItemAt}
+use Rattle.elf_linking.specs.DynamicObject.{object_view}
+use Rattle.elf_linking.specs.DynamicView.{is_symbolic, view_entries}
 use Rattle.elf_linking.specs.Find.{DynamicSymbols}
-use Rattle.elf_linking.specs.Scope.{Gives, GivesAt, IsFirstGiven, NoneBefore, asked, fails, given, is_passed_over, lacks, nowhere, passed_over, refused, serves, serves_none}
+use Rattle.elf_linking.specs.Scope.{Gives, GivesAt, IsBoundBy, IsFirstGiven, NoneBefore, asked, fails, given, is_passed_over, lacks, nowhere, passed_over, refused, serves, serves_none, symbols_at}
 use Rattle.elf_linking.specs.Serves.{if_serving, serves_others}
 use Rattle.elf_linking.specs.VersionTables.{result_map}
 use Rattle.elf_linking.specs.declared.error.LinkError.{LinkError}
 use Rattle.elf_linking.specs.declared.find.Use as uses
+use Rattle.elf_linking.specs.declared.find.Wanted.{Wanted}
+use Rattle.elf_linking.specs.declared.object.DynamicObject.{DynamicObject}
 use Rattle.elf_linking.specs.declared.scope.Bound.{Bound}
+use Rattle.xmas_elf.specs.Symbol.{SymbolFields}
 
 -- what an object gives, as it is returned
 abbrev pub at_object : {E : Type 0} → ℕ → Result (Option (ℕ × E)) LinkError → Result (Option (Bound E)) LinkError
@@ -64,14 +69,14 @@ module _ {E : Type 0} (Finds : DynamicSymbols E → Result (Option (ℕ × E)) L
   gives_found (Err error) finds = fails error finds
 
 -- what the object at an index gives
-module _ {E : Type 0} (objects : ℕ → Option (DynamicSymbols E)) (purpose : uses.Use) (index : ℕ) where
+module _ {E : Type 0} {r : _} (Finds : DynamicSymbols E → List ℕ → Wanted → uses.Use → Result (Option (ℕ × E)) LinkError → Type 0) (fields : E → SymbolFields) (objects : List (DynamicObject E r)) (name : List ℕ) (wanted : Wanted) (purpose : uses.Use) (index : ℕ) where
   -- nothing, if it is passed over
-  pub over : (Finds : DynamicSymbols E → Result (Option (ℕ × E)) LinkError → Type 0) → is_passed_over purpose index ≡ true → GivesAt Finds objects purpose index (Ok None)
-  over Finds is = passed_over is
+  pub over : is_passed_over purpose index ≡ true → GivesAt Finds fields objects name wanted purpose index (Ok None)
+  over is = passed_over is
 
   -- otherwise what a search finds, if that serves
-  pub gives_at : (Finds : DynamicSymbols E → Result (Option (ℕ × E)) LinkError → Type 0) → is_passed_over purpose index ≡ false → (file : DynamicSymbols E) → objects index ≡ Some file → (found answer : Result (Option (ℕ × E)) LinkError) → answer ≡ result_map (if_serving file.symbols.fields) found → Finds file found → GivesAt Finds objects purpose index answer
-  gives_at Finds not file there found answer is finds = asked file answer not there (subst (Gives Finds file) (sym is) (gives_found Finds file found finds))
+  pub gives_at : is_passed_over purpose index ≡ false → (file : DynamicSymbols E) → symbols_at fields objects index ≡ Some file → (found answer : Result (Option (ℕ × E)) LinkError) → answer ≡ result_map (if_serving file.symbols.fields) found → Finds file name wanted purpose found → GivesAt Finds fields objects name wanted purpose index answer
+  gives_at not file there found answer is finds = asked file answer not there (subst (Gives (λ one. Finds one name wanted purpose) file) (sym is) (gives_found (λ one. Finds one name wanted purpose) file found finds))
 
 -- the item of a slice that was lent
 pub item_is : {X : Type 0} (xs : List X) (i : ℕ) (lent : Option (Bor X)) (x : Bor X) → IsItemAt xs i lent → lent ≡ Some x → slice_get xs i ≡ Some x.now
@@ -88,20 +93,17 @@ pub match_so : {A : Type 0} (N : Type 0) (P Q : A → Type 0) (o : Option A) →
 match_so N P Q None so m = m
 match_so N P Q (Some x) so m = so x m
 
-pub some_and : {A : Type 0} (P : A → Type 0) (o : Option A) (x : A) → o ≡ Some x → P x → IsSomeAnd o P
-some_and P o x is p = subst (λ o. IsSomeAnd o P) (sym is) p
+-- if a search in a file is one in other words, so is what the objects give
+module _ {E : Type 0} {r : _} (Finds Others : DynamicSymbols E → List ℕ → Wanted → uses.Use → Result (Option (ℕ × E)) LinkError → Type 0) (fields : E → SymbolFields) (objects : List (DynamicObject E r)) (name : List ℕ) (wanted other : Wanted) (purpose : uses.Use) (so : (i : ℕ) (file : DynamicSymbols E) → symbols_at fields objects i ≡ Some file → (answer : Result (Option (ℕ × E)) LinkError) → Finds file name wanted purpose answer → Others file name other purpose answer) where
+  gives_other : (file : DynamicSymbols E) → ((answer : Result (Option (ℕ × E)) LinkError) → Finds file name wanted purpose answer → Others file name other purpose answer) → (answer : Result (Option (ℕ × E)) LinkError) → Gives (λ one. Finds one name wanted purpose) file answer → Gives (λ one. Others one name other purpose) file answer
+  gives_other file here _ (serves at finds is) = serves at (here (Ok (Some at)) finds) is
+  gives_other file here _ (serves_none at finds is) = serves_none at (here (Ok (Some at)) finds) is
+  gives_other file here _ (lacks finds) = lacks (here (Ok None) finds)
+  gives_other file here _ (fails error finds) = fails error (here (Err error) finds)
 
-pub and_some : {A : Type 0} (P : A → Type 0) (o : Option A) (x : A) → o ≡ Some x → IsSomeAnd o P → P x
-and_some P o x is s = subst (λ o. IsSomeAnd o P) is s
+  gives_so : (i : ℕ) (answer : Result (Option (ℕ × E)) LinkError) → GivesAt Finds fields objects name wanted purpose i answer → GivesAt Others fields objects name other purpose i answer
+  gives_so i _ (passed_over is) = passed_over is
+  gives_so i _ (asked file answer not there gives) = asked file answer not there (gives_other file (so i file there) answer gives)
 
--- if a search in a file is one in other words, so is what an object gives
-module _ {E : Type 0} (Finds Others : DynamicSymbols E → Result (Option (ℕ × E)) LinkError → Type 0) (objects : ℕ → Option (DynamicSymbols E)) (purpose : uses.Use) where
-  other : (file : DynamicSymbols E) → ((answer : Result (Option (ℕ × E)) LinkError) → Finds file answer → Others file answer) → (answer : Result (Option (ℕ × E)) LinkError) → Gives Finds file answer → Gives Others file answer
-  other file so _ (serves at finds is) = serves at (so (Ok (Some at)) finds) is
-  other file so _ (serves_none at finds is) = serves_none at (so (Ok (Some at)) finds) is
-  other file so _ (lacks finds) = lacks (so (Ok None) finds)
-  other file so _ (fails error finds) = fails error (so (Err error) finds)
-
-  pub gives_so : ((i : ℕ) (file : DynamicSymbols E) → objects i ≡ Some file → (answer : Result (Option (ℕ × E)) LinkError) → Finds file answer → Others file answer) → (i : ℕ) (answer : Result (Option (ℕ × E)) LinkError) → GivesAt Finds objects purpose i answer → GivesAt Others objects purpose i answer
-  gives_so so i _ (passed_over is) = passed_over is
-  gives_so so i _ (asked file answer not there gives) = asked file answer not there (other file (so i file there) answer gives)
+  pub bound_so : (from : ℕ) (answer : Result (Option (Bound E)) LinkError) → IsBoundBy Finds fields objects from name wanted purpose answer → IsBoundBy Others fields objects from name other purpose answer
+  bound_so from answer first = match_so _ _ _ (slice_get objects from) (λ asking is. first_so (GivesAt Finds fields objects name wanted purpose) (GivesAt Others fields objects name other purpose) (length objects) (is_symbolic (view_entries (object_view asking))) from gives_so answer is) first

@@ -4,7 +4,7 @@ use Rattle.std.specs.Prelude.{nat_lt, not}
 use Rattle.std.proofs.lemmas.Bool.{eq-eqb, eqb-true, eqb-false, ne_eqb, lt-ltb, le-ltb, ltb-true, ltb-false}
 use Rattle.elf_linking.specs.declared.error.LinkError.{LinkError}
 use Rattle.elf_linking.specs.declared.error.LinkError.TheVariants.{ShortVersion}
-use Rattle.elf_linking.specs.VersionTables.{AreChained, none, last, more, ArePlaces, VersionRecords, field, goes_on, is_cut, places_of, refusal_at_end}
+use Rattle.elf_linking.specs.VersionTables.{AreChained, none, last, more, ArePlaces, VersionRecords, field, goes_on, is_cut, places_of, error_at_end}
 
 -- no records are left
 pub places_end : (records : VersionRecords) (offset start count : ℕ) → count ≡ 0 → places_of records offset start count ≡ []
@@ -108,7 +108,7 @@ are_by records offset start count true done items cut is rest =
     let short = ltb-true (length records.bytes) (start + offset + 4) cut in record {
       places = [];
       longest = record { chained = none start; few = omega arith; longest = λ others chained few. no_longer records offset start short others chained };
-      items_are = ap (λ b. refusal_at_end (b && true)) (sym (lt-ltb 0 (suc count) (omega arith)));
+      items_are = ap (λ b. error_at_end (b && true)) (sym (lt-ltb 0 (suc count) (omega arith)));
     }
 are_by records offset start count false true items cut is rest =
     let whole = ltb-false (length records.bytes) (start + offset + 4) cut in
@@ -129,7 +129,7 @@ are_by records offset start count false false items cut is rest =
         longest = more_longest records offset start count (length rest.places) longest.longest;
       };
       items_are = ap (λ others. Ok start ∷ others) (rest.items_are
-          ∙ ap (λ b. map (λ place. Ok place) rest.places ++ refusal_at_end b) (sym (same_test records offset start count rest.places is)));
+          ∙ ap (λ b. map (λ place. Ok place) rest.places ++ error_at_end b) (sym (same_test records offset start count rest.places is)));
     }
 
 pub places_are : (records : VersionRecords) (offset start count : ℕ) → ArePlaces records offset start count (places_of records offset start count)

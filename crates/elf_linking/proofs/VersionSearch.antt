@@ -13,21 +13,21 @@ use Rattle.elf_linking.specs.declared.error.LinkError.{LinkError}
 use Rattle.elf_linking.specs.declared.error.LinkError.TheVariants.{SymbolIndex}
 use Rattle.elf_linking.specs.VersionList.{Defined, NamedParts, Needed, VersionEntry, VersionList, entry_of, named_in, numbers_in, versions_in}
 use Rattle.elf_linking.specs.VersionTables.{DefinitionParts, VersionTables, definitions_in, is_hidden, result_map, needs_in, version_number}
-use Rattle.elf_linking.specs.Versions.{IsNamed, IsVersion, VersionParts, bears_defined, bears_needed, entry_item, first, first_item, item_with, named_at, no_number, no_numbers, number_of, reserved, unreadable, version, version_at, version_item, version_with, with_named}
+use Rattle.elf_linking.specs.Versions.{IsEntryWith, IsVersion, VersionParts, defines_number, needs_number, entry_item, first, first_item, item_with, named_at, no_number, no_numbers, number_of, reserved, unreadable, version, version_at, version_item, version_with, with_named}
 use Rattle.elf_linking.specs.declared.versions.symbol.SymbolVersion.{SymbolVersion}
 use Rattle.elf_linking.proofs.lemmas.FirstItems.{first_is}
 
 -- a definition that is not the base has a number, in bits 0 to 14 of its own
-abbrev pub BearsDefined : ℕ → DefinitionParts → Type 0
-BearsDefined n d = (version_number d.number ≡ n) × (d.flags % 2 ≡ 1 → ⊥)
+abbrev pub DefinesNumber : ℕ → DefinitionParts → Type 0
+DefinesNumber n d = (version_number d.number ≡ n) × (d.flags % 2 ≡ 1 → ⊥)
 
 both_of : (one base : Bool) → (one && not base) ≡ true → (one ≡ true) × (base ≡ false)
 both_of true false is = (refl, refl)
 both_of true true is = cc
 both_of false base is = cc
 
-pub bears_hits : (n : ℕ) (d : DefinitionParts) → bears_defined n d ≡ true → BearsDefined n d
-bears_hits n d is =
+pub numbered_hits : (n : ℕ) (d : DefinitionParts) → defines_number n d ≡ true → DefinesNumber n d
+numbered_hits n d is =
     let both = both_of (version_number d.number == n) (d.flags % 2 == 1) is in
     (eqb-true (version_number d.number) n both.0, λ base. let no : (d.flags % 2 == 1) ≡ true = eq-eqb (d.flags % 2) 1 base in let other = both.1 in cc)
 
@@ -78,7 +78,7 @@ number_named named = (entry_of named).number
 
 -- from 2 on, what has a number is the first definition that isn't the base, otherwise the first part of a need
 module _ (tables : VersionTables) (n : ℕ) (above : 2 ≤ n) where
-  same_test : (d : DefinitionParts) → (number_named (Defined d) == n) ≡ bears_defined n d
+  same_test : (d : DefinitionParts) → (number_named (Defined d) == n) ≡ defines_number n d
   same_test d = by (d.flags % 2 == 1) (version_number d.number == n) refl
     where
       none : (0 == n) ≡ false
@@ -90,41 +90,41 @@ module _ (tables : VersionTables) (n : ℕ) (above : 2 ≤ n) where
       by false true is = is
       by false false is = is
 
-  defined : first_item (λ named. number_named named == n) (map (result_map Defined) (definitions_in tables.definitions)) ≡ result_map (option_map Defined) (first_item (bears_defined n) (definitions_in tables.definitions))
+  defined : first_item (λ named. number_named named == n) (map (result_map Defined) (definitions_in tables.definitions)) ≡ result_map (option_map Defined) (first_item (defines_number n) (definitions_in tables.definitions))
   defined =
       first_made Defined (λ named. number_named named == n) (definitions_in tables.definitions)
-      ∙ ap (result_map (option_map Defined)) (first_same (λ d. number_named (Defined d) == n) (bears_defined n) (definitions_in tables.definitions) same_test)
+      ∙ ap (result_map (option_map Defined)) (first_same (λ d. number_named (Defined d) == n) (defines_number n) (definitions_in tables.definitions) same_test)
 
-  needed : first_item (λ named. number_named named == n) (map (result_map Needed) (needs_in tables.needs)) ≡ result_map (option_map Needed) (first_item (bears_needed n) (needs_in tables.needs))
+  needed : first_item (λ named. number_named named == n) (map (result_map Needed) (needs_in tables.needs)) ≡ result_map (option_map Needed) (first_item (needs_number n) (needs_in tables.needs))
   needed = first_made Needed (λ named. number_named named == n) (needs_in tables.needs)
 
-  searched : item_with number_named (named_in tables) n ≡ or_else (λ named. number_named named == n) (result_map (option_map Defined) (first_item (bears_defined n) (definitions_in tables.definitions))) (result_map (option_map Needed) (first_item (bears_needed n) (needs_in tables.needs)))
+  searched : item_with number_named (named_in tables) n ≡ or_else (λ named. number_named named == n) (result_map (option_map Defined) (first_item (defines_number n) (definitions_in tables.definitions))) (result_map (option_map Needed) (first_item (needs_number n) (needs_in tables.needs)))
   searched =
       let high : nat_lt n 2 ≡ false = le-ltb n 2 above in
       let all : item_with number_named (named_in tables) n ≡ first_item (λ named. number_named named == n) (named_in tables) = rw high refl in
       all ∙ first_behind (λ named. number_named named == n) (map (result_map Defined) (definitions_in tables.definitions)) (map (result_map Needed) (needs_in tables.needs))
       ∙ ap (λ found. or_else (λ named. number_named named == n) found (first_item (λ named. number_named named == n) (map (result_map Needed) (needs_in tables.needs)))) defined
-      ∙ ap (or_else (λ named. number_named named == n) (result_map (option_map Defined) (first_item (bears_defined n) (definitions_in tables.definitions)))) needed
+      ∙ ap (or_else (λ named. number_named named == n) (result_map (option_map Defined) (first_item (defines_number n) (definitions_in tables.definitions)))) needed
 
 -- the same as a search of the definitions, and of the needs after it
 abbrev or_needed : VersionTables → ℕ → Option DefinitionParts → Result (Option NamedParts) LinkError
 or_needed tables n (Some d) = Ok (Some (Defined d))
-or_needed tables n None = result_map (option_map Needed) (first_item (bears_needed n) (needs_in tables.needs))
+or_needed tables n None = result_map (option_map Needed) (first_item (needs_number n) (needs_in tables.needs))
 
 abbrev pub named_of : VersionTables → ℕ → Result (Option NamedParts) LinkError
-named_of tables n = if nat_lt n 2 then Ok None else and_then (first_item (bears_defined n) (definitions_in tables.definitions)) (or_needed tables n)
+named_of tables n = if nat_lt n 2 then Ok None else and_then (first_item (defines_number n) (definitions_in tables.definitions)) (or_needed tables n)
 
 pub named_so : (tables : VersionTables) (n : ℕ) (answer : Result (Option NamedParts) LinkError) → answer ≡ named_of tables n → answer ≡ item_with number_named (named_in tables) n
 named_so tables n answer is = is ∙ by (nat_lt n 2) refl
   where
-    behind : (found : Result (Option DefinitionParts) LinkError) → and_then found (or_needed tables n) ≡ or_else (λ named. number_named named == n) (result_map (option_map Defined) found) (result_map (option_map Needed) (first_item (bears_needed n) (needs_in tables.needs)))
+    behind : (found : Result (Option DefinitionParts) LinkError) → and_then found (or_needed tables n) ≡ or_else (λ named. number_named named == n) (result_map (option_map Defined) found) (result_map (option_map Needed) (first_item (needs_number n) (needs_in tables.needs)))
     behind (Ok None) = refl
     behind (Ok (Some d)) = refl
     behind (Err error) = refl
 
-    by : (low : Bool) → nat_lt n 2 ≡ low → (if low then Ok None else and_then (first_item (bears_defined n) (definitions_in tables.definitions)) (or_needed tables n)) ≡ item_with number_named (named_in tables) n
+    by : (low : Bool) → nat_lt n 2 ≡ low → (if low then Ok None else and_then (first_item (defines_number n) (definitions_in tables.definitions)) (or_needed tables n)) ≡ item_with number_named (named_in tables) n
     by true low = rw low refl
-    by false high = behind (first_item (bears_defined n) (definitions_in tables.definitions)) ∙ sym (searched tables n (ltb-false n 2 high))
+    by false high = behind (first_item (defines_number n) (definitions_in tables.definitions)) ∙ sym (searched tables n (ltb-false n 2 high))
 
 -- the version by what is made of items
 module _ {A B : Type 0} (make : A → B) (of : B → ℕ) (items : List (Result A LinkError)) where
@@ -163,16 +163,16 @@ module _ (list : VersionList) where
   misses : (n : ℕ) (entry : VersionEntry) → (entry.number == n) ≡ false → Has n entry → ⊥
   misses n entry is holds = eqb-false entry.number n is holds
 
-  named_is : (n : ℕ) → IsNamed list.entries n (item_with (λ entry. entry.number) list.entries n)
+  named_is : (n : ℕ) → IsEntryWith list.entries n (item_with (λ entry. entry.number) list.entries n)
   named_is n = by (nat_lt n 2) refl
     where
-      by : (low : Bool) → nat_lt n 2 ≡ low → IsNamed list.entries n (if low then Ok None else first_item (λ entry. entry.number == n) list.entries)
+      by : (low : Bool) → nat_lt n 2 ≡ low → IsEntryWith list.entries n (if low then Ok None else first_item (λ entry. entry.number == n) list.entries)
       by true is = reserved (ltb-true n 2 is)
       by false is =
           first (first_item (λ entry. entry.number == n) list.entries) (ltb-false n 2 is)
           (first_is (Has n) (λ entry. entry.number == n) (λ entry same. eqb-true entry.number n same) (misses n) list.entries)
 
-  by_named : (index raw : ℕ) (answer : Result (Option VersionEntry) LinkError) → number_of list.numbers index ≡ Ok (Some raw) → IsNamed list.entries (version_number raw) answer
+  by_named : (index raw : ℕ) (answer : Result (Option VersionEntry) LinkError) → number_of list.numbers index ≡ Ok (Some raw) → IsEntryWith list.entries (version_number raw) answer
       → IsVersion list index (result_map (λ named. Some (record { number = version_number raw; hidden = is_hidden raw; named = named })) answer)
   by_named index raw (Ok named) is has = version raw named is has
   by_named index raw (Err error) is has = unreadable raw error is has

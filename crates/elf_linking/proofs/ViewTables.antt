@@ -1,16 +1,13 @@
 -- The hash tables of a dynamic segment, and the calls that read them.
-use Rattle.std.proofs.Common.{◌≡◌, ℕ, ◌+◌, ◌*◌, ◌%◌, ◌<◌, arith, nat_lt, not, Bool, true, false, Bor, List, [], ◌∷◌, length, Some, Result, Ok, Err, IfOk, refl, sym, ap, ◌∙◌, subst}
+use Rattle.std.proofs.Common.{◌≡◌, ℕ, ◌+◌, ◌*◌, ◌%◌, ◌<◌, arith, nat_lt, not, Bool, true, false, Bor, List, [], ◌∷◌, length, Result, Ok, Err, IfOk, refl, sym, ap, ◌∙◌}
 use Rattle.std.proofs.lemmas.Bool.{le-ltb}
 use Rattle.std.proofs.lemmas.Nat.{mod-mul-add}
 use Rattle.std.specs.Int.{is_power_of_two}
 use Rattle.elf_base.specs.declared.bytes.Order.{Order}
 use Rattle.elf_base.specs.declared.header.numbers.Class.{Class}
 use Rattle.elf_base.specs.Number.{number}
-use Rattle.elf_linking.specs.DynamicView.{LieAsSymbols, checked, number_with}
 use Rattle.elf_linking.specs.Layouts.{IsGnuTable, bloom_count_in, chains_in, gnu_table_of, is_known}
-use Rattle.elf_linking.specs.Loaded.{IsAt, LiesAsLoaded}
-use Rattle.elf_records.specs.declared.dynamic.Dynamic.{Dynamic}
-use Rattle.elf_linking.specs.declared.view.tags.TheConstants.{DT_SYMTAB}
+use Rattle.elf_linking.specs.Loaded.{IsAt}
 use Rattle.elf_base.specs.Refusal.{and_then, unless}
 use Rattle.elf_linking.specs.declared.error.LinkError.{LinkError}
 use Rattle.elf_linking.specs.declared.error.LinkError.TheVariants.{BloomCount, ShortTable, UnknownClass}
@@ -31,12 +28,6 @@ gnu_accepted class order bytes is =
     none_holds (is_known class) (nat_lt (length bytes) 16) (is_power_of_two (bloom_count_in order bytes)) (nat_lt (length bytes) (chains_in class order bytes)) tt
     is.known (le-ltb (length bytes) 16 is.long) is.bloom (le-ltb (length bytes) (chains_in class order bytes) is.whole)
 
--- the bytes that were found to be GNU's hash table are accepted
-pub gnu_read : (found : Result (List ℕ) LinkError) (class known : Class) (order kept : Order) (bytes held : List ℕ) → found ≡ Ok bytes → class ≡ known → order ≡ kept → IsGnuTable class order bytes → held ≡ bytes → checked (gnu_table_of known kept) found ≡ Ok held
-gnu_read found class known order kept bytes held e c o is same =
-    let here : checked (gnu_table_of class order) found ≡ Ok held = ap (checked (gnu_table_of class order)) e ∙ ap (λ test. and_then test (λ _. Ok bytes)) (gnu_accepted class order bytes is) ∙ ap (λ b. Ok b) (sym same) in
-    subst (λ k. checked (gnu_table_of k kept) found ≡ Ok held) c (subst (λ w. checked (gnu_table_of class w) found ≡ Ok held) o here)
-
 -- the chain count of the table that was found
 pub count_read : (found : Result (List ℕ) LinkError) (kept order : Order) (bytes : List ℕ) (n : ℕ) → found ≡ Ok bytes → kept ≡ order → n ≡ number kept 4 4 bytes → Ok n ≡ and_then found (λ own. Ok (number order 4 4 own))
 count_read found kept order bytes n e same is = ap (λ m. Ok m) (is ∙ ap (λ w. number w 4 4 bytes) same) ∙ sym (ap (λ r. and_then r (λ own. Ok (number order 4 4 own))) e)
@@ -48,9 +39,3 @@ whole_at file address count size above (Ok part) is =
     let none : bytes ≡ bytes + 0 = omega arith in
     ap (λ n. n % size) (is.count_is ∙ none) ∙ mod-mul-add count size 0 above
 whole_at file address count size above (Err error) is = tt
-
--- the bytes of the symbols are at the address in the entry SymTab
-pub lie_at : (file : ElfFile) (entries : List (Dynamic ℕ)) (address count : ℕ) → number_with DT_SYMTAB entries ≡ Some address → (found : Result (Bor (List ℕ)) LinkError)
-    → IfOk found (λ part. IsAt file address count part.now) → IfOk found (LiesAsLoaded file address count) → IfOk found (LieAsSymbols file entries)
-lie_at file entries address count is (Ok part) at lies = rw is (subst (λ n. LiesAsLoaded file address n part) (sym at.count_is) lies)
-lie_at file entries address count is (Err error) at lies = tt

@@ -3,7 +3,9 @@
 use Rattle.std.specs.Prelude.{◌≡◌, ◌≢◌, ◌<◌, ◌≤◌, ℕ, List, Option, Some, None, MatchOption, MatchResult, Result, Ok, Err, slice_get}
 use Rattle.elf_base.specs.FileHeader.{file_order}
 use Rattle.xmas_elf.specs.HashTable.{chain_count_of, hash_data, hash_order}
-use Rattle.xmas_elf.specs.Types.{ElfError, ElfFile, HashTable}
+use Rattle.elf_base.specs.declared.error.ElfError.{ElfError}
+use Rattle.xmas_elf.specs.declared.ElfFile.{ElfFile}
+use Rattle.xmas_elf.specs.declared.hash.HashTable.{HashTable}
 use Rattle.xmas_elf.specs.Symbol.{IsGlobal, Symbols}
 use Rattle.elf_linking.specs.DynamicView.{IsGnuTableBy, as_link_error, gnu_hash_table_of, hash_table_of, number_with}
 use Rattle.elf_linking.specs.GnuHash.{first_symbol_of}

@@ -10,7 +10,10 @@ use Rattle.elf_linking.specs.declared.error.LinkError.TheVariants.{Elf}
 use Rattle.xmas_elf.specs.NameTable.{section_named}
 use Rattle.xmas_elf.specs.SectionData.{section_data_of}
 use Rattle.xmas_elf.specs.SectionHeader.{section_fields}
-use Rattle.xmas_elf.specs.Types.{ElfError, ElfFile, Order, SectionHeader}
+use Rattle.elf_base.specs.declared.error.ElfError.{ElfError}
+use Rattle.xmas_elf.specs.declared.ElfFile.{ElfFile}
+use Rattle.elf_base.specs.declared.bytes.Order.{Order}
+use Rattle.xmas_elf.specs.Types.{SectionHeader}
 use Rattle.elf_linking.specs.Segments.{segment_bytes, segments_of}
 use Rattle.elf_linking.specs.declared.segments.Segment.{Segment}
 

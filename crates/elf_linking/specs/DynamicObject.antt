@@ -10,7 +10,7 @@ use Rattle.elf_base.specs.Text.{text_of}
 use Rattle.elf_base.specs.declared.bytes.Order.{Order}
 use Rattle.elf_base.specs.declared.bytes.table.Table.{Table}
 use Rattle.elf_linking.specs.AnyTable.{IsLinkedTable}
-use Rattle.elf_linking.specs.DynamicView.{AreSymbols, LieAsSymbols, LiesAsFileStrings, LiesAsStrings, bytes_in_strings, counted_symbols_of, dynamic_entries_of, strings_by, dynamic_strings_of, text_in_strings, view_entries, view_strings, view_table}
+use Rattle.elf_linking.specs.DynamicView.{AreSymbols, LieAsSymbols, LiesAsStrings, bytes_in_strings, counted_symbols_of, dynamic_entries_of, strings_by, text_in_strings, view_entries}
 use Rattle.elf_linking.specs.Find.{DynamicSymbols}
 use Rattle.elf_linking.specs.References.{IsReachedCount}
 use Rattle.elf_linking.specs.VersionList.{entries_in, numbers_in}
@@ -71,10 +71,6 @@ pub data AreOfClassFor (count : Option ℕ) (class size : ℕ) (file : ElfFile) 
       → AreOfClassFor count class size file entries bytes
   other_class : file_class file.header ≢ class → AreOfClassFor count class size file entries (Err UnknownClass)
 
--- as many as the hash table counts
-abbrev pub AreOfClass : ℕ → ℕ → ElfFile → List (Dynamic ℕ) → Result (List ℕ) LinkError → Type 0
-AreOfClass = AreOfClassFor None
-
 -- the machine of the file (e_machine)
 abbrev pub object_machine : {E : Type 0} → {r : _} → DynamicObject E r → ℕ
 object_machine object = machine_number (header_fields object.header.pt2).machine
@@ -83,17 +79,16 @@ object_machine object = machine_number (header_fields object.header.pt2).machine
 -- dynamic segment return. The symbols are as many as are given, otherwise as many as the hash table counts
 pub record IsObjectFor {E : Type 0} {r : _} (count : Option ℕ) (class size : ℕ) (file : ElfFile) (object : DynamicObject E r) : Type 0 where
   pub file_is : object_file object ≡ file
-  pub entries_are : dynamic_entries_of file ≡ Ok (view_entries (object_view object))
-  pub table_is : IsLinkedTable file (view_entries (object_view object)) (Ok (object_table object))
-  pub symbols_are : AreOfClassFor count class size file (view_entries (object_view object)) (Ok (table_data (object_records object)))
-  pub order_is : table_order (object_records object) ≡ file_order file.header
-  pub symbols_lie : LieAsSymbols file (view_entries (object_view object)) (table_bytes (object_records object))
-  pub strings_are : dynamic_strings_of file ≡ Ok (object_strings object).now
-  pub strings_lie : LiesAsFileStrings file (object_strings object)
-  pub view_strings_are : view_strings (object_view object) ≡ Ok (object_strings object).now
-  pub view_strings_lie : IfOk (view_table (object_view object)) (LiesAsStrings file (view_entries (object_view object)))
-  pub versions_are : version_tables_of file (view_entries (object_view object)) (Ok (object_strings object).now)
-      (length (table_items (object_records object))) ≡ Ok (version_tables (object_versions object))
+  pub entries_are : dynamic_entries_of file ≡ Ok (view_entries object.view)
+  pub table_is : IsLinkedTable file (view_entries object.view) (Ok object.table)
+  pub symbols_are : AreOfClassFor count class size file (view_entries object.view) (Ok (table_data object.symbols))
+  pub order_is : table_order object.symbols ≡ file_order file.header
+  pub symbols_lie : LieAsSymbols file (view_entries object.view) (table_bytes object.symbols)
+  pub strings_are : strings_by file (view_entries object.view) ≡ Ok object.strings.now
+  pub strings_lie : LiesAsStrings file (view_entries object.view) object.strings
+  pub view_strings_are : object.view.strings ≡ Ok object.strings
+  pub versions_are : version_tables_of file (view_entries object.view) (Ok object.strings.now)
+      (length (table_items object.symbols)) ≡ Ok (version_tables object.versions)
 
 -- the same with as many symbols as the hash table counts
 abbrev pub IsObject : {E : Type 0} → {r : _} → ℕ → ℕ → ElfFile → DynamicObject E r → Type 0

@@ -1,6 +1,6 @@
 -- What the dynamic segment of a file leads to (gABI, "Dynamic Section"): its entries, the string table, the hash
 -- tables, and the symbols with their number and their names.
-use Rattle.std.specs.Prelude.{ℕ, ◌==◌, Bool, List, [], ◌∷◌, length, Option, Result, Err, option_map, ok_or, if◌then◌else◌, ◌≡◌, None, Some, IfOk, IsSomeAnd, Ok, IsOkAnd, nat_lt, ◌*◌, ◌^◌}
+use Rattle.std.specs.Prelude.{ℕ, ◌==◌, List, [], ◌∷◌, length, Option, Result, Err, option_map, ok_or, if◌then◌else◌, ◌≡◌, None, Some, IfOk, IsSomeAnd, Ok, IsOkAnd, nat_lt, ◌*◌, ◌^◌}
 use Rattle.std.specs.List.{find}
 use Rattle.std.specs.Borrow.{Bor}
 use Rattle.elf_base.specs.Refusal.{and_then, unless}
@@ -10,7 +10,7 @@ use Rattle.elf_base.specs.Text.{as_text, bytes_up_to_zero_of, text_of}
 use Rattle.elf_linking.specs.Segments.{segment_bytes, segments_of}
 use Rattle.elf_linking.specs.declared.segments.Segment.{Segment}
 use Rattle.xmas_elf.specs.declared.ElfFile.{ElfFile}
-pub use Rattle.elf_linking.specs.Entries.{all_entries, entries_left, flag_in, has_tag, is_symbolic, number_with, pairs_left, pairs_of, until_null, whole_entries}
+pub use Rattle.elf_linking.specs.Entries.{all_entries, entries_left, flag_in, is_symbolic, number_with, pairs_left, pairs_of, until_null, whole_entries}
 use Rattle.elf_linking.specs.Layouts.{gnu_table_of}
 use Rattle.elf_linking.specs.declared.error.LinkError.{LinkError}
 use Rattle.elf_linking.specs.declared.error.LinkError.TheVariants.{Elf, NoDynamic, NoEntry, SymbolIndex}
@@ -30,13 +30,9 @@ use Rattle.elf_linking.specs.declared.gnu_hash.GnuHashTable.{GnuHashTable}
 -- The dynamic segment of a file and its string table (DT_NEEDED, DT_STRTAB, DT_STRSZ and others; that the
 -- first segment and the first entry of a kind are the ones read is this project's own).
 
--- whether a segment has type Dynamic (PT_DYNAMIC)
-abbrev pub is_dynamic : Segment → Bool
-is_dynamic segment = segment.kind == 2
-
--- the first segment of type Dynamic
+-- the first segment of type Dynamic (PT_DYNAMIC, 2)
 unfoldable pub dynamic_segment_of : ElfFile → Option Segment
-dynamic_segment_of file = find is_dynamic (segments_of file)
+dynamic_segment_of file = find (λ (segment : Segment). segment.kind == 2) (segments_of file)
 
 -- the entries of a file before the first with tag Null, or why there are none
 unfoldable pub dynamic_entries_of : ElfFile → Result (List (Dynamic ℕ)) LinkError
@@ -49,24 +45,14 @@ abbrev pub strings_by : ElfFile → List (Dynamic ℕ) → Result (List ℕ) Lin
 strings_by file entries = and_then (ok_or (number_with DT_STRTAB entries) NoEntry) (λ address.
     and_then (ok_or (number_with DT_STRSZ entries) NoEntry) (bytes_at_of file address))
 
--- the string table of a file's entries, or why there is none
-abbrev pub strings_of_entries : ElfFile → Result (List (Dynamic ℕ)) LinkError → Result (List ℕ) LinkError
-strings_of_entries file (Ok entries) = strings_by file entries
-strings_of_entries file (Err error) = Err error
-
 -- the string table of a file, or why there is none
 unfoldable pub dynamic_strings_of : ElfFile → Result (List ℕ) LinkError
-dynamic_strings_of file = strings_of_entries file (dynamic_entries_of file)
-
--- the place of a string table by its address and its size
-abbrev pub LiesByEntries : ElfFile → Option ℕ → Option ℕ → Bor (List ℕ) → Type 0
-LiesByEntries file address size part =
-    IsSomeAnd address (λ start. IsSomeAnd size (λ count. LiesAsLoaded file start count part))
+dynamic_strings_of file = and_then (dynamic_entries_of file) (strings_by file)
 
 -- the place of the string table of the entries
 abbrev pub LiesAsStrings : ElfFile → List (Dynamic ℕ) → Bor (List ℕ) → Type 0
-LiesAsStrings file entries =
-    LiesByEntries file (number_with DT_STRTAB entries) (number_with DT_STRSZ entries)
+LiesAsStrings file entries part = IsSomeAnd (number_with DT_STRTAB entries) (λ address.
+    IsSomeAnd (number_with DT_STRSZ entries) (λ size. LiesAsLoaded file address size part))
 
 -- the place of the string table of a file's entries
 abbrev pub LiesAsFileStrings : ElfFile → Bor (List ℕ) → Type 0
@@ -148,22 +134,15 @@ LiesAsNeeded iter item = IfOk item (λ name. IsOkAnd (needed_table iter) (λ tab
 
 -- The hash tables of a dynamic segment (DT_HASH; DT_GNU_HASH of GNU binutils and glibc).
 
--- the bytes, if there are some and their check succeeds, or the first error
-abbrev pub checked : (List ℕ → Result (Unit {0}) LinkError) → Result (List ℕ) LinkError → Result (List ℕ) LinkError
-checked check (Ok bytes) = and_then (check bytes) (λ _. Ok bytes)
-checked check (Err error) = Err error
-
 -- the bytes of the ELF standard's hash table, at the address in the entry Hash (DT_HASH)
 abbrev pub hash_table_of : ElfFile → List (Dynamic ℕ) → Result (List ℕ) LinkError
-hash_table_of file entries =
-    checked (λ bytes. unless ((nat_lt (length bytes) 12, Elf ShortData) ∷ []) tt)
-    (and_then (ok_or (number_with DT_HASH entries) NoEntry) (bytes_from_of file))
+hash_table_of file entries = and_then (and_then (ok_or (number_with DT_HASH entries) NoEntry) (bytes_from_of file))
+    (λ bytes. unless ((nat_lt (length bytes) 12, Elf ShortData) ∷ []) bytes)
 
 -- the bytes of GNU's hash table, at the address in the entry GnuHash (DT_GNU_HASH)
 abbrev pub gnu_hash_table_of : ElfFile → List (Dynamic ℕ) → Result (List ℕ) LinkError
-gnu_hash_table_of file entries =
-    checked (gnu_table_of (class_of (file_class file.header)) (file_order file.header))
-    (and_then (ok_or (number_with DT_GNU_HASH entries) NoEntry) (bytes_from_of file))
+gnu_hash_table_of file entries = and_then (and_then (ok_or (number_with DT_GNU_HASH entries) NoEntry) (bytes_from_of file))
+    (λ bytes. and_then (gnu_table_of (class_of (file_class file.header)) (file_order file.header) bytes) (λ _. Ok bytes))
 
 -- The symbols of a dynamic segment, and their number (DT_SYMTAB, and gABI, "Hash Table", nchain; that the chain
 -- count of the standard's table has precedence is this project's own).

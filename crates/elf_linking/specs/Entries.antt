@@ -32,13 +32,9 @@ abbrev pub until_null : List (Dynamic ℕ) → List (Dynamic ℕ)
 until_null [] = []
 until_null (entry ∷ entries) = if dynamic_tag entry == DT_NULL then [] else entry ∷ until_null entries
 
--- an entry has this tag
-abbrev pub has_tag : ℕ → Dynamic ℕ → Bool
-has_tag tag entry = dynamic_tag entry == tag
-
 -- the number in the first entry with a tag
 abbrev pub number_with : ℕ → List (Dynamic ℕ) → Option ℕ
-number_with tag entries = option_map (λ entry. dynamic_value entry) (find (has_tag tag) entries)
+number_with tag entries = option_map (λ entry. dynamic_value entry) (find (λ (entry : Dynamic ℕ). dynamic_tag entry == tag) entries)
 
 -- a number of flags, if there is one, has a flag
 abbrev pub flag_in : Option ℕ → ℕ → Bool

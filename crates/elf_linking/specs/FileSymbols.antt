@@ -2,6 +2,7 @@
 -- Section", DT_SYMTAB; which of them are read is this project's own).
 use Rattle.std.specs.Prelude.{◌≡◌, ◌≢◌, ℕ, ◌%◌, ◌==◌, not, Bool, List, length, Option, None, Some, Result, Ok, Err, if◌then◌else◌}
 use Rattle.std.specs.List.{find}
+use Rattle.std.specs.Option.{option_or}
 use Rattle.std.specs.Borrow.{Bor}
 use Rattle.elf_base.specs.FileHeader.{file_class, file_order}
 use Rattle.elf_base.specs.Refusal.{and_then}
@@ -19,23 +20,21 @@ use Rattle.xmas_elf.specs.SectionData.{section_data_of}
 use Rattle.xmas_elf.specs.SectionHeader.{section_fields, section_list, section_of}
 use Rattle.xmas_elf.specs.SymbolTable.{carried_strings, carried_table, table_symbols}
 use Rattle.xmas_elf.specs.Symbols.{named_symbols}
-use Rattle.xmas_elf.specs.Types.{ElfFile, SectionHeader}
+use Rattle.xmas_elf.specs.declared.ElfFile.{ElfFile}
+use Rattle.xmas_elf.specs.Types.{SectionHeader}
 use Rattle.xmas_elf.specs.declared.symbol_table.table.SymbolTable.{SymbolTable}
 
--- the first section of a type (sh_type)
+-- a section has a type (sh_type)
 abbrev pub is_of_type : ℕ → SectionHeader → Bool
 is_of_type kind section = (section_fields section).type_ == kind
 
+-- the first section of a type
 abbrev pub first_of_type : ElfFile → ℕ → Option SectionHeader
 first_of_type file kind = find (is_of_type kind) (section_list file)
 
 -- the section with the symbols: the first of type SHT_SYMTAB, 2, otherwise the first of type SHT_DYNSYM, 11
-abbrev pub or_else : {A : Type 0} → Option A → Option A → Option A
-or_else None other = other
-or_else (Some item) other = Some item
-
 unfoldable pub symbols_section_of : ElfFile → Option SectionHeader
-symbols_section_of file = or_else (first_of_type file 2) (first_of_type file 11)
+symbols_section_of file = option_or (first_of_type file 2) (first_of_type file 11)
 
 -- the bytes of symbols of a size in a section, and those of the string table that it links to
 unfoldable pub section_symbols_of : ElfFile → ℕ → SectionHeader → Result (List ℕ × List ℕ) LinkError
@@ -62,9 +61,9 @@ pub data AreFileSymbols (file : ElfFile) (size : ℕ) : Result (List ℕ × List
       → AreSegmentSymbols file size answer → AreFileSymbols file size answer
 
 -- two slices, by their bytes alone
-abbrev pub lent_pair : Result (Bor (List ℕ) × Bor (List ℕ)) LinkError → Result (List ℕ × List ℕ) LinkError
-lent_pair (Ok pair) = Ok (pair.0.now, pair.1.now)
-lent_pair (Err error) = Err error
+abbrev pub pair_bytes : Result (Bor (List ℕ) × Bor (List ℕ)) LinkError → Result (List ℕ × List ℕ) LinkError
+pair_bytes (Ok pair) = Ok (pair.0.now, pair.1.now)
+pair_bytes (Err error) = Err error
 
 -- where these two slices lie: at the offsets of the section and of the string table that it links to, or at those of
 -- the addresses in the dynamic segment

@@ -5,7 +5,7 @@ use Rattle.std.specs.Borrow.{Bor}
 use Rattle.std.specs.Str.{bytes_eq}
 use Rattle.elf_base.specs.Refusal.{and_then}
 use Rattle.elf_records.specs.HashNumber.{hash_number}
-use Rattle.elf_linking.specs.AnyTable.{IsFor, IsIndexBy, LooksWhereBy}
+use Rattle.elf_linking.specs.AnyTable.{FindsAllWhereBy, LooksWhereBy}
 use Rattle.elf_linking.specs.VersionList.{VersionEntry, VersionList}
 use Rattle.elf_linking.specs.VersionTables.{is_hidden, result_map, version_number}
 use Rattle.elf_linking.specs.Versions.{CanBeRead, VersionParts, number_of, version_at}
@@ -133,80 +133,40 @@ abbrev pub IsShown : {E : Type 0} → DynamicSymbols E → List ℕ → Wanted �
 IsShown file name wanted purpose but at = IsCandidate file name purpose at.1 × ((is_by_version wanted ≡ false)
     × ((is_default (number_of file.versions.numbers at.0) ≡ true) × (but ≢ Some at.0)))
 
--- the default: the one such candidate, if there is exactly one
-pub data IsDefault {E : Type 0} (file : DynamicSymbols E) (name : List ℕ) (wanted : Wanted) (purpose : uses.Use) : Option (ℕ × E) → Type 0 where
-  none_shown : Seeks (IsShown file name wanted purpose None) file name (Ok None)
-      → IsDefault file name wanted purpose None
-  one_shown : (at : ℕ × E) → Seeks (IsShown file name wanted purpose None) file name (Ok (Some at))
-      → Seeks (IsShown file name wanted purpose (Some at.0)) file name (Ok None)
-      → IsDefault file name wanted purpose (Some at)
-  two_shown : (at other : ℕ × E) → Seeks (IsShown file name wanted purpose None) file name (Ok (Some at))
-      → Seeks (IsShown file name wanted purpose (Some at.0)) file name (Ok (Some other))
-      → IsDefault file name wanted purpose None
+-- the default: the one such candidate, if there is exactly one; `Seek` says the result of a look-up for a property
+pub data IsDefaultBy {E : Type 0} (Seek : (ℕ × E → Type 0) → Result (Option (ℕ × E)) LinkError → Type 0) (Shown : Option ℕ → ℕ × E → Type 0) : Option (ℕ × E) → Type 0 where
+  none_shown : Seek (Shown None) (Ok None) → IsDefaultBy Seek Shown None
+  one_shown : (at : ℕ × E) → Seek (Shown None) (Ok (Some at)) → Seek (Shown (Some at.0)) (Ok None)
+      → IsDefaultBy Seek Shown (Some at)
+  two_shown : (at other : ℕ × E) → Seek (Shown None) (Ok (Some at)) → Seek (Shown (Some at.0)) (Ok (Some other))
+      → IsDefaultBy Seek Shown None
 
--- the result of a search for the symbol that a reference gets: the first candidate that is accepted at once, or
--- why its version can't be read; the fault that a look-up for it comes to; otherwise the default
-pub data IsFound {E : Type 0} (file : DynamicSymbols E) (name : List ℕ) (wanted : Wanted) (purpose : uses.Use) : Result (Option (ℕ × E)) LinkError → Type 0 where
-  asked_first : (at : ℕ × E) (answer : Result (Option (ℕ × E)) LinkError)
-      → Seeks (IsAsked file name wanted purpose) file name (Ok (Some at))
-      → answer ≡ result_map (λ _. Some at) (accepted file.versions wanted at.0)
-      → IsFound file name wanted purpose answer
-  faulty : (error : LinkError) → Seeks (IsAsked file name wanted purpose) file name (Err error)
-      → IsFound file name wanted purpose (Err error)
-  otherwise : (found : Option (ℕ × E)) → Seeks (IsAsked file name wanted purpose) file name (Ok None)
-      → IsDefault file name wanted purpose found → IsFound file name wanted purpose (Ok found)
+-- the result of a search for the symbol that a reference gets, where `Seek` says that of a look-up: the first candidate
+-- that is accepted at once, or why its version can't be read; the fault that a look-up for it comes to; otherwise the
+-- default
+pub data IsFoundBy {E : Type 0} (Seek : (ℕ × E → Type 0) → Result (Option (ℕ × E)) LinkError → Type 0) (file : DynamicSymbols E) (name : List ℕ) (wanted : Wanted) (purpose : uses.Use) : Result (Option (ℕ × E)) LinkError → Type 0 where
+  asked_first : (at : ℕ × E) (answer : Result (Option (ℕ × E)) LinkError) → Seek (IsAsked file name wanted purpose) (Ok (Some at))
+      → answer ≡ result_map (λ _. Some at) (accepted file.versions wanted at.0) → IsFoundBy Seek file name wanted purpose answer
+  faulty : (error : LinkError) → Seek (IsAsked file name wanted purpose) (Err error)
+      → IsFoundBy Seek file name wanted purpose (Err error)
+  otherwise : (found : Option (ℕ × E)) → Seek (IsAsked file name wanted purpose) (Ok None)
+      → IsDefaultBy Seek (IsShown file name wanted purpose) found → IsFoundBy Seek file name wanted purpose (Ok found)
 
--- What a search of the list of symbols says of it, if look-ups in the table find what they must.
+-- the result of a search by look-ups in the hash table
+abbrev pub IsFound : {E : Type 0} → DynamicSymbols E → List ℕ → Wanted → uses.Use → Result (Option (ℕ × E)) LinkError → Type 0
+IsFound file name wanted purpose = IsFoundBy (λ P. Seeks P file name) file name wanted purpose
+
+-- What the list of symbols says of it, if look-ups in the table find what they must.
 
 -- the versions of a file can be read
 abbrev pub AreReadable : {E : Type 0} → DynamicSymbols E → Type 0
 AreReadable file = CanBeRead file.versions (length file.symbols.items)
 
--- look-ups for the name must find symbol e at index i, and it serves the use
-abbrev pub MustServe : {E : Type 0} → DynamicSymbols E → List ℕ → uses.Use → ℕ → E → Type 0
-MustServe file name purpose i e =
-    IsFor file.table file.symbols i e name × (serves purpose (file.symbols.fields e) ≡ true)
-
--- no such symbol is accepted at once
-abbrev pub NoneAccepted : {E : Type 0} → DynamicSymbols E → List ℕ → Wanted → uses.Use → Type 0
-NoneAccepted {E} file name wanted purpose =
-    (i : ℕ) (e : E) → MustServe file name purpose i e → accepted file.versions wanted i ≡ Ok false
-
--- a candidate of the file at an index that look-ups can return
-pub record Stands {E : Type 0} (file : DynamicSymbols E) (name : List ℕ) (purpose : uses.Use) (at : ℕ × E) : Type 0 where
-  pub index : IsIndexBy file.table at.0
-  pub symbol : slice_get file.symbols.items at.0 ≡ Some at.1
-  pub candidate : IsCandidate file name purpose at.1
-
--- such a candidate whose version isn't hidden
-abbrev pub StandsShown : {E : Type 0} → DynamicSymbols E → List ℕ → uses.Use → ℕ × E → Type 0
-StandsShown file name purpose at =
-    Stands file name purpose at × (is_default (number_of file.versions.numbers at.0) ≡ true)
-
--- the default in the list of symbols: the one candidate that isn't hidden; nothing if there is none among those
--- that look-ups must find, or if there are two
-pub data IsRightDefault {E : Type 0} (file : DynamicSymbols E) (name : List ℕ) (purpose : uses.Use) : Option (ℕ × E) → Type 0 where
-  alone : (at : ℕ × E) → StandsShown file name purpose at
-      → ((i : ℕ) (e : E) → MustServe file name purpose i e → is_default (number_of file.versions.numbers i) ≡ true → i ≡ at.0)
-      → IsRightDefault file name purpose (Some at)
-  all_hidden : ((i : ℕ) (e : E) → MustServe file name purpose i e → is_default (number_of file.versions.numbers i) ≡ false)
-      → IsRightDefault file name purpose None
-  several : (one other : ℕ × E) → StandsShown file name purpose one → StandsShown file name purpose other
-      → other.0 ≢ one.0 → IsRightDefault file name purpose None
-
--- what is found in the list of symbols: a candidate that is accepted at once; if there is none, nothing for a
--- reference by a version, and the default for another one
-pub data IsRight {E : Type 0} (file : DynamicSymbols E) (name : List ℕ) (wanted : Wanted) (purpose : uses.Use) : Option (ℕ × E) → Type 0 where
-  at_once : (at : ℕ × E) → Stands file name purpose at → accepted file.versions wanted at.0 ≡ Ok true
-      → IsRight file name wanted purpose (Some at)
-  no_version : is_by_version wanted ≡ true → NoneAccepted file name wanted purpose
-      → IsRight file name wanted purpose None
-  by_default : (found : Option (ℕ × E)) → is_by_version wanted ≡ false → NoneAccepted file name wanted purpose
-      → IsRightDefault file name purpose found → IsRight file name wanted purpose found
-
--- there is no error, and what is found is what the list of symbols says
+-- there is no error, and what is found is what the list of symbols says: a look-up finds one of the symbols with the
+-- property, and none only if there is none that look-ups must find
 abbrev pub FindsRight : {E : Type 0} → DynamicSymbols E → List ℕ → Wanted → uses.Use → Result (Option (ℕ × E)) LinkError → Type 0
-FindsRight file name wanted purpose answer = IsOkAnd answer (IsRight file name wanted purpose)
+FindsRight file name wanted purpose answer = IsOkAnd answer (λ found.
+    IsFoundBy (FindsAllWhereBy file.table file.symbols name) file name wanted purpose (Ok found))
 
 -- the parts of such a search
 abbrev pub dynamic_symbols : {E : Type 0} → AnyTable → Symbols E → VersionList → DynamicSymbols E

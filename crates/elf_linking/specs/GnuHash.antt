@@ -250,10 +250,6 @@ abbrev pub MustBeFoundWhere : {E : Type 0} → GnuHashTable → Symbols E → Li
 MustBeFoundWhere {E} table symbols name P =
     (i : ℕ) × (e : E) × IsExported table symbols i e name × P (i, e)
 
--- the table exports a symbol with the name and P, a property of a symbol
-abbrev pub MustBeFound : {E : Type 0} → GnuHashTable → Symbols E → List ℕ → (E → Type 0) → Type 0
-MustBeFound table symbols name P = MustBeFoundWhere table symbols name (λ at. P at.1)
-
 -- there is no error; what is found is one of the symbols and has P at its index, and if nothing is found, the
 -- table exports no such symbol
 abbrev pub FindsAllWhere : {E : Type 0} → GnuHashTable → Symbols E → List ℕ → (ℕ × E → Type 0) → Result (Option (ℕ × E)) LinkError → Type 0

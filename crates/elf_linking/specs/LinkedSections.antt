@@ -3,7 +3,7 @@
 use Rattle.std.specs.Prelude.{◌≡◌, ◌≢◌, List, Option, None, Some, Result, Ok, Err, ℕ, IsSomeAnd, MatchResult, ok_or}
 use Rattle.elf_base.specs.FileHeader.{class_of, file_class, file_order}
 use Rattle.elf_base.specs.Refusal.{and_then}
-use Rattle.elf_linking.specs.DynamicView.{as_link_error, checked, number_with}
+use Rattle.elf_linking.specs.DynamicView.{as_link_error, number_with}
 use Rattle.elf_linking.specs.Layouts.{gnu_table_of}
 use Rattle.elf_linking.specs.Loaded.{bytes_at_of}
 use Rattle.elf_linking.specs.Relr.{relr_of, relr_rest}
@@ -15,7 +15,8 @@ use Rattle.elf_records.specs.declared.dynamic.Dynamic.{Dynamic}
 use Rattle.xmas_elf.specs.Ranges.{range_of}
 use Rattle.xmas_elf.specs.SectionData.{section_data_of}
 use Rattle.xmas_elf.specs.SectionHeader.{section_fields}
-use Rattle.xmas_elf.specs.Types.{ElfFile, SectionHeader}
+use Rattle.xmas_elf.specs.declared.ElfFile.{ElfFile}
+use Rattle.xmas_elf.specs.Types.{SectionHeader}
 
 -- the result is `None` if a section is of another type than this, otherwise a result with the property
 abbrev pub OnType : {A : Type 0} → ℕ → SectionHeader → (A → Type 0) → Option A → Type 0
@@ -24,8 +25,8 @@ OnType kind section P (Some answer) = ((section_fields section).type_ ≡ kind) 
 
 -- the bytes of the GNU hash table in a section's data, or why there is none
 abbrev pub gnu_hash_in : ElfFile → SectionHeader → Result (List ℕ) LinkError
-gnu_hash_in file section = checked (gnu_table_of (class_of (file_class file.header)) (file_order file.header))
-    (as_link_error (section_data_of file section))
+gnu_hash_in file section = and_then (as_link_error (section_data_of file section))
+    (λ bytes. and_then (gnu_table_of (class_of (file_class file.header)) (file_order file.header) bytes) (λ _. Ok bytes))
 
 -- the byte range of a section in the input, by its offset and its size, whatever its type
 abbrev pub section_range_of : ElfFile → SectionHeader → Result (List ℕ) LinkError
@@ -39,7 +40,8 @@ relr_in file (Err error) = Err error
 
 -- the addresses of the packed relocations at an address, by their size in bytes, or why there are none
 abbrev pub relr_at : ElfFile → Option ℕ → ℕ → Result (List ℕ) LinkError
-relr_at file size address = relr_in file (and_then (ok_or size NoEntry) (bytes_at_of file address))
+relr_at file size address = and_then (and_then (ok_or size NoEntry) (bytes_at_of file address))
+    (relr_of (class_of (file_class file.header)) (file_order file.header))
 
 -- the packed relocations of a dynamic segment (gABI, "Dynamic Section": DT_RELR and DT_RELRSZ); `None` if it has no
 -- entry with their address

@@ -12,7 +12,7 @@ use Rattle.elf_linking.specs.declared.error.LinkError.{LinkError}
 use Rattle.elf_linking.specs.declared.error.LinkError.TheVariants.{Address, Elf, UnknownClass}
 use Rattle.elf_linking.specs.Segments.{segment_bytes, segments_of}
 use Rattle.elf_linking.specs.declared.segments.Segment.{Segment}
-use Rattle.xmas_elf.specs.Types.{ElfFile}
+use Rattle.xmas_elf.specs.declared.ElfFile.{ElfFile}
 
 -- a result of the port, with its error in `Elf`
 abbrev pub as_link_error : {A : Type 0} → Result A ElfError → Result A LinkError

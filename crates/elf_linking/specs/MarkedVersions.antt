@@ -5,15 +5,15 @@ use Rattle.elf_base.specs.Number.{number}
 use Rattle.elf_base.specs.declared.bytes.Order.{Order}
 
 -- the definition at a place has a number, in bits 0 to 14 of its own, and isn't the base
-abbrev pub bears_at : Order → List ℕ → ℕ → ℕ → Bool
-bears_at order bytes n place = number order 2 (place + 4) bytes % 0x8000 == n && not (number order 2 (place + 2) bytes % 2 == 1)
+abbrev pub has_number_at : Order → List ℕ → ℕ → ℕ → Bool
+has_number_at order bytes n place = number order 2 (place + 4) bytes % 0x8000 == n && not (number order 2 (place + 2) bytes % 2 == 1)
 
 -- the place of the first such definition, among those from a place on, at most `count` of them
 unfoldable pub first_place : Order → List ℕ → ℕ → ℕ → ℕ → Option ℕ
 first_place order bytes n start zero = None
 first_place order bytes n start (suc count) = let next = number order 4 (start + 16) bytes in
     if nat_lt (length bytes) (start + 20) then None
-    else (if bears_at order bytes n start then Some start
+    else (if has_number_at order bytes n start then Some start
     else (if next == 0 then None else first_place order bytes n (start + next) count))
 
 -- a mark that isn't 0 is the place plus 1 of the first definition, of at most `count`, whose number is its index

@@ -4,7 +4,8 @@ use Rattle.elf_base.specs.FileHeader.{file_class, header_fields}
 use Rattle.elf_records.specs.ProgramNumbers.{ph_type_number}
 use Rattle.xmas_elf.specs.HeaderTable.{IsKnownClass}
 use Rattle.xmas_elf.specs.ProgramHeader.{program_fields, program_list}
-use Rattle.xmas_elf.specs.Types.{ElfFile, ProgramHeader}
+use Rattle.xmas_elf.specs.declared.ElfFile.{ElfFile}
+use Rattle.xmas_elf.specs.Types.{ProgramHeader}
 use Rattle.elf_linking.specs.Segments.{is_whole, segments_of}
 use Rattle.elf_linking.specs.declared.segments.Segment.{Segment}
 

@@ -29,11 +29,16 @@ row_of machine kind = unwrap_or (find (λ (row : Row). row.kind == kind) (rows_o
   slot = false;
 })
 
--- the formula of relative relocations
-abbrev pub is_base : Option Formula → Bool
-is_base (Some Base) = true
-is_base _ = false
+-- the formula of a type is that of relative relocations, `B + A`
+abbrev pub is_relative : Option Formula → Bool
+is_relative (Some Base) = true
+is_relative _ = false
 
 -- the row of the relative relocations of a machine
 abbrev pub relative_of : ℕ → Option Row
-relative_of machine = find (λ (row : Row). is_base row.formula) (rows_of machine)
+relative_of machine = find (λ (row : Row). is_relative row.formula) (rows_of machine)
+
+-- the type of the relative relocations of a machine: R_AARCH64_RELATIVE is 1027; R_X86_64_RELATIVE and R_386_RELATIVE are
+-- 8, which is also taken for machines whose types have no rows
+abbrev pub relative_kind : ℕ → ℕ
+relative_kind machine = if machine == 183 then 1027 else 8

@@ -109,11 +109,13 @@ is_passed_over _ index = false
 abbrev pub symbols_at : {E : Type 0} → {r : _} → (E → SymbolFields) → List (DynamicObject E r) → ℕ → Option (DynamicSymbols E)
 symbols_at fields objects index = option_map (object_dynamic_symbols fields) (slice_get objects index)
 
--- what the object at an index gives: nothing if it is passed over
-pub data GivesAt {E : Type 0} (Finds : DynamicSymbols E → Result (Option (ℕ × E)) LinkError → Type 0) (objects : ℕ → Option (DynamicSymbols E)) (purpose : uses.Use) (index : ℕ) : Result (Option (ℕ × E)) LinkError → Type 0 where
-  passed_over : is_passed_over purpose index ≡ true → GivesAt Finds objects purpose index (Ok None)
+-- what the object at an index gives for a name, a version and a use, where `Finds` says what a search in an object finds:
+-- nothing if it is passed over
+pub data GivesAt {E : Type 0} {r : _} (Finds : DynamicSymbols E → List ℕ → Wanted → uses.Use → Result (Option (ℕ × E)) LinkError → Type 0) (fields : E → SymbolFields) (objects : List (DynamicObject E r)) (name : List ℕ) (wanted : Wanted) (purpose : uses.Use) (index : ℕ) : Result (Option (ℕ × E)) LinkError → Type 0 where
+  passed_over : is_passed_over purpose index ≡ true → GivesAt Finds fields objects name wanted purpose index (Ok None)
   asked : (file : DynamicSymbols E) (answer : Result (Option (ℕ × E)) LinkError) → is_passed_over purpose index ≡ false
-      → objects index ≡ Some file → Gives Finds file answer → GivesAt Finds objects purpose index answer
+      → symbols_at fields objects index ≡ Some file → Gives (λ one. Finds one name wanted purpose) file answer
+      → GivesAt Finds fields objects name wanted purpose index answer
 
 -- The symbol that a reference gets.
 
@@ -130,25 +132,15 @@ pub data IsFirstGiven {E : Type 0} (AtIndex : ℕ → Result (Option (ℕ × E))
   refused : (index : ℕ) (error : LinkError) → index < count → NoneBefore AtIndex symbolic from index
       → AtIndex index (Err error) → IsFirstGiven AtIndex count symbolic from (Err error)
 
--- what the object at an index gives for a name, a version and a use, by a search in it
-abbrev pub FindsAt : {E : Type 0} → {r : _} → (E → SymbolFields) → List (DynamicObject E r) → List ℕ → Wanted → uses.Use → ℕ → Result (Option (ℕ × E)) LinkError → Type 0
-FindsAt fields objects name wanted purpose =
-    GivesAt (λ file. IsFound file name wanted purpose) (symbols_at fields objects) purpose
+-- the symbol that the objects give for a name, a version and a use, where `Finds` says what a search in an object finds:
+-- that of the first one for the object at index `from`, if there is such an object
+abbrev pub IsBoundBy : {E : Type 0} → {r : _} → (DynamicSymbols E → List ℕ → Wanted → uses.Use → Result (Option (ℕ × E)) LinkError → Type 0) → (E → SymbolFields) → List (DynamicObject E r) → ℕ → List ℕ → Wanted → uses.Use → Result (Option (Bound E)) LinkError → Type 0
+IsBoundBy Finds fields objects from name wanted purpose answer = MatchOption (slice_get objects from) (answer ≡ Err ObjectIndex)
+    (λ asking. IsFirstGiven (GivesAt Finds fields objects name wanted purpose) (length objects) (is_symbolic (view_entries asking.view)) from answer)
 
--- the same by its list of symbols, whatever the hash table
-abbrev pub HasAt : {E : Type 0} → {r : _} → (E → SymbolFields) → List (DynamicObject E r) → List ℕ → Wanted → uses.Use → ℕ → Result (Option (ℕ × E)) LinkError → Type 0
-HasAt fields objects name wanted purpose =
-    GivesAt (λ file. FindsRight file name wanted purpose) (symbols_at fields objects) purpose
-
--- what the first object gives, for the one at index `from`, if there is such an object
-abbrev pub IsFirstFor : {E : Type 0} → {r : _} → (ℕ → Result (Option (ℕ × E)) LinkError → Type 0) → List (DynamicObject E r) → ℕ → Result (Option (Bound E)) LinkError → Type 0
-IsFirstFor AtIndex objects from answer = MatchOption (slice_get objects from) (answer ≡ Err ObjectIndex)
-    (λ asking. IsFirstGiven AtIndex (length objects) (is_symbolic (view_entries asking.view)) from answer)
-
--- the symbol that the objects give for a name, a version and a use
+-- the same by searches in the objects
 abbrev pub IsBound : {E : Type 0} → {r : _} → (E → SymbolFields) → List (DynamicObject E r) → ℕ → List ℕ → Wanted → uses.Use → Result (Option (Bound E)) LinkError → Type 0
-IsBound fields objects from name wanted purpose answer =
-    IsFirstFor (FindsAt fields objects name wanted purpose) objects from answer
+IsBound fields objects from = IsBoundBy IsFound fields objects from
 
 -- look-ups in the objects find what they must, and their versions can be read
 abbrev pub AreGood : {E : Type 0} → {r : _} → (E → SymbolFields) → List (DynamicObject E r) → Type 0
@@ -159,7 +151,7 @@ AreGood {E} fields objects = (i : ℕ) (file : DynamicSymbols E) → symbols_at 
 -- if no object gives one
 abbrev pub BindsRight : {E : Type 0} → {r : _} → (E → SymbolFields) → List (DynamicObject E r) → ℕ → List ℕ → Wanted → uses.Use → Result (Option (Bound E)) LinkError → Type 0
 BindsRight fields objects from name wanted purpose answer = IsOkAnd answer (λ bound.
-    IsFirstFor (HasAt fields objects name wanted purpose) objects from (Ok bound))
+    IsBoundBy FindsRight fields objects from name wanted purpose (Ok bound))
 
 -- the symbol that a reference to a protected symbol gets, where `Finds` is what a look-up for a use finds: none, if
 -- the look-up for its use finds none; otherwise its own symbol, if the look-up for a defined symbol finds one in
@@ -175,19 +167,24 @@ pub data IsProtectedBound {E : Type 0} (Finds : uses.Use → Result (Option (Bou
       → IsProtectedBound Finds own purpose (Err error)
 
 -- the result of what a reference of the object at index `from` asks for, by what a search in the objects finds
-abbrev pub AnswersAsked : {E : Type 0} → (List ℕ → Wanted → uses.Use → Result (Option (Bound E)) LinkError → Type 0) → ℕ → ℕ → Asked E → Result (Option (Bound E)) LinkError → Type 0
-AnswersAsked Finds from index (Own symbol) answer =
+abbrev pub IsBoundFor : {E : Type 0} → (List ℕ → Wanted → uses.Use → Result (Option (Bound E)) LinkError → Type 0) → ℕ → ℕ → Asked E → Result (Option (Bound E)) LinkError → Type 0
+IsBoundFor Finds from index (Own symbol) answer =
     answer ≡ Ok (Some (record { object = from; index = index; symbol = symbol }))
-AnswersAsked Finds from index (Look name wanted purpose None) answer = Finds name.now wanted purpose answer
-AnswersAsked Finds from index (Look name wanted purpose (Some own)) answer =
+IsBoundFor Finds from index (Look name wanted purpose None) answer = Finds name.now wanted purpose answer
+IsBoundFor Finds from index (Look name wanted purpose (Some own)) answer =
     IsProtectedBound (Finds name.now wanted) (record { object = from; index = index; symbol = own }) purpose answer
 
--- the symbol that a reference of the object at index `from` gets, or the error
-abbrev pub IsReferenceBound : {E : Type 0} → {r : _} → (E → SymbolFields) → List (DynamicObject E r) → ℕ → Reference → Result (Option (Bound E)) LinkError → Type 0
-IsReferenceBound fields objects from reference answer = MatchOption (slice_get objects from)
+-- the symbol that a reference of the object at index `from` gets, or the error, where `Finds` says what a search in an
+-- object finds
+abbrev pub IsReferenceBoundBy : {E : Type 0} → {r : _} → (DynamicSymbols E → List ℕ → Wanted → uses.Use → Result (Option (ℕ × E)) LinkError → Type 0) → (E → SymbolFields) → List (DynamicObject E r) → ℕ → Reference → Result (Option (Bound E)) LinkError → Type 0
+IsReferenceBoundBy Finds fields objects from reference answer = MatchOption (slice_get objects from)
     (answer ≡ Err ObjectIndex) (λ asking. MatchResult (asked_of fields asking reference)
-    (λ question. AnswersAsked (IsBound fields objects from) from reference.symbol question answer)
+    (λ question. IsBoundFor (IsBoundBy Finds fields objects from) from reference.symbol question answer)
     (λ error. answer ≡ Err error))
+
+-- the same by searches in the objects
+abbrev pub IsReferenceBound : {E : Type 0} → {r : _} → (E → SymbolFields) → List (DynamicObject E r) → ℕ → Reference → Result (Option (Bound E)) LinkError → Type 0
+IsReferenceBound fields objects from reference = IsReferenceBoundBy IsFound fields objects from reference
 
 -- there is an object at index `from`, which has the symbol of the reference, with a name that can be read if it is
 -- looked up
@@ -198,12 +195,11 @@ HasNamedSymbol fields objects from reference =
     binds_to_itself (fields symbol) ≡ false → IsOk (object_name fields asking reference.symbol)))
 
 -- the result of what a reference asks for is no error, and is right by the lists of symbols
-abbrev pub AnswersRight : {E : Type 0} → {r : _} → (E → SymbolFields) → List (DynamicObject E r) → ℕ → ℕ → Asked E → Result (Option (Bound E)) LinkError → Type 0
-AnswersRight fields objects from index question answer = IsOkAnd answer (λ bound.
-    AnswersAsked (BindsRight fields objects from) from index question (Ok bound))
+abbrev pub BindsRightFor : {E : Type 0} → {r : _} → (E → SymbolFields) → List (DynamicObject E r) → ℕ → ℕ → Asked E → Result (Option (Bound E)) LinkError → Type 0
+BindsRightFor fields objects from index question answer = IsOkAnd answer (λ bound.
+    IsBoundFor (IsBoundBy FindsRight fields objects from) from index question (Ok bound))
 
--- there is no error, and a reference that isn't to its own symbol gets the one that the lists of symbols say
+-- there is no error, and a reference gets the symbol that the lists of symbols say
 abbrev pub BindsReference : {E : Type 0} → {r : _} → (E → SymbolFields) → List (DynamicObject E r) → ℕ → Reference → Result (Option (Bound E)) LinkError → Type 0
-BindsReference fields objects from reference answer = IsSomeAnd (slice_get objects from) (λ asking.
-    IsOkAnd (asked_of fields asking reference) (λ question.
-    AnswersRight fields objects from reference.symbol question answer))
+BindsReference fields objects from reference answer = IsOkAnd answer (λ bound.
+    IsReferenceBoundBy FindsRight fields objects from reference (Ok bound))

@@ -7,7 +7,8 @@ use Rattle.elf_base.specs.Number.{number}
 use Rattle.elf_base.specs.declared.bytes.Order.{Order}
 use Rattle.elf_base.specs.declared.error.ElfError.{ElfError}
 use Rattle.xmas_elf.specs.Ranges.{range_of}
-use Rattle.xmas_elf.specs.Types.{ElfFile, Header}
+use Rattle.xmas_elf.specs.declared.ElfFile.{ElfFile}
+use Rattle.elf_base.specs.declared.header.Header.{Header}
 use Rattle.elf_linking.specs.declared.segments.Segment.{Segment}
 
 -- the record of class 32 at an offset

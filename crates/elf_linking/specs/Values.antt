@@ -11,7 +11,7 @@ use Rattle.elf_linking.specs.VersionTables.{result_map}
 use Rattle.elf_linking.specs.Versions.{number_of}
 use Rattle.elf_linking.specs.declared.error.LinkError.{LinkError}
 use Rattle.xmas_elf.specs.Symbol.{SymbolFields, dyn_entry_32, dyn_entry_32_fields, dyn_entry_64, dyn_entry_64_fields}
-use Rattle.xmas_elf.specs.Types.{ElfFile}
+use Rattle.xmas_elf.specs.declared.ElfFile.{ElfFile}
 
 -- a symbol with the name, of a type that look-ups return, with a value or a type or section that needs none
 abbrev pub IsNamed : {E : Type 0} → DynamicSymbols E → List ℕ → E → Type 0
@@ -58,8 +58,8 @@ IsValueOf {E} class size entry fields file name answer = (read : Result (Dynamic
     × MatchResult read (AreDynamicSymbols class size entry fields file) (IsObjectRefusedFor None class size file) × IsChecked name read answer
 
 -- the result for a file, by its class; a file that is of no known class has no dynamic entries
-pub data IsFileAnswer (file : ElfFile) (name : List ℕ) (answer : Result (Option ℕ) LinkError) : Type 0 where
+pub data IsValueIn (file : ElfFile) (name : List ℕ) (answer : Result (Option ℕ) LinkError) : Type 0 where
   narrow : file_class file.header ≡ 1 → IsValueOf 1 16 dyn_entry_32 dyn_entry_32_fields file name answer
-      → IsFileAnswer file name answer
+      → IsValueIn file name answer
   wide : file_class file.header ≢ 1 → IsValueOf 2 24 dyn_entry_64 dyn_entry_64_fields file name answer
-      → IsFileAnswer file name answer
+      → IsValueIn file name answer

@@ -69,9 +69,9 @@ goes_on records offset follows (place ∷ places) =
     goes_on records offset (not (field records 4 place offset == 0)) places
 
 -- the error after the last record, if the record that follows it is cut off
-abbrev pub refusal_at_end : Bool → List (Result ℕ LinkError)
-refusal_at_end true = Err ShortVersion ∷ []
-refusal_at_end false = []
+abbrev pub error_at_end : Bool → List (Result ℕ LinkError)
+error_at_end true = Err ShortVersion ∷ []
+error_at_end false = []
 
 -- the items are the places of the longest list of records, and an error at the end if there are fewer than
 -- `count` and another one follows the last, which is cut off then
@@ -79,7 +79,7 @@ pub record ArePlaces (records : VersionRecords) (offset start count : ℕ) (item
   pub places : List ℕ
   pub longest : IsLongestList records offset start count places
   pub items_are : items ≡ map (λ place. Ok place) places
-      ++ refusal_at_end (nat_lt (length places) count && goes_on records offset true places)
+      ++ error_at_end (nat_lt (length places) count && goes_on records offset true places)
 
 -- the same items as a function
 unfoldable pub places_of : VersionRecords → ℕ → ℕ → ℕ → List (Result ℕ LinkError)

@@ -25,16 +25,16 @@ number_of numbers index = unwrap_or (option_map
     (λ numbers. result_map Some (ok_or (slice_get numbers index) SymbolIndex)) numbers) (Ok None)
 
 -- the first items are no errors, and none of them has the property
-abbrev pub NoneBefore : {A : Type 0} → (A → Type 0) → List (Result A LinkError) → ℕ → Type 0
-NoneBefore {A} P items high =
+abbrev pub NoItemBefore : {A : Type 0} → (A → Type 0) → List (Result A LinkError) → ℕ → Type 0
+NoItemBefore {A} P items high =
     (i : ℕ) → i < high → (item : A) × (slice_get items i ≡ Some (Ok item)) × (P item → ⊥)
 
 -- the first item with the property, nothing if there is none, or the error before it
 pub data IsFirst {A : Type 0} (P : A → Type 0) (items : List (Result A LinkError)) : Result (Option A) LinkError → Type 0 where
-  found : (i : ℕ) (item : A) → NoneBefore P items i → slice_get items i ≡ Some (Ok item) → P item
+  found : (i : ℕ) (item : A) → NoItemBefore P items i → slice_get items i ≡ Some (Ok item) → P item
       → IsFirst P items (Ok (Some item))
-  missing : NoneBefore P items (length items) → IsFirst P items (Ok None)
-  refused : (i : ℕ) (error : LinkError) → NoneBefore P items i → slice_get items i ≡ Some (Err error)
+  missing : NoItemBefore P items (length items) → IsFirst P items (Ok None)
+  refused : (i : ℕ) (error : LinkError) → NoItemBefore P items i → slice_get items i ≡ Some (Err error)
       → IsFirst P items (Err error)
 
 -- the same as a function
@@ -44,12 +44,12 @@ first_item test (Err error ∷ items) = Err error
 first_item test (Ok item ∷ items) = if test item then Ok (Some item) else first_item test items
 
 -- a definition that is not the base has a number
-abbrev pub bears_defined : ℕ → DefinitionParts → Bool
-bears_defined n d = version_number d.number == n && not (is_base d.flags)
+abbrev pub defines_number : ℕ → DefinitionParts → Bool
+defines_number n d = version_number d.number == n && not (is_base d.flags)
 
 -- a part of a need has a number
-abbrev pub bears_needed : ℕ → NeedParts → Bool
-bears_needed n need = need.number == n
+abbrev pub needs_number : ℕ → NeedParts → Bool
+needs_number n need = need.number == n
 
 -- the version of a symbol: its number, whether it is hidden, and the item with that number, if there is one
 pub record VersionParts (A : Type 0) : Type 0 where
@@ -76,20 +76,20 @@ abbrev pub named_at : VersionTables → ℕ → Result (Option (VersionParts Nam
 named_at tables index = and_then (number_of (numbers_in tables) index) (version_with (λ named. (entry_of named).number) (named_in tables))
 
 -- the entry with a number: none for 0, of local symbols, and 1, of global ones; otherwise the first in the list
-pub data IsNamed (entries : List (Result VersionEntry LinkError)) (n : ℕ) : Result (Option VersionEntry) LinkError → Type 0 where
-  reserved : n < 2 → IsNamed entries n (Ok None)
+pub data IsEntryWith (entries : List (Result VersionEntry LinkError)) (n : ℕ) : Result (Option VersionEntry) LinkError → Type 0 where
+  reserved : n < 2 → IsEntryWith entries n (Ok None)
   first : (answer : Result (Option VersionEntry) LinkError) → 2 ≤ n → IsFirst (λ entry. entry.number ≡ n) entries answer
-      → IsNamed entries n answer
+      → IsEntryWith entries n answer
 
 -- the version of the symbol at an index, nothing if the object has no numbers of symbols, or the error
 pub data IsVersion (list : VersionList) (index : ℕ) : Result (Option (VersionParts VersionEntry)) LinkError → Type 0 where
   no_numbers : number_of list.numbers index ≡ Ok None → IsVersion list index (Ok None)
   no_number : (error : LinkError) → number_of list.numbers index ≡ Err error → IsVersion list index (Err error)
   version : (raw : ℕ) (named : Option VersionEntry) → number_of list.numbers index ≡ Ok (Some raw)
-      → IsNamed list.entries (version_number raw) (Ok named)
+      → IsEntryWith list.entries (version_number raw) (Ok named)
       → IsVersion list index (Ok (Some (record { number = version_number raw; hidden = is_hidden raw; named = named })))
   unreadable : (raw : ℕ) (error : LinkError) → number_of list.numbers index ≡ Ok (Some raw)
-      → IsNamed list.entries (version_number raw) (Err error) → IsVersion list index (Err error)
+      → IsEntryWith list.entries (version_number raw) (Err error) → IsVersion list index (Err error)
 
 -- the fields of a definition or a need
 abbrev pub named_parts : named_version.NamedVersion → NamedParts

@@ -55,23 +55,21 @@ impl<E: Record> Clone for DynamicObject<'_, E> {
 impl<E: Record> Copy for DynamicObject<'_, E> {}
 
 impl<'a, E: LinkedSymbol> DynamicObject<'a, E> {
-    ghost use Rattle.elf_linking.specs.AnyTable.{FindsAllBy, IsCheckBy, IsDefinedBy, IsGoodBy};
-    ghost use Rattle.elf_linking.specs.AnyTable.{LooksBy, LooksForDefined};
-    ghost use Rattle.elf_linking.specs.DynamicObject.{AreOfClassFor, IsNameAt, IsObject};
-    ghost use Rattle.elf_linking.specs.DynamicObject.{IsObjectFor, IsObjectRefused};
+    ghost use Rattle.elf_linking.specs.AnyTable.{FindsAllBy, IsDefinedBy, LooksBy, LooksForDefined};
+    ghost use Rattle.elf_linking.specs.AnyTable.{IsCheckBy, IsGoodBy};
+    ghost use Rattle.elf_linking.specs.DynamicObject.{AreOfClassFor, object_file, object_symbols};
+    ghost use Rattle.elf_linking.specs.DynamicObject.{IsNameAt, IsObjectRefused, IsReachedObject};
+    ghost use Rattle.elf_linking.specs.DynamicObject.{IsObject, object_name, object_view};
+    ghost use Rattle.elf_linking.specs.DynamicObject.{IsObjectFor, object_machine, object_versions};
     ghost use Rattle.elf_linking.specs.DynamicObject.{IsObjectRefusedFor, object_dynamic_symbols};
-    ghost use Rattle.elf_linking.specs.DynamicObject.{IsReachedObject, IsReachedRefused};
-    ghost use Rattle.elf_linking.specs.DynamicObject.{object_file, object_machine, object_name};
-    ghost use Rattle.elf_linking.specs.DynamicObject.{object_name_bytes, object_records};
-    ghost use Rattle.elf_linking.specs.DynamicObject.{object_strings};
-    ghost use Rattle.elf_linking.specs.DynamicObject.{object_symbols, object_table};
-    ghost use Rattle.elf_linking.specs.DynamicObject.{object_versions, object_view};
+    ghost use Rattle.elf_linking.specs.DynamicObject.{IsReachedRefused, object_name_bytes};
+    ghost use Rattle.elf_linking.specs.DynamicObject.{object_records, object_strings, object_table};
     ghost use Rattle.elf_linking.specs.Find.{AreReadable, FindsRight, IsFound};
     ghost use Rattle.elf_linking.specs.Layouts.{gnu_hash_number};
     ghost use Rattle.elf_linking.specs.References.{references_left, references_of};
-    ghost use Rattle.elf_linking.specs.Versions.{HasReadableName, IsVersion, entry_item};
-    ghost use Rattle.elf_linking.specs.Versions.{named_at, version_at, version_item, version_list};
-    ghost use Rattle.elf_linking.specs.Versions.{version_tables, versions_error};
+    ghost use Rattle.elf_linking.specs.Versions.{HasReadableName, version_tables, versions_error};
+    ghost use Rattle.elf_linking.specs.Versions.{IsVersion, entry_item, version_item, version_list};
+    ghost use Rattle.elf_linking.specs.Versions.{named_at, version_at};
     ghost use Rattle.xmas_elf.specs.SymbolTable.{carried_strings, carried_table, table_symbols};
     ghost use Rattle.xmas_elf.specs.Symbols.{Decides, IsMatch};
 
@@ -117,7 +115,6 @@ impl<'a, E: LinkedSymbol> DynamicObject<'a, E> {
 
     // Reads the dynamic segment of a file with as many symbols as are given, otherwise with as many
     // as the hash table counts.
-    #[tactic(auto, unfolding(crate::specs::DynamicView::dynamic_strings_of))]
     fn read_for(file: &ElfFile<'a>, count: Option<u64>) -> Result<Self, LinkError>
         ensures { MatchResult result (IsObjectFor count E.CLASS E.SIZE file.now)
             (IsObjectRefusedFor count E.CLASS E.SIZE file.now) }

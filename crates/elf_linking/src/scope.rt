@@ -41,9 +41,10 @@ pub struct Scope<'s, 'a, E: Record> {
 
 impl<'s, 'a, E: LinkedSymbol> Scope<'s, 'a, E> {
     ghost use Rattle.std.specs.Prelude.{◌<◌, length, true, false};
+    ghost use Rattle.elf_linking.specs.Find.{IsFound};
     ghost use Rattle.elf_linking.specs.Layouts.{gnu_hash_number};
-    ghost use Rattle.elf_linking.specs.Scope.{AnswersAsked, AnswersRight, AreGood, BindsReference};
-    ghost use Rattle.elf_linking.specs.Scope.{BindsRight, FindsAt, HasNamedSymbol, IsBound};
+    ghost use Rattle.elf_linking.specs.Scope.{IsBoundFor, BindsRightFor, AreGood, BindsReference};
+    ghost use Rattle.elf_linking.specs.Scope.{BindsRight, GivesAt, HasNamedSymbol, IsBound};
     ghost use Rattle.elf_linking.specs.Scope.{IsFirstGiven, IsProtectedBound, IsReferenceBound};
     ghost use Rattle.elf_linking.specs.Scope.{scope_objects};
 
@@ -127,11 +128,11 @@ impl<'s, 'a, E: LinkedSymbol> Scope<'s, 'a, E> {
         index: u32,
         asked: &Asked<'_, E>,
     ) -> Result<Option<Bound<E>>, LinkError>
-        ensures answer { AnswersAsked (IsBound E.fields (scope_objects self.now).now from) from
+        ensures answer { IsBoundFor (IsBound E.fields (scope_objects self.now).now from) from
             index asked.now result }
         ensures good { let objects = (scope_objects self.now).now in
             AreGood E.fields objects → from < length objects
-            → AnswersRight E.fields objects from index asked.now result }
+            → BindsRightFor E.fields objects from index asked.now result }
     {
         match *asked {
             Asked::Own(symbol) => Ok(Some(Bound {
@@ -205,7 +206,7 @@ impl<'s, 'a, E: LinkedSymbol> Scope<'s, 'a, E> {
         requires there { from < length (scope_objects self.now).now }
         requires hashed { hash ≡ gnu_hash_number name.now }
         ensures { let objects = (scope_objects self.now).now in IsFirstGiven
-            (FindsAt E.fields objects name.now wanted.now use_)
+            (GivesAt IsFound E.fields objects name.now wanted.now use_)
             (length objects) symbolic from result }
     {
         if symbolic {
@@ -227,7 +228,7 @@ impl<'s, 'a, E: LinkedSymbol> Scope<'s, 'a, E> {
         requires there { from < length (scope_objects self.now).now }
         requires hashed { hash ≡ gnu_hash_number name.now }
         ensures { let objects = (scope_objects self.now).now in IsFirstGiven
-            (FindsAt E.fields objects name.now wanted.now use_)
+            (GivesAt IsFound E.fields objects name.now wanted.now use_)
             (length objects) true from result }
     {
         match self.given(from, name, hash, wanted, use_) {
@@ -252,7 +253,7 @@ impl<'s, 'a, E: LinkedSymbol> Scope<'s, 'a, E> {
     ) -> Result<Option<Bound<E>>, LinkError>
         requires { hash ≡ gnu_hash_number name.now }
         ensures { let objects = (scope_objects self.now).now in IsFirstGiven
-            (FindsAt E.fields objects name.now wanted.now use_)
+            (GivesAt IsFound E.fields objects name.now wanted.now use_)
             (length objects) false from result }
     {
         for place in 0..self.objects.len() {
@@ -284,7 +285,7 @@ impl<'s, 'a, E: LinkedSymbol> Scope<'s, 'a, E> {
         requires there { place < length (scope_objects self.now).now }
         requires hashed { hash ≡ gnu_hash_number name.now }
         ensures { let objects = (scope_objects self.now).now in
-            FindsAt E.fields objects name.now wanted.now use_ place result }
+            GivesAt IsFound E.fields objects name.now wanted.now use_ place result }
     {
         if is_passed_over(use_, place) {
             return Ok(None);

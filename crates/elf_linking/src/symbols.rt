@@ -5,7 +5,7 @@ ghost use Rattle.std.specs.Prelude.{◌≡◌, ◌<◌, ◌≤◌, ◌%◌, Err,
 ghost use Rattle.elf_linking.specs.DynamicView.{LieAsSymbols, LiesAsStrings, dynamic_entries_of};
 ghost use Rattle.elf_linking.specs.FileSymbols.{AreFileSymbols, AreSegmentSymbols, AreSymbolsOf};
 ghost use Rattle.elf_linking.specs.FileSymbols.{AreTableOf, LieAsFileSymbols, NoFileSymbols};
-ghost use Rattle.elf_linking.specs.FileSymbols.{first_of_type, is_of_type, lent_pair};
+ghost use Rattle.elf_linking.specs.FileSymbols.{first_of_type, is_of_type, pair_bytes};
 ghost use Rattle.elf_linking.specs.FileSymbols.{section_symbols_of, symbols_section_of};
 ghost use Rattle.xmas_elf.specs.Place.{LiesAsSection};
 ghost use Rattle.xmas_elf.specs.SectionHeader.{section_fields, section_of};
@@ -73,7 +73,7 @@ fn table_of<'a, E: LinkedSymbol>(file: &ElfFile<'a>) -> Result<SymbolTable<'a, E
 fn parts_of<'a>(file: &ElfFile<'a>, size: u64) -> Result<(&'a [u8], &'a [u8]), LinkError>
     requires above { 0 < size }
     requires below { size ≤ 24 }
-    ensures exact { AreFileSymbols file.now size (lent_pair result) }
+    ensures exact { AreFileSymbols file.now size (pair_bytes result) }
     ensures whole { IfOk result (λ parts. length parts.0.now % size ≡ 0) }
     ensures place { IfOk result (λ parts. LieAsFileSymbols file.now parts.0 parts.1) }
 {
@@ -91,7 +91,7 @@ fn section_parts<'a>(
     size: u64,
 ) -> Result<(&'a [u8], &'a [u8]), LinkError>
     requires { 0 < size }
-    ensures exact { lent_pair result ≡ section_symbols_of file.now size section.now }
+    ensures exact { pair_bytes result ≡ section_symbols_of file.now size section.now }
     ensures whole { IfOk result (λ parts. length parts.0.now % size ≡ 0) }
     ensures place { IfOk result (λ parts. LiesAsSection file.now section.now parts.0
         × IsOkAnd (section_of file.now (section_fields section.now).link)
@@ -110,7 +110,7 @@ fn section_parts<'a>(
 fn segment_parts<'a>(file: &ElfFile<'a>, size: u64) -> Result<(&'a [u8], &'a [u8]), LinkError>
     requires above { 0 < size }
     requires below { size ≤ 24 }
-    ensures exact { AreSegmentSymbols file.now size (lent_pair result) }
+    ensures exact { AreSegmentSymbols file.now size (pair_bytes result) }
     ensures whole { IfOk result (λ parts. length parts.0.now % size ≡ 0) }
     ensures place { IfOk result (λ parts. IsOkAnd (dynamic_entries_of file.now)
         (λ entries. LieAsSymbols file.now entries parts.0 × LiesAsStrings file.now entries parts.1)) }

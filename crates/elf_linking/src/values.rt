@@ -4,7 +4,7 @@
 ghost use Rattle.std.specs.Prelude.{◌≡◌, Err, MatchResult, Ok};
 ghost use Rattle.elf_base.specs.FileHeader.{header_of};
 ghost use Rattle.elf_linking.specs.DynamicObject.{object_dynamic_symbols};
-ghost use Rattle.elf_linking.specs.Values.{IsChecked, IsFileAnswer, IsValueOf};
+ghost use Rattle.elf_linking.specs.Values.{IsChecked, IsValueIn, IsValueOf};
 ghost use Rattle.elf_linking.specs.declared.error.LinkError.TheVariants.{Elf};
 ghost use Rattle.xmas_elf.specs.Types.{ElfFile};
 
@@ -54,7 +54,7 @@ fn value_of<E: LinkedSymbol>(file: &ElfFile<'_>, name: &str) -> Result<Option<u6
 /// Errors, the first of these: those of `DynamicObject::read`; those of
 /// `DynamicObject::newest_value`.
 pub fn value_in_file(file: &ElfFile<'_>, name: &str) -> Result<Option<u64>, LinkError>
-    ensures { IsFileAnswer file.now name.now result }
+    ensures { IsValueIn file.now name.now result }
 {
     match file.header.pt1.class() {
         Class::ThirtyTwo => value_of::<DynEntry32>(file, name),
@@ -69,7 +69,7 @@ pub fn value_in_file(file: &ElfFile<'_>, name: &str) -> Result<Option<u64>, Link
 pub fn value_by_name(input: &[u8], name: &str) -> Result<Option<u64>, LinkError>
     ensures { MatchResult (header_of input.now) (λ header.
         let file : ElfFile = record { input = input.entry; header = header } in
-        IsFileAnswer file name.now result) (λ error. result ≡ Err (Elf error)) }
+        IsValueIn file name.now result) (λ error. result ≡ Err (Elf error)) }
 {
     let file = ElfFile::new(input)?;
     value_in_file(&file, name)

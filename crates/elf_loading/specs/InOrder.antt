@@ -5,7 +5,7 @@ use Rattle.elf_base.specs.Refusal.{and_then}
 use Rattle.elf_linking.specs.DynamicView.{number_with}
 use Rattle.elf_linking.specs.LinkedSections.{relr_at}
 use Rattle.elf_linking.specs.References.{file_machine, record_size, relocation_tables, table_left}
-use Rattle.elf_linking.specs.RelocationTypes.{relative_of}
+use Rattle.elf_linking.specs.RelocationTypes.{relative_kind}
 use Rattle.elf_linking.specs.Relr.{relr_rest}
 use Rattle.elf_linking.specs.TableLocations.{table_by}
 use Rattle.elf_loading.specs.Types.{Dynamic, ElfFile, InOrder, LinkError, Packed, Part, Reference, Relocation, Relr, Row, TableLocation}
@@ -20,10 +20,6 @@ place in_place slot reference = record { reference = reference; in_place = in_pl
 -- those of a table
 abbrev pub placed : Bool → Bool → List Reference → List Relocation
 placed in_place slot references = map (place in_place slot) references
-
--- the type of relative relocations; on machines whose types have no rows the number that x86-64 and 386 have
-abbrev pub relative_type : ℕ → ℕ
-relative_type machine = unwrap_or (option_map (λ (row : Row). row.kind) (relative_of machine)) R_X86_64_RELATIVE
 
 -- the relative relocation at an address, of a type, whose addend is the word there
 abbrev pub relative_at : ℕ → ℕ → Relocation
@@ -60,7 +56,7 @@ kept_records file entries kind size =
 unfoldable pub relocations_in_order : ElfFile → List (Dynamic ℕ) → Result (List Relocation) LinkError
 relocations_in_order file entries = and_then (relr_addresses file entries) (λ addresses.
     and_then (relocation_tables file entries) (λ tables.
-    Ok (map (relative_at (relative_type (file_machine file))) addresses
+    Ok (map (relative_at (relative_kind (file_machine file))) addresses
     ++ (placed false false (take (kept_records file entries DT_RELA DT_RELASZ) tables.rela)
     ++ (placed true false (take (kept_records file entries DT_REL DT_RELSZ) tables.rel)
     ++ placed (is_kind DT_REL (number_with DT_PLTREL entries)) true tables.plt)))))

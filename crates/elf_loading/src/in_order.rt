@@ -7,7 +7,8 @@ ghost use Rattle.std.specs.Iterator.{YieldsFirst, item_count};
 ghost use Rattle.elf_linking.specs.DynamicView.{view_entries};
 ghost use Rattle.elf_linking.specs.References.{record_size, table_left};
 ghost use Rattle.elf_loading.specs.InOrder.{ends_with, is_kind, kept_records, order_left};
-ghost use Rattle.elf_loading.specs.InOrder.{packed_left, part_left, relative_type};
+ghost use Rattle.elf_loading.specs.InOrder.{packed_left, part_left};
+ghost use Rattle.elf_linking.specs.RelocationTypes.{relative_kind};
 ghost use Rattle.elf_loading.specs.InOrder.{relocations_in_order, relr_addresses, relr_left};
 ghost use Rattle.elf_loading.specs.InOrder.{take_most};
 ghost use Rattle.elf_loading.specs.Words.{address_size};
@@ -65,7 +66,7 @@ pub struct InOrder<'a> {
 
 // The type of relative relocations.
 fn relative_type(machine: u16) -> u32
-    ensures { result ≡ relative_type machine }
+    ensures { result ≡ relative_kind machine }
 {
     match relative_of(machine) {
         Some(row) => row.kind,

@@ -1,4 +1,3 @@
 pub mod AllBound
-mod FoundValues
 mod SecondFiles
 mod VersionNames

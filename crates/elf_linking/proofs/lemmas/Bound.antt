@@ -5,7 +5,7 @@ use Rattle.std.specs.Prelude.{IfSome}
 use Rattle.elf_linking.specs.DynamicObject.{object_view}
 use Rattle.elf_linking.specs.DynamicView.{is_symbolic, view_entries}
 use Rattle.elf_linking.specs.Find.{DynamicSymbols, IsFound}
-use Rattle.elf_linking.specs.Scope.{AnswersAsked, ComesBefore, FindsAt, Gives, GivesAt, IsBound, IsFirstGiven, IsProtectedBound, IsReferenceBound, NoneBefore, asked, asked_of, at_home, elsewhere, fails, given, lacks, nowhere, passed_over, refused, serves, serves_none, symbols_at, undefined, unfound, unread}
+use Rattle.elf_linking.specs.Scope.{IsBoundFor, ComesBefore, Gives, GivesAt, IsBound, IsFirstGiven, IsProtectedBound, IsReferenceBound, NoneBefore, asked, asked_of, at_home, elsewhere, fails, given, lacks, nowhere, passed_over, refused, serves, serves_none, undefined, unfound, unread}
 use Rattle.elf_linking.specs.Serves.{if_serving}
 use Rattle.elf_linking.specs.VersionTables.{result_map}
 use Rattle.elf_linking.specs.declared.error.LinkError.{LinkError}
@@ -36,13 +36,13 @@ module _ {E : Type 0} (Finds : DynamicSymbols E → Result (Option (ℕ × E)) L
       let (found', finds', is') = found_of file b other in
       is ∙ ap (result_map (if_serving file.symbols.fields)) (once file found found' finds finds') ∙ sym is'
 
-  pub at_once : (objects : ℕ → Option (DynamicSymbols E)) (purpose : uses.Use) (i : ℕ) (a b : Result (Option (ℕ × E)) LinkError) → GivesAt Finds objects purpose i a → GivesAt Finds objects purpose i b → a ≡ b
-  at_once objects purpose i _ _ (passed_over is) (passed_over is') = refl
-  at_once objects purpose i _ _ (passed_over is) (asked file b not there gives) = absurd (cc)
-  at_once objects purpose i _ _ (asked file a not there gives) (passed_over is) = absurd (cc)
-  at_once objects purpose i _ _ (asked file a not there gives) (asked file' b not' there' gives') =
-      let same : file' ≡ file = cc in
-      gives_once file a b gives (subst (λ f. Gives Finds f b) same gives')
+at_once : {E : Type 0} {r : _} (fields : E → SymbolFields) (objects : List (DynamicObject E r)) (name : List ℕ) (wanted : Wanted) (purpose : uses.Use) (i : ℕ) (a b : Result (Option (ℕ × E)) LinkError) → GivesAt IsFound fields objects name wanted purpose i a → GivesAt IsFound fields objects name wanted purpose i b → a ≡ b
+at_once fields objects name wanted purpose i _ _ (passed_over is) (passed_over is') = refl
+at_once fields objects name wanted purpose i _ _ (passed_over is) (asked file b not there gives) = absurd (cc)
+at_once fields objects name wanted purpose i _ _ (asked file a not there gives) (passed_over is) = absurd (cc)
+at_once fields objects name wanted purpose i _ _ (asked file a not there gives) (asked file' b not' there' gives') =
+    let same : file' ≡ file = cc in
+    gives_once (λ one. IsFound one name wanted purpose) (λ one. found_once one name wanted purpose) file a b gives (subst (λ f. Gives (λ one. IsFound one name wanted purpose) f b) same gives')
 
 -- what the first object gives, if each gives only one answer
 module _ {E : Type 0} (AtIndex : ℕ → Result (Option (ℕ × E)) LinkError → Type 0) (once : (i : ℕ) (a b : Result (Option (ℕ × E)) LinkError) → AtIndex i a → AtIndex i b → a ≡ b) (count : ℕ) (symbolic : Bool) (from : ℕ) where
@@ -142,13 +142,13 @@ module _ {E : Type 0} {r : _} (fields : E → SymbolFields) (objects : List (Dyn
   pub bound_once : (name : List ℕ) (wanted : Wanted) (purpose : uses.Use) (a b : Result (Option (Bound E)) LinkError) → IsBound fields objects from name wanted purpose a → IsBound fields objects from name wanted purpose b → a ≡ b
   bound_once name wanted purpose a b = by_object (slice_get objects from)
     where
-      by_object : (there : Option (DynamicObject E r)) → MatchOption there (a ≡ Err ObjectIndex) (λ asking. IsFirstGiven (FindsAt fields objects name wanted purpose) (length objects) (is_symbolic (view_entries (object_view asking))) from a) → MatchOption there (b ≡ Err ObjectIndex) (λ asking. IsFirstGiven (FindsAt fields objects name wanted purpose) (length objects) (is_symbolic (view_entries (object_view asking))) from b) → a ≡ b
+      by_object : (there : Option (DynamicObject E r)) → MatchOption there (a ≡ Err ObjectIndex) (λ asking. IsFirstGiven (GivesAt IsFound fields objects name wanted purpose) (length objects) (is_symbolic (view_entries (object_view asking))) from a) → MatchOption there (b ≡ Err ObjectIndex) (λ asking. IsFirstGiven (GivesAt IsFound fields objects name wanted purpose) (length objects) (is_symbolic (view_entries (object_view asking))) from b) → a ≡ b
       by_object None one other = one ∙ sym other
       by_object (Some asking) one other =
-          first_once (FindsAt fields objects name wanted purpose) (at_once (λ file. IsFound file name wanted purpose) (λ file. found_once file name wanted purpose) (symbols_at fields objects) purpose) (length objects) (is_symbolic (view_entries (object_view asking))) from a b one other
+          first_once (GivesAt IsFound fields objects name wanted purpose) (at_once fields objects name wanted purpose) (length objects) (is_symbolic (view_entries (object_view asking))) from a b one other
 
   -- what a reference asks for
-  pub asked_once : (index : ℕ) (question : Asked E) (a b : Result (Option (Bound E)) LinkError) → AnswersAsked (IsBound fields objects from) from index question a → AnswersAsked (IsBound fields objects from) from index question b → a ≡ b
+  pub asked_once : (index : ℕ) (question : Asked E) (a b : Result (Option (Bound E)) LinkError) → IsBoundFor (IsBound fields objects from) from index question a → IsBoundFor (IsBound fields objects from) from index question b → a ≡ b
   asked_once index (Own symbol) a b one other = one ∙ sym other
   asked_once index (Look name wanted purpose None) a b one other = bound_once name.now wanted purpose a b one other
   asked_once index (Look name wanted purpose (Some own)) a b one other =
@@ -158,10 +158,10 @@ module _ {E : Type 0} {r : _} (fields : E → SymbolFields) (objects : List (Dyn
   pub reference_once : (reference : Reference) (a b : Result (Option (Bound E)) LinkError) → IsReferenceBound fields objects from reference a → IsReferenceBound fields objects from reference b → a ≡ b
   reference_once reference a b = by_object (slice_get objects from)
     where
-      by_question : (said : Result (Asked E) LinkError) → MatchResult said (λ question. AnswersAsked (IsBound fields objects from) from reference.symbol question a) (λ error. a ≡ Err error) → MatchResult said (λ question. AnswersAsked (IsBound fields objects from) from reference.symbol question b) (λ error. b ≡ Err error) → a ≡ b
+      by_question : (said : Result (Asked E) LinkError) → MatchResult said (λ question. IsBoundFor (IsBound fields objects from) from reference.symbol question a) (λ error. a ≡ Err error) → MatchResult said (λ question. IsBoundFor (IsBound fields objects from) from reference.symbol question b) (λ error. b ≡ Err error) → a ≡ b
       by_question (Ok question) one other = asked_once reference.symbol question a b one other
       by_question (Err error) one other = one ∙ sym other
 
-      by_object : (there : Option (DynamicObject E r)) → MatchOption there (a ≡ Err ObjectIndex) (λ asking. MatchResult (asked_of fields asking reference) (λ question. AnswersAsked (IsBound fields objects from) from reference.symbol question a) (λ error. a ≡ Err error)) → MatchOption there (b ≡ Err ObjectIndex) (λ asking. MatchResult (asked_of fields asking reference) (λ question. AnswersAsked (IsBound fields objects from) from reference.symbol question b) (λ error. b ≡ Err error)) → a ≡ b
+      by_object : (there : Option (DynamicObject E r)) → MatchOption there (a ≡ Err ObjectIndex) (λ asking. MatchResult (asked_of fields asking reference) (λ question. IsBoundFor (IsBound fields objects from) from reference.symbol question a) (λ error. a ≡ Err error)) → MatchOption there (b ≡ Err ObjectIndex) (λ asking. MatchResult (asked_of fields asking reference) (λ question. IsBoundFor (IsBound fields objects from) from reference.symbol question b) (λ error. b ≡ Err error)) → a ≡ b
       by_object None one other = one ∙ sym other
       by_object (Some asking) one other = by_question (asked_of fields asking reference) one other

@@ -15,7 +15,7 @@ use Rattle.elf_linking.specs.DynamicObject.{object_dynamic_symbols, object_recor
 use Rattle.elf_linking.specs.DynamicView.{is_symbolic, view_entries}
 use Rattle.elf_linking.specs.Exports.{ObjectParts, SymbolParts, exports_of, object_parts, symbol_parts}
 use Rattle.elf_linking.specs.Find.{AreReadable, DynamicSymbols, IsFound}
-use Rattle.elf_linking.specs.Scope.{AnswersAsked, AreGood, FindsAt, Gives, IsBound, IsFirstGiven, IsProtectedBound, IsReferenceBound, asked, asked_of, at_home, elsewhere, given, is_passed_over, lacks, nowhere, passed_over, serves, serves_none, symbols_at, unfound}
+use Rattle.elf_linking.specs.Scope.{IsBoundFor, AreGood, Gives, GivesAt, IsBound, IsFirstGiven, IsProtectedBound, IsReferenceBound, asked, asked_of, at_home, elsewhere, given, is_passed_over, lacks, nowhere, passed_over, serves, serves_none, unfound}
 use Rattle.elf_linking.specs.Serves.{if_serving, serves_others}
 use Rattle.elf_linking.specs.VersionTables.{result_map}
 use Rattle.elf_linking.specs.Versions.{versions_error}
@@ -99,7 +99,7 @@ module _ {E : Type 0} {r : _} (fields : E → SymbolFields) (objects : List (Dyn
     over place is (Some object) = rw is refl
 
     given_is : (place : ℕ) (result : Result (Option (ℕ × E)) LinkError) (answer : Option (ℕ × E)) → result ≡ Ok answer
-        → FindsAt fields objects name wanted purpose place result → GivenIs place answer
+        → GivesAt IsFound fields objects name wanted purpose place result → GivenIs place answer
     given_is place _ answer is (passed_over passed) =
         let same : None ≡ answer = cc in
         subst (GivenIs place) same (over place passed (slice_get parts place))
@@ -139,11 +139,11 @@ module _ {E : Type 0} {r : _} (fields : E → SymbolFields) (objects : List (Dyn
       same_count : length parts ≡ length objects
       same_count = length-map objects (object_parts fields)
 
-      gives : (i : ℕ) (answer : Option (ℕ × E)) → FindsAt fields objects name wanted purpose i (Ok answer) → GivenIs i answer
+      gives : (i : ℕ) (answer : Option (ℕ × E)) → GivesAt IsFound fields objects name wanted purpose i (Ok answer) → GivenIs i answer
       gives i answer finds = given_is i (Ok answer) answer refl finds
 
       first_is : (symbolic : Bool) (result : Result (Option (Bound E)) LinkError) (found : Option (Bound E)) → result ≡ Ok found → from < length objects
-          → IsFirstGiven (FindsAt fields objects name wanted purpose) (length objects) symbolic from result → FirstIs symbolic found
+          → IsFirstGiven (GivesAt IsFound fields objects name wanted purpose) (length objects) symbolic from result → FirstIs symbolic found
       first_is false _ found is within (given bound below none there) =
           let same : Some bound ≡ found = cc in
           subst (FirstIs false) same (sym (some_is bound.object (symbol_of fields bound.object (bound.index, bound.symbol)) (omega (arith, below, same_count))
@@ -179,7 +179,7 @@ module _ {E : Type 0} {r : _} (fields : E → SymbolFields) (objects : List (Dyn
       looked_is found is = by_asking (slice_get objects from) refl is
         where
           by_asking : (asking : Option (DynamicObject E r)) → slice_get objects from ≡ asking
-              → MatchOption asking (Ok found ≡ Err ObjectIndex) (λ asking. IsFirstGiven (FindsAt fields objects name wanted purpose) (length objects) (is_symbolic (view_entries asking.view)) from (Ok found))
+              → MatchOption asking (Ok found ≡ Err ObjectIndex) (λ asking. IsFirstGiven (GivesAt IsFound fields objects name wanted purpose) (length objects) (is_symbolic (view_entries asking.view)) from (Ok found))
               → bound_fields fields found ≡ looked_up parts from name wanted purpose
           by_asking None at bound = absurd (cc)
           by_asking (Some asking) at bound =
@@ -214,7 +214,7 @@ module _ {E : Type 0} {r : _} (fields : E → SymbolFields) (objects : List (Dyn
     protected_is own purpose _ answer is _ = absurd (cc)
 
   module _ (from : ℕ) (reference : Reference) (answer : Option (Bound E)) where
-    by_question : (question : Asked E) → AnswersAsked (IsBound fields objects from) from reference.symbol question (Ok answer)
+    by_question : (question : Asked E) → IsBoundFor (IsBound fields objects from) from reference.symbol question (Ok answer)
         → bound_fields fields answer ≡ bound_for parts from reference.symbol (own_fields fields question)
     by_question (Own symbol) is = let same : answer ≡ Some (record { object = from; index = reference.symbol; symbol = symbol }) = cc in rw same refl
     by_question (Look name wanted purpose None) is = looked from name.now wanted purpose answer is
@@ -226,7 +226,7 @@ module _ {E : Type 0} {r : _} (fields : E → SymbolFields) (objects : List (Dyn
       where
         by_asking : (asking : Option (DynamicObject E r)) → slice_get objects from ≡ asking
             → MatchOption asking (Ok answer ≡ Err ObjectIndex) (λ asking. MatchResult (asked_of fields asking reference)
-            (λ question. AnswersAsked (IsBound fields objects from) from reference.symbol question (Ok answer)) (λ error. Ok answer ≡ Err error))
+            (λ question. IsBoundFor (IsBound fields objects from) from reference.symbol question (Ok answer)) (λ error. Ok answer ≡ Err error))
             → bound_fields fields answer ≡ bound_in parts from reference
         by_asking None at is = absurd (cc)
         by_asking (Some asking) at is = by_asked (asked_of fields asking reference) refl is
@@ -238,7 +238,7 @@ module _ {E : Type 0} {r : _} (fields : E → SymbolFields) (objects : List (Dyn
             readable = (good from (object_dynamic_symbols fields asking) (ap (option_map (object_dynamic_symbols fields)) at)).1
 
             by_asked : (said : Result (Asked E) LinkError) → asked_of fields asking reference ≡ said
-                → MatchResult said (λ question. AnswersAsked (IsBound fields objects from) from reference.symbol question (Ok answer)) (λ error. Ok answer ≡ Err error)
+                → MatchResult said (λ question. IsBoundFor (IsBound fields objects from) from reference.symbol question (Ok answer)) (λ error. Ok answer ≡ Err error)
                 → bound_fields fields answer ≡ bound_in parts from reference
             by_asked (Err error) said answers = absurd (cc)
             by_asked (Ok question) said answers =

@@ -1,7 +1,7 @@
 -- Searches among items that can be refusals: the computed answer is the first item with the property.
 use Rattle.std.proofs.Common.{◌≡◌, ℕ, zero, suc, Bool, true, false, if◌then◌else◌, List, [], ◌∷◌, length, Option, Some, None, Result, Ok, Err, refl, ap, ◌∙◌, arith}
 use Rattle.elf_linking.specs.declared.error.LinkError.{LinkError}
-use Rattle.elf_linking.specs.Versions.{IsFirst, found, missing, refused, NoneBefore, first_item}
+use Rattle.elf_linking.specs.Versions.{IsFirst, found, missing, refused, NoItemBefore, first_item}
 
 module _ {A : Type 0} (test : A → Bool) where
   pub search_end : (items : List (Result A LinkError)) → items ≡ [] → first_item test items ≡ Ok None
@@ -18,7 +18,7 @@ module _ {A : Type 0} (test : A → Bool) where
 
 -- a search finds the first item with the property that its test decides
 module _ {A : Type 0} (P : A → Type 0) (test : A → Bool) (hits : (x : A) → test x ≡ true → P x) (misses : (x : A) → test x ≡ false → P x → ⊥) where
-  one_more : (item : A) (items : List (Result A LinkError)) (high : ℕ) → (P item → ⊥) → NoneBefore P items high → NoneBefore P (Ok item ∷ items) (suc high)
+  one_more : (item : A) (items : List (Result A LinkError)) (high : ℕ) → (P item → ⊥) → NoItemBefore P items high → NoItemBefore P (Ok item ∷ items) (suc high)
   one_more item items high never none zero below = (item, refl, never)
   one_more item items high never none (suc i) below = none i (omega (arith, below))
 

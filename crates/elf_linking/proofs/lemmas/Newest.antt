@@ -4,7 +4,7 @@ use Rattle.std.proofs.Common.{◌≡◌, ℕ, Bool, true, List, Option, None, So
 use Rattle.std.proofs.lemmas.Bool.{and_from, and_parts}
 use Rattle.std.specs.Prelude.{◌&&◌, option_map}
 use Rattle.elf_linking.specs.AnyTable.{IsCheckBy, IsGoodBy}
-use Rattle.elf_linking.specs.Find.{AreReadable, DynamicSymbols, FindsRight, IsAsked, IsCandidate, IsFound, IsRight, IsShown, Seeks, asked_first, has_linked_type, has_place, is_below, none_shown, one_shown, otherwise, two_shown}
+use Rattle.elf_linking.specs.Find.{AreReadable, DynamicSymbols, FindsRight, IsAsked, IsCandidate, IsFound, IsShown, Seeks, asked_first, has_linked_type, has_place, is_below, none_shown, one_shown, otherwise, two_shown}
 use Rattle.elf_linking.specs.Find as find
 use Rattle.elf_linking.specs.GnuHash as gnu
 use Rattle.elf_linking.specs.Serves.{if_serving}
@@ -72,11 +72,11 @@ module _ {E : Type 0} (file : DynamicSymbols E) (name : List ℕ) where
 
   -- the value of the name, by what the list of symbols says, or the error of the check
   pub value_right : AreReadable file → (answer : Result (Option ℕ) LinkError) → IsChecked name (Ok file) answer
-      → MatchResult answer (λ value. (found : Option (ℕ × E)) × IsRight file name Newest Any found × (value ≡ option_map (λ p. (file.symbols.fields p.1).value) (if_serving file.symbols.fields found))) (λ error. IsCheckBy file.table file.symbols (Err error))
+      → MatchResult answer (λ value. (found : Option (ℕ × E)) × FindsRight file name Newest Any (Ok found) × (value ≡ option_map (λ p. (file.symbols.fields p.1).value) (if_serving file.symbols.fields found))) (λ error. IsCheckBy file.table file.symbols (Err error))
   value_right readable _ (unchecked _ error is) = is
   value_right readable answer (passed _ found _ check newest is) = by found (newest_right (good_by file.table file.symbols check) readable found newest) is
     where
       by : (found : Result (Option (ℕ × E)) LinkError) → FindsRight file name Newest Any found → answer ≡ result_map (λ at. option_map (λ p. (file.symbols.fields p.1).value) (if_serving file.symbols.fields at)) found
-          → MatchResult answer (λ value. (at : Option (ℕ × E)) × IsRight file name Newest Any at × (value ≡ option_map (λ p. (file.symbols.fields p.1).value) (if_serving file.symbols.fields at))) (λ error. IsCheckBy file.table file.symbols (Err error))
+          → MatchResult answer (λ value. (at : Option (ℕ × E)) × FindsRight file name Newest Any (Ok at) × (value ≡ option_map (λ p. (file.symbols.fields p.1).value) (if_serving file.symbols.fields at))) (λ error. IsCheckBy file.table file.symbols (Err error))
       by (Ok at) right is = rw is (at, right, refl)
       by (Err error) right is = absurd right

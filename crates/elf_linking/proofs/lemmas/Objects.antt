@@ -1,11 +1,11 @@
 -- For callers of `DynamicObject::read`: the dynamic symbols of an object are those of its file, and it has only one
 -- error.
-use Rattle.std.proofs.Common.{◌≡◌, ℕ, List, Result, Ok, Err, MatchResult, ap, subst, sym, ◌∙◌}
+use Rattle.std.proofs.Common.{◌≡◌, ℕ, List, None, Result, Ok, Err, MatchResult, ap, subst}
 use Rattle.elf_base.proofs.lemmas.RecordLemmas.{length-records}
 use Rattle.elf_base.specs.FileHeader.{file_class}
 use Rattle.elf_base.specs.Table.{table_data, table_order}
-use Rattle.elf_linking.specs.DynamicObject.{AreDynamicSymbols, AreOfClass, AreVersionedSymbols, IsObject, IsObjectRefused, object_dynamic_symbols, object_records, object_strings, object_table, object_versions, object_view, same_class, symbols_with}
-use Rattle.elf_linking.specs.DynamicView.{AreSymbols, dynamic_entries_of, strings_by, dynamic_strings_of, strings_of_entries, view_entries}
+use Rattle.elf_linking.specs.DynamicObject.{AreDynamicSymbols, AreOfClassFor, AreVersionedSymbols, IsObject, IsObjectRefused, object_dynamic_symbols, object_records, object_strings, object_table, object_versions, object_view, same_class, symbols_with}
+use Rattle.elf_linking.specs.DynamicView.{AreSymbols, view_entries}
 use Rattle.elf_linking.specs.VersionTables.{version_tables_of}
 use Rattle.elf_linking.specs.Versions.{version_tables}
 use Rattle.elf_linking.specs.declared.error.LinkError.{LinkError}
@@ -15,10 +15,6 @@ use Rattle.xmas_elf.specs.Symbol.{SymbolFields}
 use Rattle.xmas_elf.specs.declared.ElfFile.{ElfFile}
 use Rattle.elf_linking.proofs.ObjectRefusals.{all_read, refused_once}
 
-strings_read : (file : ElfFile) (entries : List (Dynamic ℕ)) (strings : List ℕ) → dynamic_entries_of file ≡ Ok entries → dynamic_strings_of file ≡ Ok strings → strings_by file entries ≡ Ok strings
-unfolding dynamic_strings_of
-strings_read file entries strings entries_are strings_are = sym (ap (strings_of_entries file) entries_are) ∙ strings_are
-
 pub symbols_of_object : {E : Type 0} {r : _} (object : DynamicObject E r) (class : ℕ) (fields : E → SymbolFields) (file : ElfFile) → IsObject class r.SIZE file object → AreDynamicSymbols class r.SIZE r.value fields file (object_dynamic_symbols fields object)
 symbols_of_object {E} {r} object class fields file is = record {
   entries = view_entries (object_view object);
@@ -27,7 +23,7 @@ symbols_of_object {E} {r} object class fields file is = record {
   entries_are = is.entries_are;
   table_is = is.table_is;
   bytes_are = is.symbols_are;
-  strings_are = strings_read file (view_entries (object_view object)) (object_strings object).now is.entries_are is.strings_are;
+  strings_are = is.strings_are;
   symbols_are = ap (λ order. symbols_with r.SIZE (r.value order) fields (object_strings object).now (table_data (object_records object))) is.order_is;
   tables = version_tables (object_versions object);
   tables_are = is.versions_are;
@@ -43,11 +39,11 @@ versions_of_object object class fields file is = record {
 }
 
 -- the bytes of symbols of a class are those of the dynamic segment
-pub class_symbols : (class size : ℕ) (file : ElfFile) (entries : List (Dynamic ℕ)) (bytes : List ℕ) → AreOfClass class size file entries (Ok bytes) → AreSymbols file entries size (Ok bytes)
+pub class_symbols : (class size : ℕ) (file : ElfFile) (entries : List (Dynamic ℕ)) (bytes : List ℕ) → AreOfClassFor None class size file entries (Ok bytes) → AreSymbols file entries size (Ok bytes)
 class_symbols class size file entries bytes (same_class _ same are) = are
 
 -- a file with such symbols is of the class
-pub class_same : (class size : ℕ) (file : ElfFile) (entries : List (Dynamic ℕ)) (bytes : List ℕ) → AreOfClass class size file entries (Ok bytes) → file_class file.header ≡ class
+pub class_same : (class size : ℕ) (file : ElfFile) (entries : List (Dynamic ℕ)) (bytes : List ℕ) → AreOfClassFor None class size file entries (Ok bytes) → file_class file.header ≡ class
 class_same class size file entries bytes (same_class _ same are) = same
 
 -- reading a file as an object has only one error
@@ -57,7 +53,7 @@ object_once {E} {r} class file (Ok object) error is refused =
     let bytes = table_data (object_records object) in
     let strings = (object_strings object).now in
     absurd (all_read class r.SIZE file entries (object_table object) bytes strings (version_tables (object_versions object)) error is.entries_are is.table_is is.symbols_are
-    (strings_read file entries strings is.entries_are is.strings_are)
+    is.strings_are
     (subst (λ n. version_tables_of file entries (Ok strings) n ≡ Ok (version_tables (object_versions object))) (length-records r.SIZE (r.value (table_order (object_records object))) bytes) is.versions_are)
     refused)
 object_once {E} {r} class file (Err other) error is refused = ap (λ e. Err e) (refused_once class r.SIZE file other error is refused)

@@ -1,8 +1,8 @@
 -- What the rows of relocation types have in common.
-use Rattle.std.proofs.Common.{◌≡◌, ◌==◌, ◌||◌, ◌⊎◌, Bool, true, false, ℕ, List, [], ◌∷◌, None, Some, unwrap_or, cond, if◌then◌else◌, inl, inr, refl, sym}
+use Rattle.std.proofs.Common.{◌≡◌, ◌==◌, ◌||◌, ◌⊎◌, Bool, true, false, ℕ, List, [], ◌∷◌, None, Some, unwrap_or, cond, if◌then◌else◌, inl, inr, option_map, refl, subst, sym}
 use Rattle.std.specs.List.{find, list_all}
 use Rattle.std.proofs.lemmas.Bool.{and_parts, eqb-true}
-use Rattle.elf_linking.specs.RelocationTypes.{row_of, rows_of}
+use Rattle.elf_linking.specs.RelocationTypes.{is_relative, relative_kind, relative_of, row_of, rows_of}
 use Rattle.elf_linking.specs.declared.find.Use.TheVariants.{Any}
 use Rattle.elf_linking.specs.declared.references.types.Row.{Row}
 use Rattle.elf_linking.specs.declared.references.types.TheConstants.{AARCH64, I386, X86_64}
@@ -32,6 +32,21 @@ module _ (test : Row → Bool) where
       → test (record { kind = kind; formula = None; width = if machine == 3 then 4 else 8; use_ = Any; names = true; slot = false }) ≡ true
       → test (row_of machine kind) ≡ true
   row_passes a b c machine kind last = first_passes kind (rows_of machine) _ (rows_pass a b c (machine == 62) (machine == 3) (machine == 183)) last
+
+by_machine : (one two three : Bool) → (three ≡ true → one ≡ false) → (three ≡ true → two ≡ false)
+    → unwrap_or (option_map (λ (row : Row). row.kind) (find (λ (row : Row). is_relative row.formula) (if one then X86_64 else (if two then I386 else (if three then AARCH64 else []))))) 8 ≡ (if three then 1027 else 8)
+by_machine true two true not_one not_two = absurd (let never = not_one refl in cc)
+by_machine true two false not_one not_two = refl
+by_machine false true true not_one not_two = absurd (let never = not_two refl in cc)
+by_machine false true false not_one not_two = refl
+by_machine false false true not_one not_two = refl
+by_machine false false false not_one not_two = refl
+
+-- the type of relative relocations is the number of their row
+pub relative_number : (machine : ℕ) → unwrap_or (option_map (λ (row : Row). row.kind) (relative_of machine)) 8 ≡ relative_kind machine
+relative_number machine = by_machine (machine == 62) (machine == 3) (machine == 183)
+    (λ is. subst (λ m. (m == 62) ≡ false) (sym (eqb-true machine 183 is)) refl)
+    (λ is. subst (λ m. (m == 3) ≡ false) (sym (eqb-true machine 183 is)) refl)
 
 abbrev has_width : Row → Bool
 has_width row = row.width == 4 || row.width == 8

@@ -14,11 +14,10 @@ use xmas_elf::ElfFile;
 use xmas_elf::symbol_table::{Entry, SymbolTable};
 
 impl<'a> GnuHashTable<'a> {
-    ghost use Rattle.elf_linking.specs.GnuHash.{AreGoodBelow, ComeFrom, Ends, EndsRun, HasChain};
-    ghost use Rattle.elf_linking.specs.GnuHash.{IsAtFault, IsBucketGood, IsCheck, IsCut};
-    ghost use Rattle.elf_linking.specs.GnuHash.{IsExported, IsGood, IsHeld, IsThere};
-    ghost use Rattle.elf_linking.specs.GnuHash.{bucket_count_of, chain_word, first_symbol_of};
-    ghost use Rattle.elf_linking.specs.GnuHash.{start_at};
+    ghost use Rattle.elf_linking.specs.GnuHash.{AreGoodBelow, bucket_count_of, first_symbol_of};
+    ghost use Rattle.elf_linking.specs.GnuHash.{ComeFrom, EndsRun, HasChain, IsCheck, start_at};
+    ghost use Rattle.elf_linking.specs.GnuHash.{Ends, IsCut, IsGood, IsHeld, IsThere};
+    ghost use Rattle.elf_linking.specs.GnuHash.{IsAtFault, IsBucketGood, IsExported, chain_word};
 
     /// Checks that the runs of all buckets end, and that `lookup` finds every exported symbol: each
     /// one from `first_symbol` on that is defined, is not local and has a name. A binding without a

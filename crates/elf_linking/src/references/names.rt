@@ -1,11 +1,10 @@
 //! The names of relocation types (the processor supplements of the System V ABI).
 
 ghost use Rattle.std.specs.Prelude.{◌≡◌, option_map};
-ghost use Rattle.elf_linking.specs.RelocationNames.{relocation_name};
-ghost use Rattle.elf_linking.specs.RelocationNames.{name_of_aarch64, name_of_x86_64, name_of_386};
-ghost use Rattle.elf_linking.specs.RelocationNames.{name_of_aarch64_dynamic};
-ghost use Rattle.elf_linking.specs.RelocationNames.{name_of_aarch64_static};
-ghost use Rattle.elf_linking.specs.RelocationNames.{name_of_aarch64_tls, name_of_aarch64_tls_end};
+ghost use Rattle.elf_linking.specs.RelocationNames.{relocation_name, name_of_aarch64_tls_end};
+ghost use Rattle.elf_linking.specs.RelocationNames.{name_of_aarch64, name_of_aarch64_static};
+ghost use Rattle.elf_linking.specs.RelocationNames.{name_of_x86_64, name_of_386};
+ghost use Rattle.elf_linking.specs.RelocationNames.{name_of_aarch64_dynamic, name_of_aarch64_tls};
 
 use crate::references::types::{EM_386, EM_AARCH64, EM_X86_64};
 

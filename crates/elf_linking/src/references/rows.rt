@@ -1,7 +1,8 @@
 //! The row of a relocation type, and what is read from it.
 
-ghost use Rattle.std.specs.Prelude.{◌≡◌, ◌≤◌, ◌⊎◌, true};
-ghost use Rattle.elf_linking.specs.RelocationTypes.{has_no_other, relative_of, row_of, rows_of};
+ghost use Rattle.std.specs.Prelude.{◌≡◌, ◌≤◌, ◌⊎◌, option_map, true, unwrap_or};
+ghost use Rattle.elf_linking.specs.RelocationTypes.{has_no_other, relative_kind, relative_of};
+ghost use Rattle.elf_linking.specs.RelocationTypes.{row_of, rows_of};
 ghost use Rattle.elf_linking.specs.declared.references.types.TheConstants.{AARCH64, I386, X86_64};
 
 use crate::find::Use;
@@ -77,7 +78,8 @@ pub fn use_of(machine: u16, kind: u32) -> Use
 /// The row of the relative relocations of a machine (`e_machine`), whose formula is `B + A`; `None`
 /// for machines other than x86-64, 386 and AArch64.
 pub fn relative_of(machine: u16) -> Option<Row>
-    ensures { result ≡ relative_of machine }
+    ensures exact { result ≡ relative_of machine }
+    ensures kind { unwrap_or (option_map (λ row. row.kind) result) 8 ≡ relative_kind machine }
 {
     rows_of(machine)
         .iter()

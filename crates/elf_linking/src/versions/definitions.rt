@@ -4,11 +4,10 @@ ghost use Rattle.std.specs.Prelude.{◌≡◌, ◌+◌, ◌<◌, ◌≤◌, ◌^
 ghost use Rattle.std.specs.Str.{bytes_eq};
 ghost use Rattle.elf_linking.specs.Loaded.{lent};
 ghost use Rattle.elf_linking.specs.VersionList.{is_base};
-ghost use Rattle.elf_linking.specs.VersionTables.{AreDefinitions, definition_at, definition_item};
-ghost use Rattle.elf_linking.specs.VersionTables.{definition_parts, definitions_in};
-ghost use Rattle.elf_linking.specs.VersionTables.{definitions_left, result_map, name_offset};
-ghost use Rattle.elf_linking.specs.VersionTables.{records_data};
-ghost use Rattle.elf_linking.specs.Versions.{bears_defined};
+ghost use Rattle.elf_linking.specs.VersionTables.{AreDefinitions, definition_item, definitions_in};
+ghost use Rattle.elf_linking.specs.VersionTables.{definition_at, result_map, name_offset};
+ghost use Rattle.elf_linking.specs.VersionTables.{definition_parts, definitions_left, records_data};
+ghost use Rattle.elf_linking.specs.Versions.{defines_number};
 
 use crate::LinkError;
 use crate::versions::records::{Chain, Records};
@@ -37,8 +36,8 @@ impl<'a> Definition<'a> {
 
     // Whether it has this number, and isn't the base.
     #[inline(always)]
-    pub(crate) fn bears(&self, number: u16) -> bool
-        ensures { result ≡ bears_defined number (definition_parts self.now) }
+    pub(crate) fn has_number(&self, number: u16) -> bool
+        ensures { result ≡ defines_number number (definition_parts self.now) }
     {
         self.number % 0x8000 == number && !self.is_base()
     }

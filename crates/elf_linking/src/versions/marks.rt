@@ -17,7 +17,7 @@ pub(crate) struct Marked<'a> {
 impl<'a> Marked<'a> {
     ghost use Rattle.std.specs.Prelude.{IfSome, Ok, Some};
     ghost use Rattle.elf_linking.specs.VersionTables.{definition_at, definitions_in, records_data};
-    ghost use Rattle.elf_linking.specs.Versions.{bears_defined, first_item};
+    ghost use Rattle.elf_linking.specs.Versions.{defines_number, first_item};
 
     // These records. At most 64 definitions are read, all in the first 64 KiB.
     pub(crate) fn new(records: Records<'a>) -> Marked<'a>
@@ -45,7 +45,7 @@ impl<'a> Marked<'a> {
             place + 20 ≤ length (records_data self.now.records).bytes) }
         ensures first { let definitions = records_data self.now.records in
             IfSome result (λ place. Ok (Some (definition_at definitions place))
-            ≡ first_item (bears_defined number) (definitions_in definitions)) }
+            ≡ first_item (defines_number number) (definitions_in definitions)) }
     {
         let mark = mark_of(&self.marks, number);
         if mark == 0 {

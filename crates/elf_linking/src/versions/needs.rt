@@ -5,7 +5,7 @@ ghost use Rattle.std.specs.Str.{bytes_eq};
 ghost use Rattle.elf_linking.specs.Loaded.{lent};
 ghost use Rattle.elf_linking.specs.VersionTables.{AreNeeds, need_at, need_item, need_parts};
 ghost use Rattle.elf_linking.specs.VersionTables.{result_map, needs_in, needs_left, records_data};
-ghost use Rattle.elf_linking.specs.Versions.{bears_needed};
+ghost use Rattle.elf_linking.specs.Versions.{needs_number};
 
 use crate::LinkError;
 use crate::versions::records::{Chain, Records};
@@ -29,8 +29,8 @@ pub struct Need<'a> {
 
 impl<'a> Need<'a> {
     // Whether it has this number.
-    pub(crate) fn bears(&self, number: u16) -> bool
-        ensures { result ≡ bears_needed number (need_parts self.now) }
+    pub(crate) fn has_number(&self, number: u16) -> bool
+        ensures { result ≡ needs_number number (need_parts self.now) }
     {
         self.number == number
     }

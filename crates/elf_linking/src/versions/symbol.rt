@@ -3,14 +3,13 @@
 ghost use Rattle.std.specs.Prelude.{◌≡◌, Err, Ok, Option, option_map};
 ghost use Rattle.std.specs.Str.{bytes_eq};
 ghost use Rattle.elf_linking.specs.Loaded.{lent};
-ghost use Rattle.elf_linking.specs.VersionList.{entry_of, named_in, numbers_in};
-ghost use Rattle.elf_linking.specs.VersionList.{versions_in};
-ghost use Rattle.elf_linking.specs.VersionTables.{definition_parts, definitions_in};
-ghost use Rattle.elf_linking.specs.VersionTables.{result_map, need_parts, needs_in};
-ghost use Rattle.elf_linking.specs.Versions.{IsVersion, bears_defined, bears_needed, entry_item};
-ghost use Rattle.elf_linking.specs.Versions.{first_item, item_with, named_at, named_entry};
-ghost use Rattle.elf_linking.specs.Versions.{named_parts, number_of, version_at, version_item};
-ghost use Rattle.elf_linking.specs.Versions.{version_list, version_tables};
+ghost use Rattle.elf_linking.specs.VersionList.{entry_of, named_in, numbers_in, versions_in};
+ghost use Rattle.elf_linking.specs.VersionTables.{definition_parts, definitions_in, result_map};
+ghost use Rattle.elf_linking.specs.VersionTables.{need_parts, needs_in};
+ghost use Rattle.elf_linking.specs.Versions.{IsVersion, entry_item, first_item, version_at};
+ghost use Rattle.elf_linking.specs.Versions.{defines_number, needs_number, version_tables};
+ghost use Rattle.elf_linking.specs.Versions.{item_with, named_at, number_of};
+ghost use Rattle.elf_linking.specs.Versions.{named_entry, named_parts, version_item, version_list};
 
 use crate::LinkError;
 use crate::versions::definitions::definition_at;
@@ -155,7 +154,7 @@ impl<'a> Versions<'a> {
 
     // The first definition with a number that isn't the base.
     fn definition_with(&self, number: u16) -> Result<Option<Definition<'a>>, LinkError>
-        ensures { result_map (option_map definition_parts) result ≡ first_item (bears_defined number)
+        ensures { result_map (option_map definition_parts) result ≡ first_item (defines_number number)
             (definitions_in (version_tables self.now).definitions) }
     {
         match self.definitions.place_of(number) {
@@ -167,12 +166,12 @@ impl<'a> Versions<'a> {
     // The first definition with a number that isn't the base, by a search of the list.
     #[tactic(auto, using(crate::proofs::lemmas::FirstItems::search_end, crate::proofs::lemmas::FirstItems::search_fault, crate::proofs::lemmas::FirstItems::search_found, crate::proofs::lemmas::FirstItems::search_other))]
     fn definition_listed(&self, number: u16) -> Result<Option<Definition<'a>>, LinkError>
-        ensures { result_map (option_map definition_parts) result ≡ first_item (bears_defined number)
+        ensures { result_map (option_map definition_parts) result ≡ first_item (defines_number number)
             (definitions_in (version_tables self.now).definitions) }
     {
         for item in self.definitions() {
             let definition = item?;
-            if definition.bears(number) {
+            if definition.has_number(number) {
                 return Ok(Some(definition));
             }
         }
@@ -182,12 +181,12 @@ impl<'a> Versions<'a> {
     // The first need with a number.
     #[tactic(auto, using(crate::proofs::lemmas::FirstItems::search_end, crate::proofs::lemmas::FirstItems::search_fault, crate::proofs::lemmas::FirstItems::search_found, crate::proofs::lemmas::FirstItems::search_other))]
     fn need_with(&self, number: u16) -> Result<Option<Need<'a>>, LinkError>
-        ensures { result_map (option_map need_parts) result ≡ first_item (bears_needed number)
+        ensures { result_map (option_map need_parts) result ≡ first_item (needs_number number)
             (needs_in (version_tables self.now).needs) }
     {
         for item in self.needs() {
             let need = item?;
-            if need.bears(number) {
+            if need.has_number(number) {
                 return Ok(Some(need));
             }
         }

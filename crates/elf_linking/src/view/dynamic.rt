@@ -1,13 +1,10 @@
 //! The dynamic segment of a file, and its entries (gABI, "Dynamic Section").
 
-ghost use Rattle.std.specs.Prelude.{◌≡◌, ◌<◌, ◌^◌, Ok, Err, IfOk, MatchResult, length, map, ok_or};
-ghost use Rattle.elf_base.specs.Refusal.{and_then};
-ghost use Rattle.elf_linking.specs.DynamicView.{LiesAsFileStrings, LiesByEntries};
-ghost use Rattle.elf_linking.specs.DynamicView.{dynamic_segment_of, entries_left, is_dynamic};
-ghost use Rattle.elf_linking.specs.DynamicView.{number_with, pairs_of, dynamic_strings_of};
-ghost use Rattle.elf_linking.specs.DynamicView.{until_null};
-ghost use Rattle.elf_linking.specs.Loaded.{bytes_at_of, lent};
-ghost use Rattle.elf_linking.specs.declared.error.LinkError.TheVariants.{NoEntry};
+ghost use Rattle.std.specs.Prelude.{◌≡◌, ◌<◌, ◌^◌, Ok, Err, IfOk, MatchResult, length, map};
+ghost use Rattle.elf_linking.specs.DynamicView.{LiesAsFileStrings, LiesAsStrings, entries_left};
+ghost use Rattle.elf_linking.specs.DynamicView.{strings_by, dynamic_segment_of, dynamic_strings_of};
+ghost use Rattle.elf_linking.specs.DynamicView.{number_with, pairs_of, until_null};
+ghost use Rattle.elf_linking.specs.Loaded.{lent};
 ghost use Rattle.elf_linking.specs.declared.view.tags.TheConstants.{DT_RPATH};
 ghost use Rattle.elf_linking.specs.declared.view.tags.TheConstants.{DT_RUNPATH, DT_SONAME};
 
@@ -32,20 +29,13 @@ pub struct DynamicView<'a> {
 
 const PT_DYNAMIC: u32 = 2;
 
-// Whether a segment has type Dynamic.
-fn is_dynamic(segment: &Segment) -> bool
-    ensures { result ≡ is_dynamic segment.now }
-{
-    segment.kind == PT_DYNAMIC
-}
-
 /// The dynamic segment: the first of type Dynamic.
 #[tactic(auto, unfolding(crate::specs::DynamicView::dynamic_segment_of), using(crate::proofs::Firsts::find_none, crate::proofs::Firsts::find_hit, crate::proofs::Firsts::find_other))]
 pub fn dynamic_segment(file: &ElfFile<'_>) -> Option<Segment>
     ensures { result ≡ dynamic_segment_of file.now }
 {
     for segment in Segments::of(file) {
-        if is_dynamic(&segment) {
+        if segment.kind == PT_DYNAMIC {
             return Some(segment);
         }
     }
@@ -53,11 +43,10 @@ pub fn dynamic_segment(file: &ElfFile<'_>) -> Option<Segment>
 }
 
 impl<'a> DynamicView<'a> {
-    ghost use Rattle.elf_linking.specs.DynamicView.{IsTextWith, LiesAsStrings, as_linked_text};
-    ghost use Rattle.elf_linking.specs.DynamicView.{dynamic_entries_of, is_symbolic};
-    ghost use Rattle.elf_linking.specs.DynamicView.{needed_bytes_left, needed_bytes_of, needed_left};
-    ghost use Rattle.elf_linking.specs.DynamicView.{needed_of, needed_table, strings_by};
-    ghost use Rattle.elf_linking.specs.DynamicView.{view_entries, view_strings, view_table};
+    ghost use Rattle.elf_linking.specs.DynamicView.{IsTextWith, needed_left, needed_of, view_table};
+    ghost use Rattle.elf_linking.specs.DynamicView.{as_linked_text, needed_bytes_of, needed_table};
+    ghost use Rattle.elf_linking.specs.DynamicView.{dynamic_entries_of, needed_bytes_left};
+    ghost use Rattle.elf_linking.specs.DynamicView.{is_symbolic, view_entries, view_strings};
 
     /// Reads the first segment of type Dynamic. Its entries end before the first with tag Null, or
     /// at the end of the segment.
@@ -78,7 +67,7 @@ impl<'a> DynamicView<'a> {
             return Err(LinkError::NoDynamic);
         };
         let entries = Entries::new(Pairs::new(segment.bytes(file)?, file)?);
-        let strings = strings_by(file, entries.number(DT_STRTAB), entries.number(DT_STRSZ));
+        let strings = strings_by(file, &entries);
         Ok(DynamicView { entries, strings })
     }
 
@@ -174,19 +163,14 @@ impl<'a> DynamicView<'a> {
 }
 
 // The bytes of the string table, by its address and its size.
-fn strings_by<'a>(
-    file: &ElfFile<'a>,
-    address: Option<u64>,
-    size: Option<u64>,
-) -> Result<&'a [u8], LinkError>
-    ensures exact { lent result ≡ and_then (ok_or address NoEntry) (λ start.
-        and_then (ok_or size NoEntry) (bytes_at_of file.now start)) }
-    ensures place { IfOk result (LiesByEntries file.now address size) }
+fn strings_by<'a>(file: &ElfFile<'a>, entries: &Entries<'a>) -> Result<&'a [u8], LinkError>
+    ensures exact { lent result ≡ strings_by file.now (until_null (pairs_of entries.now.pairs)) }
+    ensures place { IfOk result (LiesAsStrings file.now (until_null (pairs_of entries.now.pairs))) }
 {
-    let Some(address) = address else {
+    let Some(address) = entries.number(DT_STRTAB) else {
         return Err(LinkError::NoEntry);
     };
-    let Some(size) = size else {
+    let Some(size) = entries.number(DT_STRSZ) else {
         return Err(LinkError::NoEntry);
     };
     bytes_at(file, address, size)

@@ -1,11 +1,11 @@
 //! Callers that ask for the value of a name by its version, in an object whose look-ups find what
 //! they must and whose versions can be read.
 
-ghost use Rattle.std.specs.Prelude.{◌≡◌, ℕ, Err, MatchOption, MatchResult, None, Ok, Option};
-ghost use Rattle.std.specs.Prelude.{Some, option_map, true};
+ghost use Rattle.std.specs.Prelude.{◌≡◌, ℕ, Err, MatchResult, Ok, Option};
+ghost use Rattle.std.specs.Prelude.{option_map};
 ghost use Rattle.elf_linking.specs.AnyTable.{IsCheckBy, IsGoodBy};
 ghost use Rattle.elf_linking.specs.DynamicObject.{object_dynamic_symbols};
-ghost use Rattle.elf_linking.specs.Find.{AreReadable, IsRight, NoneAccepted, Stands, accepted};
+ghost use Rattle.elf_linking.specs.Find.{AreReadable, FindsRight};
 ghost use Rattle.elf_linking.specs.Find.{exact_version};
 ghost use Rattle.elf_linking.specs.Serves.{if_serving};
 ghost use Rattle.elf_linking.specs.declared.find.Use.TheVariants.{Any};
@@ -23,16 +23,16 @@ pub fn served_value<E: LinkedSymbol>(
 ) -> Result<Option<u64>, LinkError>
     requires { AreReadable (object_dynamic_symbols E.fields object.now) }
     ensures { let file = object_dynamic_symbols E.fields object.now in MatchResult result
-        (λ value. (found : Option (ℕ × E)) × IsRight file name.now Newest Any found
+        (λ value. (found : Option (ℕ × E)) × FindsRight file name.now Newest Any (Ok found)
         × (value ≡ option_map (λ at. (E.fields at.1).value) (if_serving E.fields found)))
         (λ error. IsCheckBy file.table file.symbols (Err error)) }
 {
     object.newest_value(name)
 }
 
-/// The value of a symbol with this name and a version with the other name, as `dlvsym` asks; `None` if
-/// the version of each symbol that look-ups must find is another, or has no name.
-#[tactic(auto, using(crate::proofs::FoundValues::found_accepted))]
+/// The value of a symbol with this name and a version with the other name, as `dlvsym` asks: that of the
+/// symbol which is right in the list of symbols. `None` if the version of each symbol that look-ups must
+/// find is another, or has no name.
 pub fn exact_value<E: LinkedSymbol>(
     object: &DynamicObject<'_, E>,
     name: &str,
@@ -41,11 +41,9 @@ pub fn exact_value<E: LinkedSymbol>(
     requires good { let file = object_dynamic_symbols E.fields object.now in
         IsGoodBy file.table file.symbols }
     requires readable { AreReadable (object_dynamic_symbols E.fields object.now) }
-    ensures { let file = object_dynamic_symbols E.fields object.now in MatchOption result
-        (NoneAccepted file name.now (exact_version version.entry) Any)
-        (λ value. (i : ℕ) × (e : E) × Stands file name.now Any (i, e)
-        × (accepted file.versions (exact_version version.entry) i ≡ Ok true)
-        × (value ≡ (E.fields e).value)) }
+    ensures { let file = object_dynamic_symbols E.fields object.now in (found : Option (ℕ × E))
+        × FindsRight file name.now (exact_version version.entry) Any (Ok found)
+        × (result ≡ option_map (λ at. (E.fields at.1).value) found) }
 {
     match object.find(name, &Wanted::exact(version), Use::Any) {
         Ok(Some((_index, exact))) => Some(exact.value()),

@@ -61,9 +61,6 @@ returns-in-Err-get_chain g c =
     found_break _ _ _ _ _ loop.starts _ _ loop.steps _ _ c.in-On.kept d stands c.in-Err-get_chain.error refuses
     (goes_behind _ _ _ _ _ loop.starts _ _ loop.steps _ _ _ loop.comes d stands c.in-On.kept (c.in-On.ensures (Sysv c.args.table.now)))
 
-pub overflow_add-passed : goal.overflow_add-passed
-overflow_add-passed g c = let small = c.in-Ok-check_place.ensures.2 in omega arith
-
 pub loop-index-preserved : goal.loop-index-preserved
 loop-index-preserved g c =
     let loop = c.loop-index.invariant in

@@ -6,20 +6,10 @@ use Rattle.elf_linking.proofs.gnu_hash.GnuHashTable.check_in.Goals as goal
 pub returns-in-Ok-clause-exact : goal.returns-in-Ok-clause-exact
 returns-in-Ok-clause-exact g c = good (record { buckets = c.in-Ok.ensures; holds = c.holds_all.ensures.yes c.if-holds_all.true })
 
-pub returns-in-Ok-clause-accepts : goal.returns-in-Ok-clause-accepts
-returns-in-Ok-clause-accepts g c =
-    let all = table_symbols c.args.symbols.now in
-    (ok_is_good c.args.self.now all _ (returns-in-Ok-clause-exact g c), good_is_ok c.args.self.now all _ (returns-in-Ok-clause-exact g c))
-
 pub returns-in-Ok-2-clause-exact : goal.returns-in-Ok-2-clause-exact
 returns-in-Ok-2-clause-exact g c =
     let (i, e, name, exported, lost) = c.holds_all.ensures.no c.if-holds_all.false in
     missing i e name c.in-Ok.ensures exported lost
-
-pub returns-in-Ok-2-clause-accepts : goal.returns-in-Ok-2-clause-accepts
-returns-in-Ok-2-clause-accepts g c =
-    let all = table_symbols c.args.symbols.now in
-    (ok_is_good c.args.self.now all _ (returns-in-Ok-2-clause-exact g c), good_is_ok c.args.self.now all _ (returns-in-Ok-2-clause-exact g c))
 
 pub returns-in-Err-clause-exact : goal.returns-in-Err-clause-exact
 returns-in-Err-clause-exact g c =

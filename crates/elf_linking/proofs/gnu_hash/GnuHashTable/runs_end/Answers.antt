@@ -1,14 +1,11 @@
 use Rattle.std.proofs.Common.{◌≡◌, ◌+◌, ◌≤◌, ◌<◌, ◌%◌, ◌⊎◌, inl, inr, refl, sym, subst, arith}
 use Rattle.std.proofs.lemmas.Bool.{cases_lt}
-use Rattle.elf_linking.specs.GnuHash.{HasChain, IsThere, chain_word, symbol_end}
+use Rattle.elf_linking.specs.GnuHash.{HasChain, IsThere, chain_word}
 use Rattle.xmas_elf.specs.SymbolTable.{table_symbols}
-use Rattle.elf_linking.proofs.Scans.{Scanned, scanned_end, scanned_first, scanned_on}
+use Rattle.elf_linking.proofs.Scans.{Scanned, scanned_end, scanned_on}
 use Rattle.elf_linking.proofs.Words.{chain_before}
 use Rattle.elf_linking.proofs.gnu_hash.GnuHashTable.runs_end.Goals as goal
 use Rattle.elf_linking.proofs.gnu_hash.GnuHashTable.runs_end.Goals.{then-word-eq1, else-word-eq1}
-
-pub loop-index-init : goal.loop-index-init
-loop-index-init g c = scanned_first _ _ _ (omega arith)
 
 pub loop-index-preserved : goal.loop-index-preserved
 loop-index-preserved g c =
@@ -22,9 +19,6 @@ loop-index-preserved g c =
       | else-word-eq1 w ↦ subst (λ e. Scanned table items e (c.loop-index.index + 1)) (sym w.end-is) (scanned_on table items c.loop-index.end c.loop-index.index c.loop-index.invariant there (λ ends. w.if-word-eq1.false (subst (λ x. x % 2 ≡ 1) (sym same) ends)))
     ]
 
-pub returns-in-Err-clause-ends : goal.returns-in-Err-clause-ends
-returns-in-Err-clause-ends g c = c.loop-index.invariant.ends
-
 pub returns-in-Err-clause-last : goal.returns-in-Err-clause-last
 returns-in-Err-clause-last g c = λ i begins above there ends.
     let table = c.args.self.now in
@@ -34,11 +28,3 @@ returns-in-Err-clause-last g c = λ i begins above there ends.
       | inr behind ↦ (let yes = c.in-Err.ensures.readable.1 (chain_before table c.loop-index.index i (omega arith) behind there.word) in cc)
     ] in
     go (cases_lt i c.loop-index.index)
-
-pub returns-clause-ends : goal.returns-clause-ends
-returns-clause-ends g c = c.loop-index.invariant.ends
-
-pub returns-clause-last : goal.returns-clause-last
-returns-clause-last g c = λ i begins above there ends.
-    let below : i < symbol_end (table_symbols c.args.symbols.now).items = there.symbol in
-    c.loop-index.invariant.last i begins above (omega arith) ends

@@ -1,4 +1,4 @@
-use Rattle.std.proofs.Common.{◌≡◌, Some, slice_get, sym, ◌∙◌, subst, arith}
+use Rattle.std.proofs.Common.{◌≡◌, Some, slice_get, sym, ◌∙◌, subst}
 use Rattle.xmas_elf.specs.Symbols.{IsMatchWhere}
 use Rattle.xmas_elf.specs.SymbolTable.{table_symbols}
 use Rattle.elf_linking.proofs.gnu_hash.lookup.symbol_at.Goals as goal
@@ -9,10 +9,3 @@ returns-then-passes-clause-yes g c = λ e one.
     let same : c.in_ok-entry.entry ≡ e = cc in
     let symbol : slice_get (table_symbols c.args.symbols.now).items c.args.index ≡ Some c.in_ok-entry.entry = sym c.get.ensures ∙ c.in_ok-entry.was in
     subst (λ x. (slice_get all.items c.args.index ≡ Some x) × IsMatchWhere all g.F.Fn c.args.f.now c.args.name.now (c.args.index, x)) same (symbol, c.passes.ensures.yes c.if-passes.true)
-
-pub returns-else-passes-clause-no : goal.returns-else-passes-clause-no
-returns-else-passes-clause-no g c = λ d none e at match.
-    let all = table_symbols c.args.symbols.now in
-    let symbol : slice_get (table_symbols c.args.symbols.now).items c.args.index ≡ Some c.in_ok-entry.entry = sym c.get.ensures ∙ c.in_ok-entry.was in
-    let same : e ≡ c.in_ok-entry.entry = cc in
-    c.passes.ensures.no c.if-passes.false (d c.args.index c.in_ok-entry.entry (omega arith) symbol) (subst (λ x. IsMatchWhere all g.F.Fn c.args.f.now c.args.name.now (c.args.index, x)) same match)
