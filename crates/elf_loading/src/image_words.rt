@@ -1,13 +1,13 @@
 //! Whether the words of an object can be written.
 
-ghost use Rattle.std.specs.Prelude.{◌≡◌, ◌<◌, ◌≤◌, ◌+◌, ◌*◌, ◌==◌, ◌&&◌, ◌||◌, [], ℕ, Err, List};
-ghost use Rattle.std.specs.Prelude.{MatchResult, Ok, Some, length, nat_le, nat_lt, not, slice_get};
+ghost use Rattle.std.specs.Prelude.{◌<◌, [], ◌==◌, ◌≡◌, ◌+◌, ◌&&◌, ◌*◌, ◌≤◌, ◌||◌, Some, nat_lt};
+ghost use Rattle.std.specs.Prelude.{slice_get, Err, MatchResult, not, Ok, ℕ, List, nat_le, length};
 ghost use Rattle.std.specs.List.{find, list_any};
 ghost use Rattle.elf_linking.specs.Scope.{scope_objects};
 ghost use Rattle.elf_loading.specs.ImageTables.{tables_of};
-ghost use Rattle.elf_loading.specs.ImageWords.{AreMarksOf, AreWordsFrom, IsBegun};
-ghost use Rattle.elf_loading.specs.ImageWords.{IsImageCheck, IsOwnCheck, check_word, checked_relocations};
-ghost use Rattle.elf_loading.specs.ImageWords.{holds_word, is_marked, meet, some_marked, touches};
+ghost use Rattle.elf_loading.specs.ImageWords.{AreMarksOf, AreWordsFrom, IsBegun, IsOwnCheck};
+ghost use Rattle.elf_loading.specs.ImageWords.{check_word, checked_relocations, holds_word};
+ghost use Rattle.elf_loading.specs.ImageWords.{is_marked, meet, some_marked, touches};
 ghost use Rattle.elf_loading.specs.Plan.{plan_loads, plan_size, plan_span};
 ghost use Rattle.elf_loading.specs.Segments.{has_flag};
 ghost use Rattle.elf_loading.specs.declared.words.Word.{Word};
@@ -19,7 +19,7 @@ use crate::segments::has_flag;
 use crate::words::{Binding, Word, Words};
 use elf_linking::scope::Scope;
 use elf_linking::view::{LinkedSymbol, TableLocation};
-use elf_linking::{DynamicObject, LinkError, Segment};
+use elf_linking::{DynamicObject, Segment};
 use xmas_elf::program::FLAG_W;
 
 // What the check of a word asks of its object.
@@ -206,7 +206,7 @@ fn begin<'s, 'a, E: LinkedSymbol>(
 }
 
 // Whether the words of an object with this plan, which is at an index of a scope, can be written.
-fn check_own<'a, E: LinkedSymbol>(
+pub(crate) fn check_own<'a, E: LinkedSymbol>(
     scope: Scope<'_, 'a, E>,
     of: usize,
     own: &DynamicObject<'a, E>,
@@ -230,24 +230,4 @@ fn check_own<'a, E: LinkedSymbol>(
         tables,
     };
     check_words(&room, words, marks)
-}
-
-// Whether the words of the object at an index of a scope with these plans can be written.
-#[tactic(auto, using(crate::proofs::ImageChecks::no_object, crate::proofs::ImageChecks::no_plan))]
-pub(crate) fn check_image<E: LinkedSymbol>(
-    scope: Scope<'_, '_, E>,
-    plans: &[LoadPlan<'_>],
-    of: usize,
-    marks: &mut [u8],
-) -> Result<(), LoadError>
-    ensures exact { IsImageCheck E.SIZE E.fields (scope_objects scope.entry).now plans.now of
-        (8 * length marks.old) result }
-{
-    let Some(own) = scope.objects().get(of) else {
-        return Err(LoadError::Link(LinkError::ObjectIndex));
-    };
-    let Some(plan) = plans.get(of) else {
-        return Err(LoadError::Link(LinkError::ObjectIndex));
-    };
-    check_own(scope, of, own, plan, marks)
 }

@@ -3,8 +3,8 @@
 ghost use Rattle.std.specs.Prelude.{◌≡◌, ◌*◌, MatchResult, IfErr, IfOk, Ok, Err, length, slice_get};
 ghost use Rattle.elf_linking.specs.Scope.{scope_objects};
 
-use crate::image_words::check_image;
-use crate::relocate::{Place, relocate};
+use crate::image_words::check_own;
+use crate::relocate::{Place, Sources};
 use crate::words::{Binding, Words};
 use crate::{LoadError, LoadPlan};
 use elf_base::bytes::Record;
@@ -76,7 +76,7 @@ impl<'s, 'a, E: LinkedSymbol> LoadScope<'s, 'a, E> {
     ///
     /// The time is that of `Scope::bind` for each relocation, and linear in the bytes of the words; each
     /// word is looked for in the load segments.
-    #[tactic(auto, using(crate::proofs::ImagePasses::image_passes))]
+    #[tactic(auto, using(crate::proofs::ImageChecks::no_object, crate::proofs::ImageChecks::no_plan))]
     pub fn check_image(&self, of: usize, marks: &mut [u8]) -> Result<(), LoadError>
         ensures exact { IsImageCheck E.SIZE E.fields (loaded_objects self.now).now
             (loaded_plans self.now).now of (8 * length marks.old) result }
@@ -84,7 +84,13 @@ impl<'s, 'a, E: LinkedSymbol> LoadScope<'s, 'a, E> {
             MatchBoth (slice_get objects of) (slice_get (loaded_plans self.now).now of) ⊥
             (AreWritten E.SIZE E.fields objects of)) }
     {
-        check_image(self.scope, self.plans, of, marks)
+        let Some(own) = self.scope.objects().get(of) else {
+            return Err(LoadError::Link(LinkError::ObjectIndex));
+        };
+        let Some(plan) = self.plans.get(of) else {
+            return Err(LoadError::Link(LinkError::ObjectIndex));
+        };
+        check_own(self.scope, of, own, plan, marks)
     }
 
     /// Writes the words of the object at index `of` to its image, and returns how many have no
@@ -105,6 +111,7 @@ impl<'s, 'a, E: LinkedSymbol> LoadScope<'s, 'a, E> {
     /// objects; `Link` with those of `words`; then of the first word that has one, `WordType` or
     /// `Link`, `Unresolved`, `WordAddress` and `CopySource`. The words before it are written, and the
     /// bytes of that word and of those after it stay as they are.
+    #[tactic(auto, using(crate::proofs::ImageChecks::no_object, crate::proofs::ImageChecks::no_plan))]
     pub fn relocate(
         &self,
         of: usize,
@@ -121,6 +128,21 @@ impl<'s, 'a, E: LinkedSymbol> LoadScope<'s, 'a, E> {
         ensures errors { IfErr result (HasErrorLeft E.fields (loaded_objects self.now).now
             (loaded_plans self.now).now of when) }
     {
-        relocate(self.scope, self.plans, of, when, places, others, image)
+        let objects = self.scope.objects();
+        let Some(own) = objects.get(of) else {
+            return Err(LoadError::Link(LinkError::ObjectIndex));
+        };
+        let Some(plan) = self.plans.get(of) else {
+            return Err(LoadError::Link(LinkError::ObjectIndex));
+        };
+        let sources = Sources {
+            objects,
+            plans: self.plans,
+            of,
+            order: own.file().byte_order(),
+            places,
+            images: others,
+        };
+        sources.relocate(self.scope, own, plan, when, image)
     }
 }

@@ -1,8 +1,8 @@
 //! The bytes that relocations write to the image of an object.
 
-ghost use Rattle.std.specs.Prelude.{◌-◌, ◌&&◌, ◌^◌, if◌then◌else◌, ◌%◌, ◌≤◌, ◌≡◌, ◌/◌, ◌+◌, ◌<◌};
-ghost use Rattle.std.specs.Prelude.{◌*◌, IfOk, Err, slice_get, true, nat_le, Ok, Some, MatchOption};
-ghost use Rattle.std.specs.Prelude.{IfErr, min, ℕ, IfSome, false, nat_lt, length, slice_index};
+ghost use Rattle.std.specs.Prelude.{if◌then◌else◌, ◌<◌, ◌/◌, ◌≡◌, ◌+◌, ◌%◌, ◌-◌, ◌*◌, ◌&&◌, ◌≤◌};
+ghost use Rattle.std.specs.Prelude.{◌^◌, Some, nat_lt, slice_get, Err, MatchOption, Ok, IfErr, ℕ};
+ghost use Rattle.std.specs.Prelude.{IfSome, true, false, slice_index, min, IfOk, nat_le, length};
 ghost use Rattle.elf_base.specs.Table.{table_items};
 ghost use Rattle.elf_linking.specs.DynamicObject.{object_records, object_view};
 ghost use Rattle.elf_linking.specs.DynamicView.{view_entries};
@@ -10,11 +10,11 @@ ghost use Rattle.elf_linking.specs.References.{file_machine};
 ghost use Rattle.elf_linking.specs.RelocationTypes.{relative_of};
 ghost use Rattle.elf_linking.specs.Scope.{scope_objects};
 ghost use Rattle.elf_loading.specs.RelativeWords.{IsItemWritten, relative_word};
-ghost use Rattle.elf_loading.specs.Relocate.{AreWordsFor, IsRelocation, IsRelocationIn, IsWriting};
-ghost use Rattle.elf_loading.specs.Relocate.{byte_of_number, has_no_number, image_at, image_start};
-ghost use Rattle.elf_loading.specs.Relocate.{is_copy_outside, is_outside, is_unresolved, is_weak};
-ghost use Rattle.elf_loading.specs.Relocate.{is_wrong_size, origin_sum, place_at, value_byte};
-ghost use Rattle.elf_loading.specs.Relocate.{value_number, word_byte, write_item, write_word};
+ghost use Rattle.elf_loading.specs.Relocate.{AreWordsFor, IsRelocation, IsWriting, byte_of_number};
+ghost use Rattle.elf_loading.specs.Relocate.{has_no_number, image_at, image_start, is_copy_outside};
+ghost use Rattle.elf_loading.specs.Relocate.{is_outside, is_unresolved, is_weak, is_wrong_size};
+ghost use Rattle.elf_loading.specs.Relocate.{origin_sum, place_at, value_byte, value_number};
+ghost use Rattle.elf_loading.specs.Relocate.{word_byte, write_item, write_word};
 ghost use Rattle.elf_loading.specs.Words.{binds_lazily};
 ghost use Rattle.elf_loading.specs.WordsLeft.{HasWordOf, relocations_left, words_file, words_lazy};
 ghost use Rattle.elf_loading.specs.WordsLeft.{words_own};
@@ -26,11 +26,11 @@ use crate::plan::LoadPlan;
 use crate::value::{Origin, Value, low};
 use crate::words::{Binding, Relocated, Word, Words, binds_lazily, needs_symbol};
 use elf_base::bytes::Record;
+use elf_linking::DynamicObject;
 use elf_linking::references::relative_of;
 use elf_linking::references::types::Row;
 use elf_linking::scope::Scope;
 use elf_linking::view::LinkedSymbol;
-use elf_linking::{DynamicObject, LinkError};
 use xmas_elf::bytes::Order;
 
 /// Where an object is loaded.
@@ -47,16 +47,16 @@ pub struct Place {
 // What the words of an object are written by.
 #[derive(Drop)]
 pub(crate) struct Sources<'b, 's, 'a, E: Record> {
-    objects: &'s [DynamicObject<'a, E>],
-    plans: &'s [LoadPlan<'a>],
+    pub(crate) objects: &'s [DynamicObject<'a, E>],
+    pub(crate) plans: &'s [LoadPlan<'a>],
     // The index of the own object.
-    of: usize,
+    pub(crate) of: usize,
     // The byte order of the own object.
-    order: Order,
+    pub(crate) order: Order,
     // Where each object is loaded.
-    places: &'b [Place],
+    pub(crate) places: &'b [Place],
     // The bytes of each object from which bytes are copied.
-    images: &'b [&'b [u8]],
+    pub(crate) images: &'b [&'b [u8]],
 }
 
 // The place of an object.
@@ -460,7 +460,7 @@ impl<'b, 's, 'a, E: LinkedSymbol> Sources<'b, 's, 'a, E> {
     }
 
     // Writes the words of the own object to its image, which has this plan.
-    fn relocate(
+    pub(crate) fn relocate(
         &self,
         scope: Scope<'s, 'a, E>,
         own: &DynamicObject<'a, E>,
@@ -495,36 +495,4 @@ fn is_unresolved<E: LinkedSymbol>(
     matches!(item.bound, Ok(None))
         && needs_symbol(machine, lazy, &item.relocation)
         && !is_weak(own, item.relocation.reference.symbol)
-}
-
-// Writes the words of the object at an index of a scope with these plans to its image.
-#[tactic(auto, using(crate::proofs::ImageChecks::no_object, crate::proofs::ImageChecks::no_plan))]
-pub(crate) fn relocate<'s, 'a, E: LinkedSymbol>(
-    scope: Scope<'s, 'a, E>,
-    plans: &'s [LoadPlan<'a>],
-    of: usize,
-    when: Binding,
-    places: &[Place],
-    others: &[&[u8]],
-    image: &mut [u8],
-) -> Result<u64, LoadError>
-    ensures { IsRelocationIn E.fields (scope_objects scope.entry) plans.entry of when places.entry
-        others.entry image.old image.new result }
-{
-    let objects = scope.objects();
-    let Some(own) = objects.get(of) else {
-        return Err(LoadError::Link(LinkError::ObjectIndex));
-    };
-    let Some(plan) = plans.get(of) else {
-        return Err(LoadError::Link(LinkError::ObjectIndex));
-    };
-    let sources = Sources {
-        objects,
-        plans,
-        of,
-        order: own.file().byte_order(),
-        places,
-        images: others,
-    };
-    sources.relocate(scope, own, plan, when, image)
 }
