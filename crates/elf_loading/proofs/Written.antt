@@ -25,8 +25,8 @@ use Rattle.xmas_elf.specs.Symbol.{SymbolFields}
 use Rattle.std.proofs.lemmas.Bool.{and_parts, eqb-true}
 use Rattle.elf_base.specs.Table.{table_items}
 use Rattle.elf_linking.specs.References.{file_machine}
-use Rattle.elf_linking.specs.Scope.{AnswersAsked, IsBound, IsReferenceBound, asked_of, asked_with}
-use Rattle.elf_linking.specs.RelocationTypes.{is_base, relative_of, row_of}
+use Rattle.elf_linking.specs.Scope.{IsBoundFor, IsBound, IsReferenceBound, asked_of, asked_with}
+use Rattle.elf_linking.specs.RelocationTypes.{is_relative, relative_of, row_of}
 use Rattle.elf_linking.specs.declared.find.Use.TheVariants.{Any}
 use Rattle.elf_linking.specs.declared.references.types.TheConstants.{AARCH64, I386, X86_64}
 use Rattle.elf_loading.specs.RelativeWords.{IsItemWritten, asks_as, relative_word}
@@ -205,7 +205,7 @@ module _ {E : Type 0} {r : _} (fields : E → SymbolFields) (objects : List (Dyn
       ∙ ap (λ index. asked_with fields object other (slice_get (table_items (object_records object)) index)) symbol
 
   abbrev Answers : ℕ → Result (Asked E) LinkError → Type 0
-  Answers index asked = MatchResult asked (λ question. AnswersAsked (IsBound fields objects of) of index question bound) (λ error. bound ≡ Err error)
+  Answers index asked = MatchResult asked (λ question. IsBoundFor (IsBound fields objects of) of index question bound) (λ error. bound ≡ Err error)
 
   for_object : (found : Option (DynamicObject E r)) → MatchOption found (bound ≡ Err ObjectIndex) (λ asking. Answers one.symbol (asked_of fields asking one))
       → MatchOption found (bound ≡ Err ObjectIndex) (λ asking. Answers other.symbol (asked_of fields asking other))
@@ -256,7 +256,7 @@ module _ (machine : ℕ) (relative : Row) where
   facts_at m one same is facts = let those : one ≡ relative = cc in subst (λ k. Facts k relative) (sym same) (subst (Facts m) those facts)
 
   by_machine : (one two three : Bool) → (machine == 62) ≡ one → (machine == 3) ≡ two → (machine == 183) ≡ three
-      → find (λ (row : Row). is_base row.formula) (if one then X86_64 else (if two then I386 else (if three then AARCH64 else []))) ≡ Some relative → Facts machine relative
+      → find (λ (row : Row). is_relative row.formula) (if one then X86_64 else (if two then I386 else (if three then AARCH64 else []))) ≡ Some relative → Facts machine relative
   by_machine true two three a b c is =
       facts_at 62 (record { kind = 8; formula = Some formulas.Base; width = 8; use_ = Any; names = false; slot = false }) (eqb-true machine 62 a) is (record { formula = refl; width = refl; no_slot = refl })
   by_machine false true three a b c is =
