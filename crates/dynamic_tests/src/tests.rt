@@ -1,9 +1,8 @@
 //! Expected values are worked out by hand from the format,
 //! and never taken from the program's output.
 
-mod by_index;
+mod any_table;
 mod by_name;
-mod callers;
 mod gnu_hash;
 mod linked;
 mod messages;
@@ -14,7 +13,6 @@ mod sections;
 mod segments;
 mod shared_object;
 mod symbols;
-mod version_parts;
 mod versions;
 mod view;
 mod want;

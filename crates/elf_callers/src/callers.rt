@@ -10,12 +10,11 @@ ghost use Rattle.std.specs.Result.{result_ok};
 ghost use Rattle.elf_callers.specs.Names.{name_in_bytes, text_length};
 ghost use Rattle.elf_callers.specs.StringBytes.{IsStringRefused, IsStringTotal};
 ghost use Rattle.elf_callers.specs.StringBytes.{LiesThere, string_size};
-ghost use Rattle.xmas_elf.specs.SectionHeader.{HasSectionHeader, section_by_u16, section_count_of};
+ghost use Rattle.xmas_elf.specs.SectionHeader.{HasSectionHeader, section_by_u16};
 ghost use Rattle.xmas_elf.specs.SectionHeader.{section_fields, section_list};
-ghost use Rattle.xmas_elf.specs.SectionHeader.{section_of, section_place, section_type};
+ghost use Rattle.xmas_elf.specs.SectionHeader.{section_place, section_type};
 ghost use Rattle.xmas_elf.specs.FileHeader.{IsAccepted, file_class, file_order};
 ghost use Rattle.xmas_elf.specs.FileHeader.{header_of};
-ghost use Rattle.xmas_elf.specs.HeaderTable.{IsLongest};
 ghost use Rattle.xmas_elf.specs.NameTable.{shstr_of};
 ghost use Rattle.xmas_elf.specs.Number.{byte_at, number};
 ghost use Rattle.xmas_elf.specs.SectionData.{section_data_of};
@@ -60,15 +59,6 @@ pub fn size_64(file: &ElfFile<'_>, index: u16) -> Result<u64, ElfError>
 {
     let section = file.section_header(index)?;
     Ok(section.size())
-}
-
-/// How many sections of a file can be read, by its iterator.
-pub fn readable_sections(file: &ElfFile<'_>) -> usize
-    ensures counted { result ≡ length (section_list file.now) }
-    ensures longest { IsLongest (section_of file.now)
-        (section_count_of file.now) (section_list file.now) }
-{
-    file.section_iter().count()
 }
 
 /// The position in the list of the first section at this offset.

@@ -5,10 +5,11 @@ use crate::printed::{Answer, Found, Pair, Quoted};
 use std::alloc::Global;
 use std::io::Write;
 use std::{io, str};
-use xmas_elf::ElfFile;
 use xmas_elf::hash::hash;
+use xmas_elf::program::ProgramHeader;
 use xmas_elf::report::report;
 use xmas_elf::sections::parse_section_header;
+use xmas_elf::{ElfError, ElfFile};
 
 /// Writes what a call returns, and nothing where there is no such call here.
 pub fn write_call<W: Write>(
@@ -98,24 +99,15 @@ fn write_header<W: Write>(
         "section_header" => file.section_header(narrow),
         "section_header_at" => file.section_header_at(index),
         "parse_section_header" => parse_section_header(file.input, file.header, narrow),
-        _ => return write_program_header(file, call, narrow, wide, out),
+        "program_header" => return write_segment(file.program_header(narrow), out),
+        "program_header_at" => return write_segment(file.program_header_at(wide), out),
+        _ => return Ok(()),
     };
     write!(out, "{}", Answer(section.map(|it| it.offset())))
 }
 
-fn write_program_header<W: Write>(
-    file: &ElfFile<'_>,
-    call: &str,
-    narrow: u16,
-    wide: u32,
-    out: &mut W,
-) -> io::Result<()> {
-    let program = match call {
-        "program_header" => file.program_header(narrow),
-        "program_header_at" => file.program_header_at(wide),
-        _ => return Ok(()),
-    };
-    let numbers = program.map(|it| Pair(it.offset(), it.align()));
+fn write_segment<W: Write>(found: Result<ProgramHeader, ElfError>, out: &mut W) -> io::Result<()> {
+    let numbers = found.map(|it| Pair(it.offset(), it.align()));
     write!(out, "{}", Answer(numbers))
 }
 

@@ -8,8 +8,7 @@ use xmas_elf::header::sanity_check;
 
 /// Writes them.
 pub fn write_header<W: Write>(file: &ElfFile<'_>, out: &mut W) -> io::Result<()> {
-    write_first_part(file, out)?;
-    write_second_part(file, out)?;
+    write_parts(file, out)?;
     write_sizes(file, out)?;
     tell("header display", &file.header, out)?;
     let check = Answer(sanity_check(file).map(|_| Nothing));
@@ -20,17 +19,13 @@ pub fn write_header<W: Write>(file: &ElfFile<'_>, out: &mut W) -> io::Result<()>
     tell("program_iter count", &count, out)
 }
 
-fn write_first_part<W: Write>(file: &ElfFile<'_>, out: &mut W) -> io::Result<()> {
-    let pt1 = &file.header.pt1;
+fn write_parts<W: Write>(file: &ElfFile<'_>, out: &mut W) -> io::Result<()> {
+    let (pt1, pt2) = (&file.header.pt1, &file.header.pt2);
     tell("header class", &pt1.class(), out)?;
     tell("header data", &pt1.data(), out)?;
     tell("header version", &pt1.version(), out)?;
     tell("header os_abi", &pt1.os_abi(), out)?;
-    tell("header abi_version", &pt1.abi_version, out)
-}
-
-fn write_second_part<W: Write>(file: &ElfFile<'_>, out: &mut W) -> io::Result<()> {
-    let pt2 = &file.header.pt2;
+    tell("header abi_version", &pt1.abi_version, out)?;
     tell("header size", &pt2.size(), out)?;
     tell("header type_", &pt2.type_().as_type(), out)?;
     tell("header machine", &pt2.machine().as_machine(), out)?;

@@ -36,7 +36,6 @@ pub fn write_parts<W: Write>(
     out: &mut W,
 ) -> io::Result<()> {
     write_numbers(place, section, out)?;
-    write_name(file, place, section, out)?;
     write_checks(file, place, section, out)?;
     write_data(file, place, section, out)
 }
@@ -56,7 +55,7 @@ fn write_numbers<W: Write>(place: Place, section: &SectionHeader, out: &mut W) -
     tell_numbers(&place, &numbers, out)
 }
 
-fn write_name<W: Write>(
+fn write_checks<W: Write>(
     file: &ElfFile<'_>,
     place: Place,
     section: &SectionHeader,
@@ -64,15 +63,7 @@ fn write_name<W: Write>(
 ) -> io::Result<()> {
     tell_of(place, "get_type", &Answer(section.get_type()), out)?;
     let name = Answer(section.get_name(file).map(|name| Quoted(name)));
-    tell_of(place, "get_name", &name, out)
-}
-
-fn write_checks<W: Write>(
-    file: &ElfFile<'_>,
-    place: Place,
-    section: &SectionHeader,
-    out: &mut W,
-) -> io::Result<()> {
+    tell_of(place, "get_name", &name, out)?;
     let bytes = Answer(section.raw_data(file).map(|bytes| Told(bytes)));
     tell_of(place, "raw_data", &bytes, out)?;
     let check = Answer(sanity_check(*section, file).map(|_| Nothing));
@@ -190,15 +181,6 @@ pub fn write_note<W: Write>(
 ) -> io::Result<()> {
     writeln!(out, "{place} get_data = ok Note64 {}", Told(body))?;
     tell_of(place, "note type_", &header.type_(), out)?;
-    write_note_parts(place, header, body, out)
-}
-
-fn write_note_parts<W: Write>(
-    place: Place,
-    header: &NoteHeader,
-    body: &[u8],
-    out: &mut W,
-) -> io::Result<()> {
     let name = Answer(header.name(body).map(|name| Quoted(name)));
     tell_of(place, "note name", &name, out)?;
     let description = Answer(header.desc(body).map(|bytes| Told(bytes)));
@@ -208,19 +190,10 @@ fn write_note_parts<W: Write>(
 fn write_hash_table<W: Write>(place: Place, table: &HashTable<'_>, out: &mut W) -> io::Result<()> {
     writeln!(out, "{place} get_data = ok HashTable")?;
     for &index in PLACES {
-        write_bucket_and_chain(place, table, index, out)?;
+        let bucket = Answer(table.get_bucket(index));
+        writeln!(out, "{place} get_bucket {index} = {bucket}")?;
+        let chain = Answer(table.get_chain(index));
+        writeln!(out, "{place} get_chain {index} = {chain}")?;
     }
     Ok(())
-}
-
-fn write_bucket_and_chain<W: Write>(
-    place: Place,
-    table: &HashTable<'_>,
-    index: u32,
-    out: &mut W,
-) -> io::Result<()> {
-    let bucket = Answer(table.get_bucket(index));
-    writeln!(out, "{place} get_bucket {index} = {bucket}")?;
-    let chain = Answer(table.get_chain(index));
-    writeln!(out, "{place} get_chain {index} = {chain}")
 }

@@ -42,10 +42,6 @@ fn write_numbers<W: Write>(place: Place, program: &ProgramHeader, out: &mut W) -
         ("align", program.align()),
     ];
     tell_numbers(&place, &numbers, out)?;
-    write_kind(place, program, out)
-}
-
-fn write_kind<W: Write>(place: Place, program: &ProgramHeader, out: &mut W) -> io::Result<()> {
     let flags = program.flags();
     tell_of(place, "flags", &Pair(flags.0, flags), out)?;
     tell_of(place, "get_type", &Answer(program.get_type()), out)

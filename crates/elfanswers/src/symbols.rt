@@ -38,10 +38,6 @@ fn write_numbers<E: Entry, W: Write>(place: Place, symbol: &E, out: &mut W) -> i
         ("size", symbol.size()),
     ];
     tell_numbers(&place, &numbers, out)?;
-    write_kinds(place, symbol, out)
-}
-
-fn write_kinds<E: Entry, W: Write>(place: Place, symbol: &E, out: &mut W) -> io::Result<()> {
     tell_of(place, "get_other", &symbol.get_other(), out)?;
     tell_of(place, "get_binding", &Answer(symbol.get_binding()), out)?;
     tell_of(place, "get_type", &Answer(symbol.get_type()), out)

@@ -12,7 +12,6 @@ ghost use Rattle.xmas_elf.specs.Symbols.{Decides, symbols_of};
 pub mod bindings;
 pub mod checked;
 pub mod find;
-pub mod objects;
 pub mod second_file;
 pub mod versions;
 pub mod view;

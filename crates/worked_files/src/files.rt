@@ -1,7 +1,7 @@
 //! Small files, field by field.
 
 use crate::places::{
-    WORD, header_32, header_64, program_32, put, section_32, section_64, set, symbol_32,
+    WORD, header_32, header_64, program_32, put, section_32, section_64, set, symbol_32, symbol_64,
 };
 use std::alloc::{AllocError, Global};
 use xmas_elf::ElfFile;
@@ -179,6 +179,24 @@ pub fn put_symbols(file: &mut [u8], start: usize, symbols: &[(u64, u64)]) {
         let place = start.wrapping_add(k.wrapping_mul(16));
         set(file, place, symbol_32::NAME, symbol.0, LITTLE);
         set(file, place, symbol_32::INFO, symbol.1, LITTLE);
+    }
+}
+
+/// Writes a symbol of this class at a place: its name, info, section index, value and size.
+pub fn put_symbol(file: &mut [u8], class: u8, start: usize, numbers: [u64; 5], order: Order) {
+    let [name, info, shndx, value, size] = numbers;
+    if class == 1 {
+        set(file, start, symbol_32::NAME, name, order);
+        set(file, start, symbol_32::INFO, info, order);
+        set(file, start, symbol_32::SHNDX, shndx, order);
+        set(file, start, symbol_32::VALUE, value, order);
+        set(file, start, symbol_32::SIZE, size, order);
+    } else {
+        set(file, start, symbol_64::NAME, name, order);
+        set(file, start, symbol_64::INFO, info, order);
+        set(file, start, symbol_64::SHNDX, shndx, order);
+        set(file, start, symbol_64::VALUE, value, order);
+        set(file, start, symbol_64::SIZE, size, order);
     }
 }
 

@@ -2,6 +2,12 @@
 //! their reports, files with version tables, and small shared objects that a linker made.
 #![tactic(auto)]
 
+/// A constant table of tuples: the cells of each row, which a semicolon ends.
+#[macro_export]
+macro_rules! rows {
+    ($($($cell:expr),+;)*) => { &[$(($($cell),+)),*] };
+}
+
 pub mod files;
 pub mod linked;
 pub mod places;

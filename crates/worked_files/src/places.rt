@@ -10,19 +10,6 @@ pub struct Place(pub usize, pub usize);
 /// A word of four bytes.
 pub const WORD: Place = Place(0, 4);
 
-// The first six places are the same in both classes.
-pub const CLASS: Place = Place(4, 1);
-
-pub const ENCODING: Place = Place(5, 1);
-
-pub const VERSION: Place = Place(6, 1);
-
-pub const OS_ABI: Place = Place(7, 1);
-
-pub const ABI_VERSION: Place = Place(8, 1);
-
-pub const PADDING: Place = Place(9, 7);
-
 /// The ELF header of class 32.
 pub mod header_32 {
     use super::Place;
@@ -31,15 +18,9 @@ pub mod header_32 {
 
     pub const MACHINE: Place = Place(18, 2);
 
-    pub const VERSION: Place = Place(20, 4);
-
-    pub const ENTRY_POINT: Place = Place(24, 4);
-
     pub const PH_OFFSET: Place = Place(28, 4);
 
     pub const SH_OFFSET: Place = Place(32, 4);
-
-    pub const FLAGS: Place = Place(36, 4);
 
     pub const HEADER_SIZE: Place = Place(40, 2);
 
@@ -62,15 +43,11 @@ pub mod header_64 {
 
     pub const MACHINE: Place = Place(18, 2);
 
-    pub const VERSION: Place = Place(20, 4);
-
     pub const ENTRY_POINT: Place = Place(24, 8);
 
     pub const PH_OFFSET: Place = Place(32, 8);
 
     pub const SH_OFFSET: Place = Place(40, 8);
-
-    pub const FLAGS: Place = Place(48, 4);
 
     pub const HEADER_SIZE: Place = Place(52, 2);
 
@@ -93,21 +70,13 @@ pub mod section_32 {
 
     pub const TYPE: Place = Place(4, 4);
 
-    pub const FLAGS: Place = Place(8, 4);
-
-    pub const ADDRESS: Place = Place(12, 4);
-
     pub const OFFSET: Place = Place(16, 4);
 
     pub const SIZE: Place = Place(20, 4);
 
     pub const LINK: Place = Place(24, 4);
 
-    pub const INFO: Place = Place(28, 4);
-
     pub const ALIGN: Place = Place(32, 4);
-
-    pub const ENTRY_SIZE: Place = Place(36, 4);
 }
 
 /// A section header of class 64.
@@ -129,10 +98,6 @@ pub mod section_64 {
     pub const LINK: Place = Place(40, 4);
 
     pub const INFO: Place = Place(44, 4);
-
-    pub const ALIGN: Place = Place(48, 8);
-
-    pub const ENTRY_SIZE: Place = Place(56, 8);
 }
 
 /// A program header of class 32.

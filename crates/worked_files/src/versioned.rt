@@ -1,6 +1,7 @@
 //! A file with the version tables that its dynamic entries name.
 
 use crate::places::{Place, header_32, header_64, program_32, program_64, put, set};
+use crate::rows;
 use xmas_elf::bytes::Order;
 
 const LITTLE: Order = Order::Little;
@@ -47,65 +48,29 @@ pub type Field = (usize, usize, u64);
 /// The strings, which the records name by their offsets.
 pub const NAMES: &[u8] = b"\0ab\0libc\0libm\0V1\0V2\0V3\0V4\0V5\0";
 
-/// The base, and the versions V1 and V2, each before its record of names.
-pub const DEFINED: &[Field] = &[
-    (0, 2, 1),
-    (2, 2, 1),
-    (4, 2, 1),
-    (6, 2, 1),
-    (8, 4, 0x672),
-    (12, 4, 20),
-    (16, 4, 28),
-    (20, 4, 1),
-    (28, 2, 1),
-    (32, 2, 2),
-    (34, 2, 1),
-    (36, 4, 0x591),
-    (40, 4, 20),
-    (44, 4, 28),
-    (48, 4, 14),
-    (56, 2, 1),
-    (60, 2, 3),
-    (62, 2, 1),
-    (64, 4, 0x592),
-    (68, 4, 20),
-    (76, 4, 17),
-];
+/// The base, and the versions V1 and V2, each before its record of names. A line is a record.
+pub const DEFINED: &[Field] = rows! {
+    0, 2, 1; 2, 2, 1; 4, 2, 1; 6, 2, 1; 8, 4, 0x672; 12, 4, 20; 16, 4, 28;
+    20, 4, 1;
+    28, 2, 1; 32, 2, 2; 34, 2, 1; 36, 4, 0x591; 40, 4, 20; 44, 4, 28;
+    48, 4, 14;
+    56, 2, 1; 60, 2, 3; 62, 2, 1; 64, 4, 0x592; 68, 4, 20;
+    76, 4, 17;
+};
 
-/// V3 and the hidden V4 of `libc`, and V5 of `libm`.
-pub const NEEDED: &[Field] = &[
-    (0, 2, 1),
-    (2, 2, 2),
-    (4, 4, 4),
-    (8, 4, 16),
-    (12, 4, 48),
-    (16, 4, 0x593),
-    (22, 2, 4),
-    (24, 4, 20),
-    (28, 4, 16),
-    (32, 4, 0x594),
-    (36, 2, 2),
-    (38, 2, 0x8005),
-    (40, 4, 23),
-    (48, 2, 1),
-    (50, 2, 1),
-    (52, 4, 9),
-    (56, 4, 16),
-    (64, 4, 0x595),
-    (70, 2, 6),
-    (72, 4, 26),
-];
+/// `libc` with V3 and the hidden V4, and `libm` with V5. A line is a record.
+pub const NEEDED: &[Field] = rows! {
+    0, 2, 1; 2, 2, 2; 4, 4, 4; 8, 4, 16; 12, 4, 48;
+    16, 4, 0x593; 22, 2, 4; 24, 4, 20; 28, 4, 16;
+    32, 4, 0x594; 36, 2, 2; 38, 2, 0x8005; 40, 4, 23;
+    48, 2, 1; 50, 2, 1; 52, 4, 9; 56, 4, 16;
+    64, 4, 0x595; 70, 2, 6; 72, 4, 26;
+};
 
 // The numbers of eight symbols.
-const SYMBOLS: &[Field] = &[
-    (2, 2, 1),
-    (4, 2, 2),
-    (6, 2, 0x8003),
-    (8, 2, 4),
-    (10, 2, 0x8005),
-    (12, 2, 9),
-    (14, 2, 0x8001),
-];
+const SYMBOLS: &[Field] = rows! {
+    2, 2, 1; 4, 2, 2; 6, 2, 0x8003; 8, 2, 4; 10, 2, 0x8005; 12, 2, 9; 14, 2, 0x8001;
+};
 
 /// Writes fields of records of a table that begins at `start`.
 pub fn set_fields(file: &mut [u8], start: usize, fields: &[Field], order: Order) {

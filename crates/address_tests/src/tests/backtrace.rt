@@ -6,10 +6,11 @@ use crate::tests::want::want_at;
 use elf_addresses::SymbolIndex;
 use std::test::Fail;
 use worked_files::files::{
-    put_header_32, put_header_64, put_section_32, put_section_64, strtab_file,
+    put_header_32, put_header_64, put_section_32, put_section_64, put_symbol, strtab_file,
 };
 use worked_files::linked::small::SMALL;
-use worked_files::places::{put, set, symbol_32, symbol_64};
+use worked_files::places::put;
+use worked_files::rows;
 use xmas_elf::ElfFile;
 use xmas_elf::bytes::Order;
 use xmas_elf::symbol_table::DynEntry64;
@@ -21,66 +22,48 @@ const NAMES: &[u8; 23] = b"\0.strtab\0.symtab\0ab\0cd\0";
 
 // Symbols by name, info, value and size: an object and a function at the same place, a function
 // that begins within that one, and a function whose name is past the end of the table.
-const SYMBOLS: &[(u64, u64, u64, u64)] = &[
-    (20, 0x11, 0x100, 0x10),
-    (17, 0x12, 0x100, 0x10),
-    (20, 0x12, 0x108, 0x20),
-    (23, 0x12, 0x200, 1),
-];
+const SYMBOLS: &[(u64, u64, u64, u64)] = rows! {
+    20, 0x11, 0x100, 0x10; 17, 0x12, 0x100, 0x10; 20, 0x12, 0x108, 0x20; 23, 0x12, 0x200, 1;
+};
 
 // The first and the last address of each symbol, and the ones before and behind it.
-const ROWS: &[(u64, Option<&'static str>)] = &[
-    (0xff, None),
-    (0x100, Some("ab")),
-    (0x107, Some("ab")),
-    (0x108, Some("cd")),
-    (0x127, Some("cd")),
-    (0x128, None),
-    (0x200, None),
-];
+const ROWS: &[(u64, Option<&'static str>)] = rows! {
+    0xff, None; 0x100, Some("ab"); 0x107, Some("ab"); 0x108, Some("cd"); 0x127, Some("cd");
+    0x128, None; 0x200, None;
+};
 
-// Class 32: section 1 is `.strtab`, and section 2 is `.symtab`, from 195 on.
-fn symtab_file_32() -> [u8; 259] {
-    let mut file = [0; 259];
-    put_header_32(&mut file, 3, LITTLE);
-    put_section_32(&mut file, 92, [1, 3, 172, 23], LITTLE);
-    put_section_32(&mut file, 132, [9, 2, 195, 64], LITTLE);
-    put(&mut file, 172, NAMES);
-    let mut start = 195;
-    for &(name, info, value, size) in SYMBOLS {
-        set(&mut file, start, symbol_32::NAME, name, LITTLE);
-        set(&mut file, start, symbol_32::INFO, info, LITTLE);
-        set(&mut file, start, symbol_32::SHNDX, 1, LITTLE);
-        set(&mut file, start, symbol_32::VALUE, value, LITTLE);
-        set(&mut file, start, symbol_32::SIZE, size, LITTLE);
-        start = start.wrapping_add(16);
-    }
-    file
-}
-
-// The same file in class 64: the section headers begin at 64, the names at 256 and the symbols at
-// 279.
-fn symtab_file_64() -> [u8; 375] {
+// Section 1 is `.strtab`, and section 2 is `.symtab`, behind the names. The names are at 172 in class
+// 32, and at 256 in class 64.
+fn symtab_file(class: u8) -> [u8; 375] {
     let mut file = [0; 375];
-    put_header_64(&mut file, 3, LITTLE);
-    put_section_64(&mut file, 128, [1, 3, 256, 23], LITTLE);
-    put_section_64(&mut file, 192, [9, 2, 279, 96], LITTLE);
-    put(&mut file, 256, NAMES);
-    let mut start = 279;
-    for &(name, info, value, size) in SYMBOLS {
-        set(&mut file, start, symbol_64::NAME, name, LITTLE);
-        set(&mut file, start, symbol_64::INFO, info, LITTLE);
-        set(&mut file, start, symbol_64::SHNDX, 1, LITTLE);
-        set(&mut file, start, symbol_64::VALUE, value, LITTLE);
-        set(&mut file, start, symbol_64::SIZE, size, LITTLE);
-        start = start.wrapping_add(24);
+    let (names, size): (usize, usize) = if class == 1 { (172, 16) } else { (256, 24) };
+    if class == 1 {
+        put_header_32(&mut file, 3, LITTLE);
+        put_section_32(&mut file, 92, [1, 3, 172, 23], LITTLE);
+        put_section_32(&mut file, 132, [9, 2, 195, 64], LITTLE);
+    } else {
+        put_header_64(&mut file, 3, LITTLE);
+        put_section_64(&mut file, 128, [1, 3, 256, 23], LITTLE);
+        put_section_64(&mut file, 192, [9, 2, 279, 96], LITTLE);
+    }
+    put(&mut file, names, NAMES);
+    let mut start = names.wrapping_add(23);
+    for &(name, info, value, width) in SYMBOLS {
+        put_symbol(
+            &mut file,
+            class,
+            start,
+            [name, info, 1, value, width],
+            LITTLE,
+        );
+        start = start.wrapping_add(size);
     }
     file
 }
 
 #[test]
 fn finds_the_name_by_an_address(rt: HostRuntime) -> Result<(), Fail> {
-    let (narrow, wide) = (symtab_file_32(), symtab_file_64());
+    let (narrow, wide) = (symtab_file(1), symtab_file(2));
     let (narrow, wide) = (ElfFile::new(&narrow)?, ElfFile::new(&wide)?);
     for &(address, name) in ROWS {
         let both = (symbol_name(&narrow, address), symbol_name(&wide, address));
@@ -94,16 +77,10 @@ fn finds_the_name_by_an_address(rt: HostRuntime) -> Result<(), Fail> {
 
 // What `readelf` says of the dynamic symbols: `ab` has 10 bytes at 0x230, `ef` 6 behind it, and
 // `cd` 3 behind that.
-const LINKED: &[(u64, Option<&str>)] = &[
-    (0x22f, None),
-    (0x230, Some("ab")),
-    (0x239, Some("ab")),
-    (0x23a, Some("ef")),
-    (0x23f, Some("ef")),
-    (0x240, Some("cd")),
-    (0x243, None),
-    (u64::MAX, None),
-];
+const LINKED: &[(u64, Option<&str>)] = rows! {
+    0x22f, None; 0x230, Some("ab"); 0x239, Some("ab"); 0x23a, Some("ef"); 0x23f, Some("ef");
+    0x240, Some("cd"); 0x243, None; u64::MAX, None;
+};
 
 #[test]
 fn names_dynamic_symbols(rt: HostRuntime) -> Result<(), Fail> {

@@ -4,8 +4,9 @@ use crate::callers::symbol_in;
 use crate::tests::want::want_at;
 use elf_addresses::section_at;
 use std::test::Fail;
-use worked_files::files::{put_header_64, put_section_64, strtab_file};
-use worked_files::places::{put, section_64, set, symbol_64};
+use worked_files::files::{put_header_64, put_section_64, put_symbol, strtab_file};
+use worked_files::places::{put, section_64, set};
+use worked_files::rows;
 use xmas_elf::ElfFile;
 use xmas_elf::bytes::Order;
 
@@ -16,24 +17,16 @@ pub(super) const NAMES: &[u8] = b"\0.strtab\0.symtab\0ab\0cd\0";
 
 // The flags, the address and the size of sections 3 to 6: two in memory, one that is a template of
 // thread-local storage, and one that is not in memory.
-const SECTIONS: &[(u64, u64, u64)] = &[
-    (0x403, 0x1000, 0x200),
-    (6, 0x1000, 0x100),
-    (0x30, 0x1100, 0x100),
-    (3, 0x1080, 0x100),
-];
+const SECTIONS: &[(u64, u64, u64)] = rows! {
+    0x403, 0x1000, 0x200; 6, 0x1000, 0x100; 0x30, 0x1100, 0x100; 3, 0x1080, 0x100;
+};
 
 // An address, the section and the symbol there, and the offset in the symbol.
-const ROWS: &[(u64, Option<usize>, Option<(usize, u64)>)] = &[
-    (0xfff, None, None),
-    (0x1000, Some(4), Some((0, 0))),
-    (0x1010, Some(4), Some((1, 0))),
-    (0x1018, Some(4), Some((0, 0x18))),
-    (0x10ff, Some(4), None),
-    (0x1100, Some(6), None),
-    (0x117f, Some(6), None),
-    (0x1180, None, None),
-];
+const ROWS: &[(u64, Option<usize>, Option<(usize, u64)>)] = rows! {
+    0xfff, None, None; 0x1000, Some(4), Some((0, 0)); 0x1010, Some(4), Some((1, 0));
+    0x1018, Some(4), Some((0, 0x18)); 0x10ff, Some(4), None; 0x1100, Some(6), None;
+    0x117f, Some(6), None; 0x1180, None, None;
+};
 
 // Seven section headers from 64 on, the names at 512, and two symbols at 535.
 pub(super) fn symbols_file() -> [u8; 583] {
@@ -51,11 +44,7 @@ pub(super) fn symbols_file() -> [u8; 583] {
     put(&mut file, 512, NAMES);
     let mut start = 535;
     for (name, value, size) in [(17, 0x1000, 0x20), (20, 0x1010, 8)] {
-        set(&mut file, start, symbol_64::NAME, name, LITTLE);
-        set(&mut file, start, symbol_64::INFO, 0x12, LITTLE);
-        set(&mut file, start, symbol_64::SHNDX, 4, LITTLE);
-        set(&mut file, start, symbol_64::VALUE, value, LITTLE);
-        set(&mut file, start, symbol_64::SIZE, size, LITTLE);
+        put_symbol(&mut file, 2, start, [name, 0x12, 4, value, size], LITTLE);
         start = start.wrapping_add(24);
     }
     file

@@ -3,15 +3,12 @@
 use crate::tests::want::want_at;
 use elf_addresses::IndexError;
 use std::alloc::AllocError;
+use worked_files::rows;
 
-const ERRORS: &[(IndexError, u32, &str)] = &[
-    (
-        IndexError::ManySymbols,
-        401,
-        "Table has 2^32 symbols or more",
-    ),
-    (IndexError::FewWords, 402, "Too few words for the index"),
-];
+const ERRORS: &[(IndexError, u32, &str)] = rows! {
+    IndexError::ManySymbols, 401, "Table has 2^32 symbols or more";
+    IndexError::FewWords, 402, "Too few words for the index";
+};
 
 #[test]
 fn errors_have_numbers_and_texts(rt: HostRuntime) -> Result<(), AllocError> {

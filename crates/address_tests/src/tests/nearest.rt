@@ -4,16 +4,14 @@ use crate::tests::rows::{F, Row, symbols, table_bytes};
 use crate::tests::want::want_at;
 use elf_addresses::{SymbolIndex, open_below};
 use std::test::Fail;
+use worked_files::rows;
 
 // Symbols of size 0 at 0x10 and 0x20, in sections 1 and 2; of size 4 at 0x30; and two at 0x40, of
 // which the function comes first.
-const ROWS: &[Row] = &[
-    (F, 0x12, 1, 0x10, 0),
-    (F, 0x12, 2, 0x20, 0),
-    (F, 0x12, 1, 0x30, 4),
-    (F, 0x11, 1, 0x40, 0),
-    (F, 0x02, 1, 0x40, 0),
-];
+const ROWS: &[Row] = rows! {
+    F, 0x12, 1, 0x10, 0; F, 0x12, 2, 0x20, 0; F, 0x12, 1, 0x30, 4; F, 0x11, 1, 0x40, 0;
+    F, 0x02, 1, 0x40, 0;
+};
 
 // An address, a section, and the index and the offset that are found.
 const ASKED: &[(u64, u32, Option<(usize, u64)>)] = &[

@@ -62,12 +62,8 @@ pub fn check(rt: &impl Abort, alloc: Global, rows: &[Row], asked: &[Asked]) -> R
     let index = SymbolIndex::lend(&symbols, None, &words);
     want_at(rt, "the index", index.check(), true);
     for &(address, wanted) in asked {
-        want_at(
-            rt,
-            address,
-            place(symbol_at(&symbols, address, None)),
-            wanted,
-        );
+        let found = place(symbol_at(&symbols, address, None));
+        want_at(rt, address, found, wanted);
         want_at(rt, address, place(index.symbol_at(address)), wanted);
     }
     Ok(())

@@ -1,10 +1,9 @@
 //! How many symbols each section has, and the pieces of a section by its own symbols.
 
 use crate::tests::rows::{symbols, table_bytes};
-use crate::tests::symbol_pieces::{CROSSING, NESTED, Run, SYMBOLS};
+use crate::tests::symbol_pieces::{CROSSING, NESTED, Run, SYMBOLS, check_runs};
 use crate::tests::want::want_at;
 use elf_addresses::{SectionCounts, SymbolPieces};
-use std::alloc::Global;
 use std::process::Abort;
 use std::test::Fail;
 use xmas_elf::symbol_table::DynEntry64;
@@ -27,13 +26,8 @@ fn check(
 ) {
     let mut lasting = [0u32; 4];
     let pieces = SymbolPieces::in_order(counts, 1, begin, end, IN_ORDER, &mut lasting);
-    let mut index = 0;
-    for piece in pieces.expect(rt, "the words are in order") {
-        let run = (piece.begin, piece.end, piece.symbol);
-        want_at(rt, index, Some(&run), wanted.get(index));
-        index = index.wrapping_add(1);
-    }
-    want_at(rt, begin, index, wanted.len());
+    let pieces = pieces.expect(rt, "the words are in order");
+    check_runs(rt, begin, pieces, wanted);
 }
 
 // Wants no pieces by this list.

@@ -6,6 +6,8 @@ use elf_addresses::{IndexError, SymbolIndex, SymbolPieces};
 use std::alloc::Global;
 use std::process::Abort;
 use std::test::Fail;
+use worked_files::rows;
+use xmas_elf::symbol_table::DynEntry64;
 
 const MOST: u64 = 0xffff_ffff_ffff_ffff;
 
@@ -13,23 +15,16 @@ const MOST: u64 = 0xffff_ffff_ffff_ffff;
 pub type Run = (u64, u64, Option<usize>);
 
 /// Symbols that nest, that cross, and that have no size, in section 1, and one in section 2.
-pub const SYMBOLS: &[Row] = &[
-    (F, 0x12, 1, 0x1000, 0x100),
-    (F, 0x12, 1, 0x1040, 0x10),
-    (F, 0x12, 1, 0x1200, 0x20),
-    (F, 0x12, 1, 0x1210, 0x20),
-    (F, 0x12, 1, 0x1080, 0),
-    (F, 0x12, 2, 0x1000, 0x10),
-];
+pub const SYMBOLS: &[Row] = rows! {
+    F, 0x12, 1, 0x1000, 0x100; F, 0x12, 1, 0x1040, 0x10; F, 0x12, 1, 0x1200, 0x20;
+    F, 0x12, 1, 0x1210, 0x20; F, 0x12, 1, 0x1080, 0; F, 0x12, 2, 0x1000, 0x10;
+};
 
 /// The pieces of the first that nest.
-pub const NESTED: &[Run] = &[
-    (0xff0, 0x1000, None),
-    (0x1000, 0x1040, Some(0)),
-    (0x1040, 0x1050, Some(1)),
-    (0x1050, 0x1100, Some(0)),
-    (0x1100, 0x1110, None),
-];
+pub const NESTED: &[Run] = rows! {
+    0xff0, 0x1000, None; 0x1000, 0x1040, Some(0); 0x1040, 0x1050, Some(1); 0x1050, 0x1100, Some(0);
+    0x1100, 0x1110, None;
+};
 
 /// Some pieces of those that cross.
 pub const CROSSING: &[Run] = &[(0x1208, 0x1210, Some(2)), (0x1210, 0x1228, Some(3))];
@@ -50,14 +45,25 @@ fn check(
     let bytes = table_bytes(alloc, rows)?;
     let symbols = symbols(rt, &bytes, &[], 62);
     let mut words = vec![in alloc; u32::MAX; SymbolIndex::words(&symbols, within)]?;
+    let pieces = SymbolPieces::new(&symbols, within, begin, end, &mut words)?;
+    check_runs(rt, begin, pieces, wanted);
+    Ok(())
+}
+
+/// Wants these pieces of the range that begins here.
+pub fn check_runs(
+    rt: &impl Abort,
+    begin: u64,
+    pieces: SymbolPieces<'_, '_, '_, DynEntry64>,
+    wanted: &[Run],
+) {
     let mut index = 0;
-    for piece in SymbolPieces::new(&symbols, within, begin, end, &mut words)? {
+    for piece in pieces {
         let run = (piece.begin, piece.end, piece.symbol);
         want_at(rt, index, Some(&run), wanted.get(index));
         index = index.wrapping_add(1);
     }
     want_at(rt, begin, index, wanted.len());
-    Ok(())
 }
 
 #[test]

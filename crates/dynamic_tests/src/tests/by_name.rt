@@ -8,25 +8,18 @@ use elf_linking::{DynamicObject, LinkError};
 use worked_files::linked::small::SMALL;
 use worked_files::linked::versions::WIDE;
 use worked_files::places::put;
+use worked_files::rows;
 use xmas_elf::symbol_table::{DynEntry64, Entry};
 
 // st_info and st_other of the symbol `ab`, and the value of its name.
-const ROWS: &[(u8, u8, Option<u64>)] = &[
+const ROWS: &[(u8, u8, Option<u64>)] = rows! {
     // Bindings: global, weak, unique, local, 3, and one of the processor.
-    (0x12, 0, Some(0x230)),
-    (0x22, 0, Some(0x230)),
-    (0xa2, 0, Some(0x230)),
-    (0x02, 0, None),
-    (0x32, 0, None),
-    (0xd2, 0, None),
+    0x12, 0, Some(0x230); 0x22, 0, Some(0x230); 0xa2, 0, Some(0x230); 0x02, 0, None; 0x32, 0, None;
+    0xd2, 0, None;
     // Visibilities: internal, hidden, protected, and the default and protected with other bits.
-    (0x12, 1, None),
-    (0x12, 2, None),
-    (0x12, 3, Some(0x230)),
-    (0x12, 4, Some(0x230)),
-    (0x12, 0x63, Some(0x230)),
-    (0x02, 3, None),
-];
+    0x12, 1, None; 0x12, 2, None; 0x12, 3, Some(0x230); 0x12, 4, Some(0x230);
+    0x12, 0x63, Some(0x230); 0x02, 3, None;
+};
 
 #[test]
 fn finds_only_what_serves_other_files(rt: HostRuntime) {

@@ -2,7 +2,7 @@
 //! there are, what they are called, and their values, as `readelf -dW` and
 //! `readelf --dyn-syms -W` show them.
 
-use crate::tests::shared_object::{NAMES, NARROW, NARROW_VALUES, WIDE, WIDE_VALUES};
+use crate::tests::shared_object::{NAMES, NARROW_VALUES, WIDE_VALUES};
 use crate::tests::want::{open, want, want_at};
 use elf_base::ElfError;
 use elf_base::bytes::{Order, Record, text_at};
@@ -13,8 +13,10 @@ use elf_linking::view::{DynamicView, bytes_at, bytes_from};
 use elf_linking::{DynamicObject, LinkError};
 use std::process::Abort;
 use std::test::Fail;
+use worked_files::linked::exported::{GNU_NARROW as NARROW, GNU_WIDE as WIDE};
 use worked_files::linked::small::SMALL;
 use worked_files::places::{WORD, put, set};
+use worked_files::rows;
 use xmas_elf::symbol_table::{DynEntry32, DynEntry64, Entry, SymbolTable};
 
 const LITTLE: Order = Order::Little;
@@ -179,24 +181,13 @@ fn reads_the_entries_of_a_dynamic_segment(rt: HostRuntime) -> Result<(), LinkErr
     want(&rt, entries, 12);
     want(&rt, view.entry(10), Some(48));
     let mut needed = view.needed();
-    let names = [
-        view.soname(),
-        view.run_path(),
-        view.r_path(),
-        needed.next(),
-        needed.next(),
-    ];
-    want(&rt, names, SMALL_NAMES);
+    let paths = (view.soname(), view.run_path(), view.r_path());
+    let wanted = (Some(Ok("libsmall.so")), Some(Ok("/opt/lib")), None);
+    want(&rt, paths, wanted);
+    let libraries = (needed.next(), needed.next());
+    want(&rt, libraries, (Some(Ok("libneed.so")), None));
     Ok(())
 }
-
-const SMALL_NAMES: [Option<Result<&str, LinkError>>; 5] = [
-    Some(Ok("libsmall.so")),
-    Some(Ok("/opt/lib")),
-    None,
-    Some(Ok("libneed.so")),
-    None,
-];
 
 #[test]
 fn reads_a_table_of_the_standard(rt: HostRuntime) -> Result<(), LinkError> {
@@ -239,13 +230,9 @@ fn finds_values_by_names(rt: HostRuntime) {
     check_values(&rt, &wide_stripped(), WIDE_VALUES);
 }
 
-const SMALL_VALUES: &[(&str, Option<u64>)] = &[
-    ("ab", Some(0x230)),
-    ("ef", Some(0x23a)),
-    ("cd", Some(0x240)),
-    ("outer", None),
-    ("a", None),
-];
+const SMALL_VALUES: &[(&str, Option<u64>)] = rows! {
+    "ab", Some(0x230); "ef", Some(0x23a); "cd", Some(0x240); "outer", None; "a", None;
+};
 
 #[test]
 fn finds_values_by_a_table_of_the_standard(rt: HostRuntime) {

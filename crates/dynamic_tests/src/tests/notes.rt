@@ -10,6 +10,7 @@ use std::process::Abort;
 use std::test::Fail;
 use worked_files::files::put_section_32;
 use worked_files::places::{Place, header_32, program_32, put, section_32, set};
+use worked_files::rows;
 use xmas_elf::Extensions;
 
 const LITTLE: Order = Order::Little;
@@ -94,23 +95,20 @@ fn notes_come_in_steps_of_four_or_eight(rt: HostRuntime) {
 }
 
 // Bytes up to an end, steps, and the notes before the fault.
-const CUT: &[(&[u8], usize, u64, &[Said<'_>])] = &[
+const CUT: &[(&[u8], usize, u64, &[Said<'_>])] = rows! {
     // fewer bytes than the three words
-    (BUILD_ID, 11, 4, &[]),
+    BUILD_ID, 11, 4, &[];
     // no name, no description, half of it
-    (BUILD_ID, 12, 4, &[]),
-    (BUILD_ID, 16, 4, &[]),
-    (BUILD_ID, 23, 4, &[]),
+    BUILD_ID, 12, 4, &[]; BUILD_ID, 16, 4, &[]; BUILD_ID, 23, 4, &[];
     // the description stands one step later
-    (FOUR, 21, 8, &[]),
+    FOUR, 21, 8, &[];
     // a whole note, and too little behind it
-    (TWO, 25, 4, &[NAME]),
-    (TWO, 44, 4, &[NAME]),
+    TWO, 25, 4, &[NAME]; TWO, 44, 4, &[NAME];
     // without the padding behind the name
-    (EIGHT, 17, 8, &[]),
+    EIGHT, 17, 8, &[];
     // sizes that no data has
-    (&[0xff; 40], 40, 4, &[]),
-];
+    &[0xff; 40], 40, 4, &[];
+};
 
 #[test]
 fn notes_that_are_cut_off_end_the_list(rt: HostRuntime) {
@@ -121,16 +119,13 @@ fn notes_that_are_cut_off_end_the_list(rt: HostRuntime) {
     }
 }
 
-const TEXTS: &[(&[u8], Result<&str, ElfError>)] = &[
-    (b"\0\0\0\x04\0\0\0\0\0\0\0\x01GNU\0", Ok("GNU")),
-    (b"\0\0\0\x04\0\0\0\0\0\0\0\x01A\0B\0", Ok("A")),
-    (b"\0\0\0\x04\0\0\0\0\0\0\0\x01CORE", Err(ElfError::TextEnd)),
-    (
-        b"\0\0\0\x02\0\0\0\0\0\0\0\x01\xff\0\0\0",
-        Err(ElfError::TextUtf8),
-    ),
-    (b"\0\0\0\0\0\0\0\0\0\0\0\x01", Err(ElfError::TextEnd)),
-];
+const TEXTS: &[(&[u8], Result<&str, ElfError>)] = rows! {
+    b"\0\0\0\x04\0\0\0\0\0\0\0\x01GNU\0", Ok("GNU");
+    b"\0\0\0\x04\0\0\0\0\0\0\0\x01A\0B\0", Ok("A");
+    b"\0\0\0\x04\0\0\0\0\0\0\0\x01CORE", Err(ElfError::TextEnd);
+    b"\0\0\0\x02\0\0\0\0\0\0\0\x01\xff\0\0\0", Err(ElfError::TextUtf8);
+    b"\0\0\0\0\0\0\0\0\0\0\0\x01", Err(ElfError::TextEnd);
+};
 
 #[test]
 fn names_are_texts_where_they_end_in_zero(rt: HostRuntime) -> Result<(), Fail> {
@@ -148,26 +143,26 @@ const NOTE_SECTION: usize = 164;
 
 const NAMES: &[u8] = b"\0.note.gnu.build-id\0";
 
+// The numbers of its ELF header and program header, and the steps of its sections.
+const FIELDS: &[(usize, Place, u64)] = rows! {
+    0, header_32::PH_OFFSET, 52; 0, header_32::PH_ENTRY_SIZE, 32; 0, header_32::PH_COUNT, 1;
+    0, header_32::SH_OFFSET, 84; 0, header_32::SH_ENTRY_SIZE, 40; 0, header_32::SH_COUNT, 3;
+    0, header_32::SH_STR_INDEX, 1;
+    PROGRAM, program_32::TYPE, 4; PROGRAM, program_32::OFFSET, 224;
+    PROGRAM, program_32::FILE_SIZE, 24; PROGRAM, program_32::ALIGN, 4;
+    124, section_32::ALIGN, 4; NOTE_SECTION, section_32::ALIGN, 4;
+};
+
 // Class 32: a segment of type Note over the build id at 224, and a section of it, after the section
 // of the names at 204.
 fn note_file() -> [u8; 248] {
     let mut file = [0; 248];
     put(&mut file, 0, &[0x7f, b'E', b'L', b'F', 1, 1, 1]);
-    set(&mut file, 0, header_32::PH_OFFSET, 52, LITTLE);
-    set(&mut file, 0, header_32::PH_ENTRY_SIZE, 32, LITTLE);
-    set(&mut file, 0, header_32::PH_COUNT, 1, LITTLE);
-    set(&mut file, 0, header_32::SH_OFFSET, 84, LITTLE);
-    set(&mut file, 0, header_32::SH_ENTRY_SIZE, 40, LITTLE);
-    set(&mut file, 0, header_32::SH_COUNT, 3, LITTLE);
-    set(&mut file, 0, header_32::SH_STR_INDEX, 1, LITTLE);
-    set(&mut file, PROGRAM, program_32::TYPE, 4, LITTLE);
-    set(&mut file, PROGRAM, program_32::OFFSET, 224, LITTLE);
-    set(&mut file, PROGRAM, program_32::FILE_SIZE, 24, LITTLE);
-    set(&mut file, PROGRAM, program_32::ALIGN, 4, LITTLE);
+    for &(start, place, number) in FIELDS {
+        set(&mut file, start, place, number, LITTLE);
+    }
     put_section_32(&mut file, 124, [0, 3, 204, 20], LITTLE);
-    set(&mut file, 124, section_32::ALIGN, 4, LITTLE);
     put_section_32(&mut file, NOTE_SECTION, [1, 7, 224, 24], LITTLE);
-    set(&mut file, NOTE_SECTION, section_32::ALIGN, 4, LITTLE);
     put(&mut file, 204, NAMES);
     put(&mut file, 224, BUILD_ID);
     file
@@ -216,23 +211,12 @@ fn the_steps_are_those_of_the_header(rt: HostRuntime) -> Result<(), LinkError> {
     Ok(())
 }
 
+// A field of the header of the section, or of the segment, and the error with this number.
 const SECTIONS: &[(Place, u64, ElfError)] = &[
     (section_32::OFFSET, 225, ElfError::DataRange),
     (section_32::TYPE, 0, ElfError::NullData),
     (section_32::TYPE, 19, ElfError::InvalidShType),
 ];
-
-#[test]
-fn sections_whose_data_is_refused_have_no_notes(rt: HostRuntime) -> Result<(), ElfError> {
-    for &(place, number, error) in SECTIONS {
-        let mut bytes = note_file();
-        set(&mut bytes, NOTE_SECTION, place, number, LITTLE);
-        let file = open(&rt, &bytes);
-        let refused = section_notes(&file, &file.section_header(2)?).err();
-        want_at(&rt, number, refused, Some(LinkError::Elf(error)));
-    }
-    Ok(())
-}
 
 const SEGMENTS: &[(Place, u64, ElfError)] = &[
     (program_32::OFFSET, 225, ElfError::DataRange),
@@ -241,13 +225,20 @@ const SEGMENTS: &[(Place, u64, ElfError)] = &[
 ];
 
 #[test]
-fn segments_whose_data_is_refused_have_no_notes(rt: HostRuntime) -> Result<(), ElfError> {
+fn data_that_is_not_read_has_no_notes(rt: HostRuntime) -> Result<(), ElfError> {
+    for &(place, number, error) in SECTIONS {
+        let mut bytes = note_file();
+        set(&mut bytes, NOTE_SECTION, place, number, LITTLE);
+        let file = open(&rt, &bytes);
+        let found = section_notes(&file, &file.section_header(2)?).err();
+        want_at(&rt, number, found, Some(LinkError::Elf(error)));
+    }
     for &(place, number, error) in SEGMENTS {
         let mut bytes = note_file();
         set(&mut bytes, PROGRAM, place, number, LITTLE);
         let file = open(&rt, &bytes);
-        let refused = segment_notes(&file, &file.program_header(0)?).err();
-        want_at(&rt, number, refused, Some(LinkError::Elf(error)));
+        let found = segment_notes(&file, &file.program_header(0)?).err();
+        want_at(&rt, number, found, Some(LinkError::Elf(error)));
     }
     Ok(())
 }

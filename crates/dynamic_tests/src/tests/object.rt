@@ -1,20 +1,19 @@
 //! The dynamic symbols of a file in one value: what `readelf -W -D -s` and `readelf -d` show of
 //! small shared objects, and the errors of damaged ones in their order.
 
-use crate::tests::shared_object;
-use crate::tests::version_parts::parts;
+use crate::tests::versions::parts;
 use crate::tests::want::{open, want, want_at};
 use elf_base::ElfError;
 use elf_linking::values::value_by_name;
 use elf_linking::versions::Versions;
 use elf_linking::view::{DynamicView, LinkedSymbol};
 use elf_linking::{AnyTable, DynamicObject, LinkError};
-use linking_callers::callers::objects::{defined_value, symbol_name};
 use std::process::Abort;
+use worked_files::linked::exported::{GNU_NARROW, GNU_WIDE};
 use worked_files::linked::small::SMALL;
 use worked_files::linked::versions::{NARROW, WIDE};
 use worked_files::places::put;
-use xmas_elf::symbol_table::{DynEntry32, DynEntry64};
+use xmas_elf::symbol_table::{DynEntry32, DynEntry64, Entry};
 
 // The name of each symbol, its values in class 32 and 64, and the name of its version.
 const SYMBOLS: &[(u32, &str, u64, u64, Option<&str>)] = &[
@@ -32,11 +31,7 @@ fn version_name<'a, E: LinkedSymbol>(
     object: &DynamicObject<'a, E>,
     index: u32,
 ) -> Result<Option<&'a str>, LinkError> {
-    match parts(object.version(index)) {
-        Ok(Some((_number, _hidden, name))) => Ok(name),
-        Ok(None) => Ok(None),
-        Err(error) => Err(error),
-    }
+    Ok(parts(object.version(index))?.and_then(|(_number, _hidden, name)| name))
 }
 
 // The index of the symbol that a look-up comes to.
@@ -44,11 +39,7 @@ fn index_of<E: LinkedSymbol>(
     object: &DynamicObject<'_, E>,
     name: &str,
 ) -> Result<Option<u32>, LinkError> {
-    match object.lookup(name, |_| true) {
-        Ok(Some((index, _symbol))) => Ok(Some(index)),
-        Ok(None) => Ok(None),
-        Err(error) => Err(error),
-    }
+    Ok(object.lookup(name, |_| true)?.map(|found| found.0))
 }
 
 fn check_symbols<E: LinkedSymbol>(
@@ -94,15 +85,11 @@ fn answers_about_each_symbol(rt: HostRuntime) -> Result<(), LinkError> {
 }
 
 #[test]
-fn callers_answer_about_a_symbol(rt: HostRuntime) {
-    want(&rt, symbol_name(&open(&rt, WIDE), 5), Ok("call"));
-}
-
-#[test]
 fn finds_a_value_in_a_file_without_versions(rt: HostRuntime) -> Result<(), LinkError> {
     let file = open(&rt, SMALL);
     let object = DynamicObject::<DynEntry64>::read(&file)?;
-    want(&rt, defined_value(&object, "ef"), Ok(Some(0x23a)));
+    let found = object.defined_symbol("ef")?;
+    want(&rt, found.map(|(_, symbol)| symbol.value()), Some(0x23a));
     want(&rt, version_name(&object, 1), Ok(None));
     Ok(())
 }
@@ -122,14 +109,12 @@ fn check_parts<E: LinkedSymbol>(rt: &impl Abort, bytes: &[u8]) -> Result<(), Lin
     want(rt, object.view().needed().next(), view.needed().next());
     for index in 0..10 {
         let name = symbols.name(index as usize);
-        want_at(rt, index, object.name(index), linked(name));
+        let name = name.ok_or(LinkError::SymbolIndex);
+        let name = name.and_then(|name| name.map_err(LinkError::Elf));
+        want_at(rt, index, object.name(index), name);
         let version = parts(versions.version_of(index));
-        want_at(
-            rt,
-            index,
-            parts(object.versions().version_of(index)),
-            version,
-        );
+        let found = parts(object.versions().version_of(index));
+        want_at(rt, index, found, version);
         let value = object.symbol(index).map(|symbol| symbol.value());
         let found = symbols.get(index as usize).map(|symbol| symbol.value());
         want_at(rt, index, value, found);
@@ -137,21 +122,12 @@ fn check_parts<E: LinkedSymbol>(rt: &impl Abort, bytes: &[u8]) -> Result<(), Lin
     Ok(())
 }
 
-// The name of a symbol, with the error for one that isn't there.
-fn linked(name: Option<Result<&str, ElfError>>) -> Result<&str, LinkError> {
-    match name {
-        Some(Ok(name)) => Ok(name),
-        Some(Err(error)) => Err(LinkError::Elf(error)),
-        None => Err(LinkError::SymbolIndex),
-    }
-}
-
 #[test]
 fn has_the_parts_of_the_dynamic_segment(rt: HostRuntime) -> Result<(), LinkError> {
     check_parts::<DynEntry32>(&rt, NARROW)?;
-    check_parts::<DynEntry32>(&rt, shared_object::NARROW)?;
+    check_parts::<DynEntry32>(&rt, GNU_NARROW)?;
     check_parts::<DynEntry64>(&rt, WIDE)?;
-    check_parts::<DynEntry64>(&rt, shared_object::WIDE)?;
+    check_parts::<DynEntry64>(&rt, GNU_WIDE)?;
     check_parts::<DynEntry64>(&rt, SMALL)
 }
 

@@ -10,6 +10,7 @@ use elf_linking::relr::Relr;
 use std::process::Abort;
 use std::test::Fail;
 use worked_files::places::{Place, set};
+use worked_files::rows;
 
 const LITTLE: Order = Order::Little;
 
@@ -19,22 +20,37 @@ const NARROW: Class = Class::ThirtyTwo;
 
 const WIDE: Class = Class::SixtyFour;
 
-// The words of a row, each in four or eight bytes, and zeros behind them.
-fn words_32(words: &[u64], order: Order) -> [u8; 16] {
-    let mut bytes = [0; 16];
-    for (k, word) in words.iter().enumerate() {
-        set(&mut bytes, 0, Place(k.wrapping_mul(4), 4), *word, order);
-    }
-    bytes
-}
-
-fn words_64(words: &[u64], order: Order) -> [u8; 32] {
+// The words of a row, each in four or eight bytes, zeros behind them, and how many bytes they are.
+fn bytes_of(words: &[u64], class: Class, order: Order) -> ([u8; 32], usize) {
+    let size: usize = if class == NARROW { 4 } else { 8 };
     let mut bytes = [0; 32];
     for (k, word) in words.iter().enumerate() {
-        set(&mut bytes, 0, Place(k.wrapping_mul(8), 8), *word, order);
+        let place = Place(0, size);
+        set(&mut bytes, k.wrapping_mul(size), place, *word, order);
     }
-    bytes
+    (bytes, words.len().wrapping_mul(size))
 }
+
+// The class, the words, and the addresses that they name.
+const ROWS: &[(Class, &[u64], &[u64])] = rows! {
+    WIDE, &[], &[];
+    WIDE, &[0x1000], &[0x1000];
+    WIDE, &[0x1000, 0x3], &[0x1000, 0x1008];
+    WIDE, &[0x1000, 1 << 63 | 1], &[0x1000, 0x11f8];
+    WIDE, &[0x1000, 0x1, 0x3], &[0x1000, 0x1200];
+    WIDE, &[0x5], &[8];
+    WIDE, &[0xffff_ffff_ffff_fff8, 0x3], &[0xffff_ffff_ffff_fff8, 0];
+    WIDE, &[0x1000, 0x2000, 0x7], &[0x1000, 0x2000, 0x2008, 0x2010];
+    NARROW, &[0x1000, 0x3], &[0x1000, 0x1004];
+    NARROW, &[0x1000, 0x8000_0001], &[0x1000, 0x107c];
+    NARROW, &[0x1000, 0x1, 0x3], &[0x1000, 0x1080];
+    NARROW, &[0xffff_fffc, 0x3], &[0xffff_fffc, 0];
+    // as a linker wrote them, with the addresses that `readelf -r` prints
+    WIDE, &[0x3c0, 0x9, 0x3e43],
+        &[0x3c0, 0x3d8, 0x5c0, 0x5e8, 0x600, 0x608, 0x610, 0x618, 0x620];
+    NARROW, &[0x1e0, 0x9, 0x2e0, 0x7e1],
+        &[0x1e0, 0x1ec, 0x2e0, 0x2f4, 0x2f8, 0x2fc, 0x300, 0x304, 0x308];
+};
 
 // Wants these addresses of words and no more, also when they are asked for once more.
 fn check(rt: &impl Abort, row: usize, mut relr: Relr<'_>, addresses: &[u64]) {
@@ -45,80 +61,14 @@ fn check(rt: &impl Abort, row: usize, mut relr: Relr<'_>, addresses: &[u64]) {
     want_at(rt, row, relr.next(), None);
 }
 
-fn check_wide(
-    rt: &impl Abort,
-    row: usize,
-    (words, addresses): (&[u64], &[u64]),
-    order: Order,
-) -> Result<(), LinkError> {
-    let bytes = words_64(words, order);
-    let bytes = bytes
-        .get(..words.len().wrapping_mul(8))
-        .unwrap_or(b"a long row");
-    check(rt, row, Relr::new(bytes, WIDE, order)?, addresses);
-    Ok(())
-}
-
-const WIDE_ROWS: &[(&[u64], &[u64])] = &[
-    (&[], &[]),
-    (&[0x1000], &[0x1000]),
-    (&[0x1000, 0x3], &[0x1000, 0x1008]),
-    (&[0x1000, 1 << 63 | 1], &[0x1000, 0x11f8]),
-    (&[0x1000, 0x1, 0x3], &[0x1000, 0x1200]),
-    (&[0x5], &[8]),
-    (&[0xffff_ffff_ffff_fff8, 0x3], &[0xffff_ffff_ffff_fff8, 0]),
-    (&[0x1000, 0x2000, 0x7], &[0x1000, 0x2000, 0x2008, 0x2010]),
-    // as a linker wrote them, with the addresses that `readelf -r` prints
-    (
-        &[0x3c0, 0x9, 0x3e43],
-        &[
-            0x3c0, 0x3d8, 0x5c0, 0x5e8, 0x600, 0x608, 0x610, 0x618, 0x620,
-        ],
-    ),
-];
-
 #[test]
-fn words_of_eight_bytes_name_addresses(rt: HostRuntime) -> Result<(), LinkError> {
-    for (number, row) in WIDE_ROWS.iter().enumerate() {
-        check_wide(&rt, number, *row, LITTLE)?;
-        check_wide(&rt, number, *row, BIG)?;
-    }
-    Ok(())
-}
-
-fn check_narrow(
-    rt: &impl Abort,
-    row: usize,
-    (words, addresses): (&[u64], &[u64]),
-    order: Order,
-) -> Result<(), LinkError> {
-    let bytes = words_32(words, order);
-    let bytes = bytes
-        .get(..words.len().wrapping_mul(4))
-        .unwrap_or(b"a long row");
-    check(rt, row, Relr::new(bytes, NARROW, order)?, addresses);
-    Ok(())
-}
-
-const NARROW_ROWS: &[(&[u64], &[u64])] = &[
-    (&[0x1000, 0x3], &[0x1000, 0x1004]),
-    (&[0x1000, 0x8000_0001], &[0x1000, 0x107c]),
-    (&[0x1000, 0x1, 0x3], &[0x1000, 0x1080]),
-    (&[0xffff_fffc, 0x3], &[0xffff_fffc, 0]),
-    // as a linker wrote them, with the addresses that `readelf -r` prints
-    (
-        &[0x1e0, 0x9, 0x2e0, 0x7e1],
-        &[
-            0x1e0, 0x1ec, 0x2e0, 0x2f4, 0x2f8, 0x2fc, 0x300, 0x304, 0x308,
-        ],
-    ),
-];
-
-#[test]
-fn words_of_four_bytes_name_addresses(rt: HostRuntime) -> Result<(), LinkError> {
-    for (number, row) in NARROW_ROWS.iter().enumerate() {
-        check_narrow(&rt, number, *row, LITTLE)?;
-        check_narrow(&rt, number, *row, BIG)?;
+fn words_name_addresses(rt: HostRuntime) -> Result<(), LinkError> {
+    for (row, &(class, words, addresses)) in ROWS.iter().enumerate() {
+        for order in [LITTLE, BIG] {
+            let (bytes, len) = bytes_of(words, class, order);
+            let bytes = bytes.get(..len).unwrap_or(b"a long row");
+            check(&rt, row, Relr::new(bytes, class, order)?, addresses);
+        }
     }
     Ok(())
 }
@@ -145,19 +95,15 @@ const COUNTS: &[(usize, Class, Result<usize, LinkError>)] = &[
 fn data_that_is_no_words_is_refused(rt: HostRuntime) {
     let bytes = [0; 12];
     for &(len, class, answer) in COUNTS {
-        want_at(
-            &rt,
-            len,
-            relocation_count(&bytes[..len], class, LITTLE),
-            answer,
-        );
+        let found = relocation_count(&bytes[..len], class, LITTLE);
+        want_at(&rt, len, found, answer);
     }
 }
 
 #[test]
 fn relocations_are_counted_and_found(rt: HostRuntime) -> Result<(), Fail> {
     // a bitmap of all bits but the lowest is 63 addresses
-    let bytes = words_64(&[0x1000, u64::MAX], LITTLE);
+    let (bytes, _len) = bytes_of(&[0x1000, u64::MAX], WIDE, LITTLE);
     want(&rt, relocation_count(&bytes[..16], WIDE, LITTLE), Ok(64));
     let rows = [
         (0x1000, true),

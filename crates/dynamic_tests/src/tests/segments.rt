@@ -7,7 +7,10 @@ use elf_linking::view::dynamic_segment;
 use elf_linking::{Segment, Segments};
 use std::process::Abort;
 use std::test::Fail;
-use worked_files::places::{header_32, header_64, program_32, program_64, put, section_64, set};
+use worked_files::places::{
+    Place, header_32, header_64, program_32, program_64, put, section_64, set,
+};
+use worked_files::rows;
 use xmas_elf::bytes::Order;
 use xmas_elf::program::Flags;
 
@@ -19,11 +22,12 @@ const BIG: Order = Order::Big;
 const SIZE: usize = 64 + 2 * 56;
 
 // Writes the header of a file of class 64 with this table.
-fn put_header(file: &mut [u8], offset: u64, entry_size: u64, count: u64) {
-    put(file, 0, &[0x7f, b'E', b'L', b'F', 2, 1, 1]);
-    set(file, 0, header_64::PH_OFFSET, offset, LITTLE);
-    set(file, 0, header_64::PH_ENTRY_SIZE, entry_size, LITTLE);
-    set(file, 0, header_64::PH_COUNT, count, LITTLE);
+fn put_header(file: &mut [u8], offset: u64, entry_size: u64, count: u64, order: Order) {
+    let encoding = if order == LITTLE { 1 } else { 2 };
+    put(file, 0, &[0x7f, b'E', b'L', b'F', 2, encoding, 1]);
+    set(file, 0, header_64::PH_OFFSET, offset, order);
+    set(file, 0, header_64::PH_ENTRY_SIZE, entry_size, order);
+    set(file, 0, header_64::PH_COUNT, count, order);
 }
 
 // Wants segments of these types.
@@ -39,32 +43,25 @@ fn check_kinds(rt: &impl Abort, row: usize, bytes: &[u8], kinds: &[u32]) {
 
 // The offset of the table, the size of an entry, the number of entries, the number of bytes that the file
 // lacks at its end, and the types of the segments. Records of types 1 and 2 are at 64 and 120.
-const TABLES: &[(u64, u64, u64, usize, &[u32])] = &[
-    (64, 56, 2, 0, &[1, 2]),
-    (120, 56, 1, 0, &[2]),
-    (64, 56, 0, 0, &[]),
+const TABLES: &[(u64, u64, u64, usize, &[u32])] = rows! {
+    64, 56, 2, 0, &[1, 2]; 120, 56, 1, 0, &[2]; 64, 56, 0, 0, &[];
     // A table cut by the end of the file: ENOEXEC; "cannot read file data".
-    (64, 56, 2, 1, &[]),
-    (64, 56, 3, 0, &[]),
-    (u64::MAX, 56, 1, 0, &[]),
+    64, 56, 2, 1, &[]; 64, 56, 3, 0, &[]; u64::MAX, 56, 1, 0, &[];
     // A larger or smaller entry: ENOEXEC; "ELF file's phentsize not the expected size".
-    (64, 57, 2, 0, &[]),
-    (64, 64, 1, 0, &[]),
-    (64, 32, 2, 0, &[]),
+    64, 57, 2, 0, &[]; 64, 64, 1, 0, &[]; 64, 32, 2, 0, &[];
     // A table at offset 0 is read: its first record begins with the bytes of the header, and the second
     // with the number of entries. Both load such a file.
-    (0, 56, 3, 0, &[0x464c_457f, 3, 0]),
-    (0, 56, 4, 0, &[]),
+    0, 56, 3, 0, &[0x464c_457f, 3, 0]; 0, 56, 4, 0, &[];
     // Section header 0 has the number 1 for 0xffff (PN_XNUM), and isn't read: ENOEXEC; "cannot read file
     // data".
-    (64, 56, 0xffff, 0, &[]),
-];
+    64, 56, 0xffff, 0, &[];
+};
 
 #[test]
 fn tables_are_read_as_linux_and_glibc_do(rt: HostRuntime) {
     for (row, &(offset, entry_size, count, cut, kinds)) in TABLES.iter().enumerate() {
         let mut file = [0; SIZE];
-        put_header(&mut file, offset, entry_size, count);
+        put_header(&mut file, offset, entry_size, count, LITTLE);
         set(&mut file, 64, program_64::TYPE, 1, LITTLE);
         set(&mut file, 120, program_64::TYPE, 2, LITTLE);
         if count == 0xffff {
@@ -83,7 +80,7 @@ fn as_many_records_as_there_can_be_are_read(rt: HostRuntime) -> Result<(), Fail>
     let mut bytes = Vec::new(rt.alloc());
     bytes.resize(64 + 56 * 0xffff, 0u8)?;
     let file = bytes.as_mut_slice();
-    put_header(file, 64, 56, 0xffff);
+    put_header(file, 64, 56, 0xffff, LITTLE);
     set(file, 64 + 56 * 0xfffe, program_64::TYPE, 2, LITTLE);
     let file = open(&rt, &bytes);
     let segments = Segments::of(&file);
@@ -104,52 +101,33 @@ const ALL: Segment = Segment {
     align: 0x1000,
 };
 
-#[test]
-fn fields_of_class_64(rt: HostRuntime) {
-    for order in [LITTLE, BIG] {
-        let mut file = [0; 64 + 56];
-        let encoding = if order == LITTLE { 1 } else { 2 };
-        put(&mut file, 0, &[0x7f, b'E', b'L', b'F', 2, encoding, 1]);
-        for &(start, place, value) in &[
-            (0, header_64::PH_OFFSET, 64),
-            (0, header_64::PH_ENTRY_SIZE, 56),
-            (0, header_64::PH_COUNT, 1),
-            (64, program_64::TYPE, 1),
-            (64, program_64::FLAGS, 6),
-            (64, program_64::OFFSET, 0x102),
-            (64, program_64::VIRTUAL_ADDR, 0x2030),
-            (64, program_64::PHYSICAL_ADDR, 0x7777),
-            (64, program_64::FILE_SIZE, 0x304),
-            (64, program_64::MEM_SIZE, 0x4050),
-            (64, program_64::ALIGN, 0x1000),
-        ] {
-            set(&mut file, start, place, value, order);
-        }
-        want(&rt, Segments::of(&open(&rt, &file)).next(), Some(ALL));
-    }
-}
+// The numbers of the segment in both classes, in which the physical address is not read.
+const FIELDS: &[(Place, Place, u64)] = rows! {
+    program_32::TYPE, program_64::TYPE, 1;
+    program_32::FLAGS, program_64::FLAGS, 6;
+    program_32::OFFSET, program_64::OFFSET, 0x102;
+    program_32::VIRTUAL_ADDR, program_64::VIRTUAL_ADDR, 0x2030;
+    program_32::PHYSICAL_ADDR, program_64::PHYSICAL_ADDR, 0x7777;
+    program_32::FILE_SIZE, program_64::FILE_SIZE, 0x304;
+    program_32::MEM_SIZE, program_64::MEM_SIZE, 0x4050;
+    program_32::ALIGN, program_64::ALIGN, 0x1000;
+};
 
 #[test]
-fn fields_of_class_32(rt: HostRuntime) {
-    for order in [LITTLE, BIG] {
-        let mut file = [0; 52 + 32];
-        let encoding = if order == LITTLE { 1 } else { 2 };
-        put(&mut file, 0, &[0x7f, b'E', b'L', b'F', 1, encoding, 1]);
-        for &(start, place, value) in &[
-            (0, header_32::PH_OFFSET, 52),
-            (0, header_32::PH_ENTRY_SIZE, 32),
-            (0, header_32::PH_COUNT, 1),
-            (52, program_32::TYPE, 1),
-            (52, program_32::FLAGS, 6),
-            (52, program_32::OFFSET, 0x102),
-            (52, program_32::VIRTUAL_ADDR, 0x2030),
-            (52, program_32::PHYSICAL_ADDR, 0x7777),
-            (52, program_32::FILE_SIZE, 0x304),
-            (52, program_32::MEM_SIZE, 0x4050),
-            (52, program_32::ALIGN, 0x1000),
-        ] {
-            set(&mut file, start, place, value, order);
+fn fields_of_both_classes(rt: HostRuntime) {
+    for (encoding, order) in [(1, LITTLE), (2, BIG)] {
+        let mut narrow = [0; 52 + 32];
+        put(&mut narrow, 0, &[0x7f, b'E', b'L', b'F', 1, encoding, 1]);
+        set(&mut narrow, 0, header_32::PH_OFFSET, 52, order);
+        set(&mut narrow, 0, header_32::PH_ENTRY_SIZE, 32, order);
+        set(&mut narrow, 0, header_32::PH_COUNT, 1, order);
+        let mut wide = [0; 64 + 56];
+        put_header(&mut wide, 64, 56, 1, order);
+        for &(narrow_place, wide_place, value) in FIELDS {
+            set(&mut narrow, 52, narrow_place, value, order);
+            set(&mut wide, 64, wide_place, value, order);
         }
-        want(&rt, Segments::of(&open(&rt, &file)).next(), Some(ALL));
+        want(&rt, Segments::of(&open(&rt, &narrow)).next(), Some(ALL));
+        want(&rt, Segments::of(&open(&rt, &wide)).next(), Some(ALL));
     }
 }

@@ -11,6 +11,7 @@ use worked_files::linked::importer::IMPORTER;
 use worked_files::linked::small::SMALL;
 use worked_files::linked::versions::{NARROW, WIDE};
 use worked_files::places::put;
+use worked_files::rows;
 use xmas_elf::symbol_table::{DynEntry64, Entry};
 
 // Files whose hash tables count all symbols, and how many there are.
@@ -24,38 +25,27 @@ fn counts_the_symbols_that_relocations_name(rt: HostRuntime) -> Result<(), LinkE
     want(&rt, view.reached_count(&file), Ok(3));
     for &(bytes, count) in COUNTED_WHOLE {
         let file = open(&rt, bytes);
-        want(
-            &rt,
-            DynamicView::read(&file)?.reached_count(&file),
-            Ok(count),
-        );
+        let found = DynamicView::read(&file)?.reached_count(&file);
+        want(&rt, found, Ok(count));
     }
     Ok(())
 }
 
 // A number of symbols, and the number that is read or the error.
-const COUNTED: &[(u64, Result<usize, LinkError>)] = &[
-    (0, Ok(0)),
-    (3, Ok(3)),
+const COUNTED: &[(u64, Result<usize, LinkError>)] = rows! {
+    0, Ok(0); 3, Ok(3);
     // The symbols begin at 0x140, and their segment ends at 0x208.
-    (8, Ok(8)),
-    (9, Err(LinkError::Address)),
-    (1 << 32, Err(LinkError::Address)),
-    ((1 << 32) + 1, Err(LinkError::SymbolIndex)),
-    (u64::MAX, Err(LinkError::SymbolIndex)),
-];
+    8, Ok(8); 9, Err(LinkError::Address); 1 << 32, Err(LinkError::Address);
+    (1 << 32) + 1, Err(LinkError::SymbolIndex); u64::MAX, Err(LinkError::SymbolIndex);
+};
 
 #[test]
 fn reads_as_many_symbols_as_are_given(rt: HostRuntime) -> Result<(), LinkError> {
     let file = open(&rt, IMPORTER);
     for &(count, wanted) in COUNTED {
         let object = DynamicObject::<DynEntry64>::read_counted(&file, count);
-        want_at(
-            &rt,
-            count,
-            object.map(|object| object.symbol_count()),
-            wanted,
-        );
+        let found = object.map(|object| object.symbol_count());
+        want_at(&rt, count, found, wanted);
     }
     let object = DynamicObject::<DynEntry64>::read_counted(&file, 3)?;
     want(&rt, object.check(), Ok(()));
@@ -85,11 +75,9 @@ fn check_names(rt: &impl Abort, bytes: &[u8], count: usize, names: &[(usize, &st
 }
 
 // The index, the name and the value of some symbols of `.symtab`, and of all dynamic ones.
-const STATIC: &[(usize, &str, u64)] = &[
-    (3, "_DYNAMIC", 0x218),
-    (5, "begin", 0x1f0),
-    (8, "outer", 0),
-];
+const STATIC: &[(usize, &str, u64)] = rows! {
+    3, "_DYNAMIC", 0x218; 5, "begin", 0x1f0; 8, "outer", 0;
+};
 
 const DYNAMIC: &[(usize, &str, u64)] = &[(0, "", 0), (1, "data", 0), (2, "outer", 0)];
 
@@ -114,30 +102,22 @@ fn reads_the_symbols_of_a_file(rt: HostRuntime) {
 }
 
 // A change of a byte of a section header, and the error.
-const REFUSED: &[(usize, &[u8], LinkError)] = &[
+const REFUSED: &[(usize, &[u8], LinkError)] = rows! {
     // sh_size of `.symtab`: not whole records, and past the end
-    (12 * 64 + 32, &[1], LinkError::Elf(ElfError::NotMultiple)),
-    (12 * 64 + 34, &[1], LinkError::Elf(ElfError::DataRange)),
+    12 * 64 + 32, &[1], LinkError::Elf(ElfError::NotMultiple);
+    12 * 64 + 34, &[1], LinkError::Elf(ElfError::DataRange);
     // its sh_link: to no section, and to the first, of type Null
-    (
-        12 * 64 + 41,
-        &[1],
-        LinkError::Elf(ElfError::ShortSectionHeader),
-    ),
-    (12 * 64 + 40, &[0], LinkError::Elf(ElfError::NullData)),
-];
+    12 * 64 + 41, &[1], LinkError::Elf(ElfError::ShortSectionHeader);
+    12 * 64 + 40, &[0], LinkError::Elf(ElfError::NullData);
+};
 
 #[test]
 fn tells_why_a_file_has_no_symbols(rt: HostRuntime) {
     for &(place, change, error) in REFUSED {
         let mut bytes = *IMPORTER;
         put(&mut bytes, 1352usize.wrapping_add(place), change);
-        want_at(
-            &rt,
-            place,
-            FileSymbols::read(&open(&rt, &bytes)).err(),
-            Some(error),
-        );
+        let found = FileSymbols::read(&open(&rt, &bytes)).err();
+        want_at(&rt, place, found, Some(error));
     }
     let mut bytes = *IMPORTER;
     without_sections(&mut bytes);

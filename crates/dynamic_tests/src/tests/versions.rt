@@ -1,17 +1,17 @@
 //! Versions of symbols in files of both classes and orders, written field by field from the layouts
 //! of the records.
 
-use crate::tests::version_parts::parts;
 use crate::tests::want::{open, want, want_at};
 use elf_base::ElfError;
 use elf_base::bytes::text_at;
 use elf_linking::LinkError;
-use elf_linking::versions::{Definition, NamedVersion, Need, Versions};
+use elf_linking::versions::{Definitions, NamedVersion, Needs, SymbolVersion, Versions};
 use elf_linking::view::{DynamicView, strings};
-use linking_callers::callers::versions::{definition_of, library_of};
+use linking_callers::callers::versions::definition_of;
 use std::process::Abort;
 use worked_files::linked::versions::{NARROW, NARROW_TABLES, WIDE, WIDE_TABLES};
 use worked_files::places::put;
+use worked_files::rows;
 use worked_files::versioned::{
     ALL, DEFINITIONS, Field, KINDS, NEEDS, NUMBERS_ENTRY, set_fields, set_segment_end, version_file,
 };
@@ -29,57 +29,116 @@ fn read<'a>(rt: &impl Abort, bytes: &'a [u8], count: u64) -> Result<Versions<'a>
     Versions::read(&view, &file, count)
 }
 
-fn defined(item: Result<Definition<'_>, LinkError>) -> Result<u16, LinkError> {
-    match item {
-        Ok(definition) => Ok(definition.number),
-        Err(error) => Err(error),
+/// The number of a version of a symbol, whether it is hidden, and the name of what has it; None
+/// where the file has no numbers of symbols, and the error where the version or its name can't be
+/// read.
+pub fn parts(
+    version: Result<Option<SymbolVersion<'_>>, LinkError>,
+) -> Result<Option<(u16, bool, Option<&str>)>, LinkError> {
+    let Some(version) = version? else {
+        return Ok(None);
+    };
+    let name = match version.named {
+        Some(named) => Some(named.name()?),
+        None => None,
+    };
+    Ok(Some((version.number, version.hidden, name)))
+}
+
+// The library that a symbol's version is needed of, if it is needed of one.
+fn library_of<'a>(versions: &Versions<'a>, index: u32) -> Result<Option<&'a str>, LinkError> {
+    match versions
+        .version_of(index)?
+        .and_then(|version| version.named)
+    {
+        Some(NamedVersion::Needed(need)) => Ok(Some(need.file()?)),
+        _ => Ok(None),
     }
 }
 
-fn needed(item: Result<Need<'_>, LinkError>) -> Result<u16, LinkError> {
-    match item {
-        Ok(need) => Ok(need.number),
-        Err(error) => Err(error),
+// A list of versions: the tag of its dynamic entry, behind which comes that of its number of
+// records, its address, and its place in the file.
+type List = (u64, u64, usize);
+
+const OF_DEFINITIONS: List = (0x6fff_fffc, 0x1160, DEFINITIONS);
+
+const OF_NEEDS: List = (0x6fff_fffe, 0x11b8, NEEDS);
+
+// The number of the next definition, or of the next need.
+fn next_of(
+    list: List,
+    (definitions, needs): (&mut Definitions<'_>, &mut Needs<'_>),
+) -> Option<Result<u16, LinkError>> {
+    if list == OF_NEEDS {
+        needs.next().map(|need| need.map(|need| need.number))
+    } else {
+        let next = definitions.next();
+        next.map(|definition| definition.map(|definition| definition.number))
     }
 }
 
-// Wants definitions of these numbers and no more, also when they are asked for once more.
-fn check_definitions(
+// Wants definitions or needs of these numbers and no more, also when they are asked for once more.
+fn check_items(
     rt: &impl Abort,
     row: usize,
     versions: &Versions<'_>,
+    list: List,
     items: &[Result<u16, LinkError>],
 ) {
-    let mut definitions = versions.definitions();
+    let (mut definitions, mut needs) = (versions.definitions(), versions.needs());
     for item in items {
-        want_at(rt, row, definitions.next().map(defined), Some(*item));
+        let found = next_of(list, (&mut definitions, &mut needs));
+        want_at(rt, row, found, Some(*item));
     }
-    want_at(rt, row, definitions.next().map(defined), None);
-    want_at(rt, row, definitions.next().map(defined), None);
-    want_at(rt, row, versions.definitions().count(), items.len());
+    for _again in 0..2 {
+        let found = next_of(list, (&mut definitions, &mut needs));
+        want_at(rt, row, found, None);
+    }
+    let counts = (versions.definitions().count(), versions.needs().count());
+    let count = if list == OF_NEEDS { counts.1 } else { counts.0 };
+    want_at(rt, row, count, items.len());
 }
 
-// The same of needs.
-fn check_needs(
-    rt: &impl Abort,
-    row: usize,
-    versions: &Versions<'_>,
-    items: &[Result<u16, LinkError>],
-) {
-    let mut needs = versions.needs();
-    for item in items {
-        want_at(rt, row, needs.next().map(needed), Some(*item));
+// Changed fields of a list, the number of its records, and the numbers that are read, with the error
+// at the end.
+type Row<'a> = (&'a [Field], u64, &'a [Result<u16, LinkError>]);
+
+fn check_rows(rt: &impl Abort, list: List, rows: &[Row<'_>]) -> Result<(), LinkError> {
+    for (row, &(fields, count, items)) in rows.iter().enumerate() {
+        let entries = [(list.0, list.1), (list.0.wrapping_add(1), count)];
+        for &(class, order) in KINDS {
+            let mut bytes = version_file(class, order, &entries);
+            set_fields(&mut bytes, list.2, fields, order);
+            let versions = read(rt, &bytes, SYMBOLS)?;
+            check_items(rt, row, &versions, list, items);
+        }
     }
-    want_at(rt, row, needs.next().map(needed), None);
-    want_at(rt, row, needs.next().map(needed), None);
-    want_at(rt, row, versions.needs().count(), items.len());
+    Ok(())
 }
 
-const DEFINED: &[(u16, u16, u32, &str)] = &[
-    (1, 1, 0x672, "ab"),
-    (0, 2, 0x591, "V1"),
-    (0, 3, 0x592, "V2"),
-];
+// What is left of a list, where the segment ends at most so many bytes after its begin.
+type Cut<'a> = (usize, &'a [Result<u16, LinkError>]);
+
+fn check_cuts(rt: &impl Abort, list: List, count: u64, cuts: &[Cut<'_>]) -> Result<(), LinkError> {
+    let entries = [(list.0, list.1), (list.0.wrapping_add(1), count)];
+    let mut len = 1;
+    for &(end, items) in cuts {
+        for cut in len..end {
+            for &(class, order) in KINDS {
+                let mut bytes = version_file(class, order, &entries);
+                set_segment_end(&mut bytes, class, list.2.wrapping_add(cut), order);
+                let versions = read(rt, &bytes, SYMBOLS)?;
+                check_items(rt, cut, &versions, list, items);
+            }
+        }
+        len = end;
+    }
+    Ok(())
+}
+
+const DEFINED: &[(u16, u16, u32, &str)] = rows! {
+    1, 1, 0x672, "ab"; 0, 2, 0x591, "V1"; 0, 3, 0x592, "V2";
+};
 
 #[test]
 fn reads_definitions(rt: HostRuntime) -> Result<(), LinkError> {
@@ -91,9 +150,8 @@ fn reads_definitions(rt: HostRuntime) -> Result<(), LinkError> {
             let Some(Ok(definition)) = definitions.next() else {
                 return Err(LinkError::Missing);
             };
-            want_at(&rt, number, definition.flags, flags);
-            want_at(&rt, number, definition.number, number);
-            want_at(&rt, number, definition.hash, hash);
+            let found = (definition.flags, definition.number, definition.hash);
+            want_at(&rt, number, found, (flags, number, hash));
             want_at(&rt, number, definition.name(), Ok(name));
             let offset = definition.name_offset()?;
             want_at(&rt, number, text_at(table, offset as usize), Ok(name));
@@ -120,10 +178,8 @@ fn reads_needs(rt: HostRuntime) -> Result<(), LinkError> {
             let Some(Ok(need)) = needs.next() else {
                 return Err(LinkError::Missing);
             };
-            want_at(&rt, number, need.flags, flags);
-            want_at(&rt, number, need.number, number);
-            want_at(&rt, number, need.hidden, hidden);
-            want_at(&rt, number, need.hash, hash);
+            let found = (need.flags, need.number, need.hidden, need.hash);
+            want_at(&rt, number, found, (flags, number, hidden, hash));
             want_at(&rt, number, need.name(), Ok(name));
             let offsets = [need.name_offset(), need.file_offset()];
             want_at(&rt, number, text_at(table, offsets[0] as usize), Ok(name));
@@ -135,9 +191,7 @@ fn reads_needs(rt: HostRuntime) -> Result<(), LinkError> {
     Ok(())
 }
 
-// Changed fields of the definitions, the number of definitions, and the numbers of those that are
-// read, with a refusal at the end.
-const DEFINITION_ROWS: &[(&[Field], u64, &[Result<u16, LinkError>])] = &[
+const DEFINITION_ROWS: &[Row<'_>] = &[
     (&[], 0, &[]),
     (&[], 2, &[Ok(1), Ok(2)]),
     (&[], 3, &[Ok(1), Ok(2), Ok(3)]),
@@ -156,20 +210,11 @@ const DEFINITION_ROWS: &[(&[Field], u64, &[Result<u16, LinkError>])] = &[
 
 #[test]
 fn goes_from_definition_to_definition(rt: HostRuntime) -> Result<(), LinkError> {
-    for (row, &(fields, count, items)) in DEFINITION_ROWS.iter().enumerate() {
-        let entries = [(0x6fff_fffc, 0x1160), (0x6fff_fffd, count)];
-        for &(class, order) in KINDS {
-            let mut bytes = version_file(class, order, &entries);
-            set_fields(&mut bytes, DEFINITIONS, fields, order);
-            check_definitions(&rt, row, &read(&rt, &bytes, SYMBOLS)?, items);
-        }
-    }
-    Ok(())
+    check_rows(&rt, OF_DEFINITIONS, DEFINITION_ROWS)
 }
 
-// The same of the needs: their first part is at 16, and the third at 64. The bytes have room for
-// five parts.
-const NEED_ROWS: &[(&[Field], u64, &[Result<u16, LinkError>])] = &[
+// The first part of the needs is at 16, and the third at 64. The bytes have room for five parts.
+const NEED_ROWS: &[Row<'_>] = &[
     (&[], 0, &[]),
     (&[], 1, &[Ok(4), Ok(5)]),
     (&[], 2, &[Ok(4), Ok(5), Ok(6)]),
@@ -190,75 +235,33 @@ const NEED_ROWS: &[(&[Field], u64, &[Result<u16, LinkError>])] = &[
 
 #[test]
 fn goes_from_need_to_need(rt: HostRuntime) -> Result<(), LinkError> {
-    for (row, &(fields, count, items)) in NEED_ROWS.iter().enumerate() {
-        let entries = [(0x6fff_fffe, 0x11b8), (0x6fff_ffff, count)];
-        for &(class, order) in KINDS {
-            let mut bytes = version_file(class, order, &entries);
-            set_fields(&mut bytes, NEEDS, fields, order);
-            check_needs(&rt, row, &read(&rt, &bytes, SYMBOLS)?, items);
-        }
-    }
-    Ok(())
+    check_rows(&rt, OF_NEEDS, NEED_ROWS)
 }
 
-// What is left of the definitions, where the segment ends at most so many bytes after the first.
-const CUT_DEFINITIONS: &[(usize, &[Result<u16, LinkError>])] = &[
-    (20, &[Err(SHORT)]),
-    (48, &[Ok(1), Err(SHORT)]),
-    (76, &[Ok(1), Ok(2), Err(SHORT)]),
-    (85, &[Ok(1), Ok(2), Ok(3)]),
-];
+const CUT_DEFINITIONS: &[Cut<'_>] = rows! {
+    20, &[Err(SHORT)]; 48, &[Ok(1), Err(SHORT)]; 76, &[Ok(1), Ok(2), Err(SHORT)];
+    85, &[Ok(1), Ok(2), Ok(3)];
+};
 
 #[test]
 fn tells_definitions_that_are_cut_off(rt: HostRuntime) -> Result<(), LinkError> {
-    let entries = [(0x6fff_fffc, 0x1160), (0x6fff_fffd, 3)];
-    let mut len = 1;
-    for &(end, items) in CUT_DEFINITIONS {
-        for cut in len..end {
-            for &(class, order) in KINDS {
-                let mut bytes = version_file(class, order, &entries);
-                set_segment_end(&mut bytes, class, DEFINITIONS.wrapping_add(cut), order);
-                check_definitions(&rt, cut, &read(&rt, &bytes, SYMBOLS)?, items);
-            }
-        }
-        len = end;
-    }
-    Ok(())
+    check_cuts(&rt, OF_DEFINITIONS, 3, CUT_DEFINITIONS)
 }
 
-// The same of the needs.
-const CUT_NEEDS: &[(usize, &[Result<u16, LinkError>])] = &[
-    (16, &[Err(SHORT)]),
-    (32, &[Err(MANY)]),
-    (48, &[Ok(4), Err(SHORT)]),
-    (80, &[Ok(4), Ok(5), Err(SHORT)]),
-    (81, &[Ok(4), Ok(5), Ok(6)]),
-];
+const CUT_NEEDS: &[Cut<'_>] = rows! {
+    16, &[Err(SHORT)]; 32, &[Err(MANY)]; 48, &[Ok(4), Err(SHORT)]; 80, &[Ok(4), Ok(5), Err(SHORT)];
+    81, &[Ok(4), Ok(5), Ok(6)];
+};
 
 #[test]
 fn tells_needs_that_are_cut_off(rt: HostRuntime) -> Result<(), LinkError> {
-    let entries = [(0x6fff_fffe, 0x11b8), (0x6fff_ffff, 2)];
-    let mut len = 1;
-    for &(end, items) in CUT_NEEDS {
-        for cut in len..end {
-            for &(class, order) in KINDS {
-                let mut bytes = version_file(class, order, &entries);
-                set_segment_end(&mut bytes, class, NEEDS.wrapping_add(cut), order);
-                check_needs(&rt, cut, &read(&rt, &bytes, SYMBOLS)?, items);
-            }
-        }
-        len = end;
-    }
-    Ok(())
+    check_cuts(&rt, OF_NEEDS, 2, CUT_NEEDS)
 }
 
 // The name of the second definition, where the segment ends so many bytes after the first.
-const CUT_NAMES: &[(usize, Result<&str, LinkError>)] = &[
-    (48, Err(SHORT)),
-    (55, Err(SHORT)),
-    (56, Ok("V1")),
-    (84, Ok("V1")),
-];
+const CUT_NAMES: &[(usize, Result<&str, LinkError>)] = rows! {
+    48, Err(SHORT); 55, Err(SHORT); 56, Ok("V1"); 84, Ok("V1");
+};
 
 #[test]
 fn tells_names_that_are_cut_off(rt: HostRuntime) -> Result<(), LinkError> {
@@ -277,30 +280,29 @@ fn tells_names_that_are_cut_off(rt: HostRuntime) -> Result<(), LinkError> {
     Ok(())
 }
 
-const VERSIONS: &[(u32, u16, bool, Option<&str>, Option<&str>)] = &[
-    (0, 0, false, None, None),
-    (1, 1, false, None, None),
-    (2, 2, false, Some("V1"), None),
-    (3, 3, true, Some("V2"), None),
-    (4, 4, false, Some("V3"), Some("libc")),
-    (5, 5, true, Some("V4"), Some("libc")),
-    (6, 9, false, None, None),
-    (7, 1, true, None, None),
-];
+// The index of a symbol, the number of its version, whether it is hidden, the name and the hash of
+// what has the number, and the library that it is needed of.
+const VERSIONS: &[(u32, u16, bool, Option<(&str, u32)>, Option<&str>)] = rows! {
+    0, 0, false, None, None; 1, 1, false, None, None; 2, 2, false, Some(("V1", 0x591)), None;
+    3, 3, true, Some(("V2", 0x592)), None; 4, 4, false, Some(("V3", 0x593)), Some("libc");
+    5, 5, true, Some(("V4", 0x594)), Some("libc"); 6, 9, false, None, None; 7, 1, true, None, None;
+};
 
 #[test]
 fn tells_the_version_of_a_symbol(rt: HostRuntime) -> Result<(), LinkError> {
     for &(class, order) in KINDS {
         let bytes = version_file(class, order, ALL);
         let versions = read(&rt, &bytes, SYMBOLS)?;
-        for &(index, number, hidden, name, library) in VERSIONS {
+        for &(index, number, hidden, named, library) in VERSIONS {
+            let found = versions
+                .version_of(index)?
+                .and_then(|version| version.named);
+            let hash = found.map(|found| found.hash());
+            want_at(&rt, index, hash, named.map(|named| named.1));
+            let name = named.map(|named| named.0);
             let found = parts(versions.version_of(index));
             want_at(&rt, index, found, Ok(Some((number, hidden, name))));
-            let raw = if hidden {
-                number.wrapping_add(0x8000)
-            } else {
-                number
-            };
+            let raw = number | if hidden { 0x8000 } else { 0 };
             want_at(&rt, index, versions.number(index), Ok(Some(raw)));
             want_at(&rt, index, library_of(&versions, index), Ok(library));
         }
@@ -352,28 +354,16 @@ fn tells_what_bears_a_number(rt: HostRuntime) -> Result<(), LinkError> {
 }
 
 // Dynamic entries, a number of symbols, and the refusal.
-const REFUSED: &[(&[(u64, u64)], u64, LinkError)] = &[
-    (&[(0x6fff_fffc, 0x1160)], 8, LinkError::NoEntry),
-    (&[(0x6fff_fffe, 0x11b8)], 8, LinkError::NoEntry),
-    (
-        &[(0x6fff_fffc, 0x1208), (0x6fff_fffd, 1)],
-        8,
-        LinkError::Address,
-    ),
-    (
-        &[(0x6fff_fffe, 0xfff), (0x6fff_ffff, 1)],
-        8,
-        LinkError::Address,
-    ),
-    (&[(0x6fff_fff0, 0xfff)], 8, LinkError::Address),
-    (&[NUMBERS_ENTRY], 0x5d, LinkError::Address),
-    (&[NUMBERS_ENTRY], 1 << 63, LinkError::Address),
-    (
-        &[(0x6fff_fffc, 0x1160), NUMBERS_ENTRY],
-        u64::MAX,
-        LinkError::Address,
-    ),
-];
+const REFUSED: &[(&[(u64, u64)], u64, LinkError)] = rows! {
+    &[(0x6fff_fffc, 0x1160)], 8, LinkError::NoEntry;
+    &[(0x6fff_fffe, 0x11b8)], 8, LinkError::NoEntry;
+    &[(0x6fff_fffc, 0x1208), (0x6fff_fffd, 1)], 8, LinkError::Address;
+    &[(0x6fff_fffe, 0xfff), (0x6fff_ffff, 1)], 8, LinkError::Address;
+    &[(0x6fff_fff0, 0xfff)], 8, LinkError::Address;
+    &[NUMBERS_ENTRY], 0x5d, LinkError::Address;
+    &[NUMBERS_ENTRY], 1 << 63, LinkError::Address;
+    &[(0x6fff_fffc, 0x1160), NUMBERS_ENTRY], u64::MAX, LinkError::Address;
+};
 
 #[test]
 fn tells_why_no_tables_are_read(rt: HostRuntime) {
@@ -390,20 +380,17 @@ fn reads_a_file_without_versions(rt: HostRuntime) -> Result<(), LinkError> {
     for &(class, order) in KINDS {
         let bytes = version_file(class, order, &[]);
         let versions = read(&rt, &bytes, u64::MAX)?;
-        check_definitions(&rt, 0, &versions, &[]);
-        check_needs(&rt, 0, &versions, &[]);
+        check_items(&rt, 0, &versions, OF_DEFINITIONS, &[]);
+        check_items(&rt, 0, &versions, OF_NEEDS, &[]);
         want(&rt, versions.number(0), Ok(None));
         want(&rt, parts(versions.version_of(u32::MAX)), Ok(None));
     }
     Ok(())
 }
 
-const DEFINITIONS_OF: &[(&str, Option<u16>)] = &[
-    ("V1", Some(2)),
-    ("V2", Some(3)),
-    ("V3", None),
-    ("ab", None),
-];
+const DEFINITIONS_OF: &[(&str, Option<u16>)] = rows! {
+    "V1", Some(2); "V2", Some(3); "V3", None; "ab", None;
+};
 
 #[test]
 fn finds_versions_by_their_names(rt: HostRuntime) -> Result<(), LinkError> {
@@ -413,26 +400,6 @@ fn finds_versions_by_their_names(rt: HostRuntime) -> Result<(), LinkError> {
         for &(name, number) in DEFINITIONS_OF {
             let found = definition_of(&versions, name)?;
             want_at(&rt, name, found.map(|found| found.number), number);
-        }
-    }
-    Ok(())
-}
-
-#[test]
-fn tells_the_hash_of_what_bears_a_number(rt: HostRuntime) -> Result<(), LinkError> {
-    for &(class, order) in KINDS {
-        let bytes = version_file(class, order, ALL);
-        let versions = read(&rt, &bytes, SYMBOLS)?;
-        for (index, hash) in [(2, 0x591), (4, 0x593)] {
-            let Some(version) = versions.version_of(index)? else {
-                return Err(LinkError::Missing);
-            };
-            want_at(
-                &rt,
-                index,
-                version.named.map(|named| named.hash()),
-                Some(hash),
-            );
         }
     }
     Ok(())
@@ -448,15 +415,10 @@ fn linked<'a>(rt: &impl Abort, bytes: &'a [u8]) -> Result<Versions<'a>, LinkErro
 
 // The versions of the symbols, as `readelf -V` shows them: those of `outer`, `V1`, `ab@@V2`,
 // `ab@V1`, `call` and `V2`.
-const LINKED: &[(u32, u16, bool, Option<&str>)] = &[
-    (0, 0, false, None),
-    (1, 4, false, Some("w1")),
-    (2, 2, false, Some("V1")),
-    (3, 3, false, Some("V2")),
-    (4, 2, true, Some("V1")),
-    (5, 3, false, Some("V2")),
-    (6, 3, false, Some("V2")),
-];
+const LINKED: &[(u32, u16, bool, Option<&str>)] = rows! {
+    0, 0, false, None; 1, 4, false, Some("w1"); 2, 2, false, Some("V1"); 3, 3, false, Some("V2");
+    4, 2, true, Some("V1"); 5, 3, false, Some("V2"); 6, 3, false, Some("V2");
+};
 
 fn check_linked(rt: &impl Abort, versions: &Versions<'_>) {
     for &(index, number, hidden, name) in LINKED {
@@ -464,8 +426,8 @@ fn check_linked(rt: &impl Abort, versions: &Versions<'_>) {
         want_at(rt, index, found, Ok(Some((number, hidden, name))));
     }
     want(rt, versions.number(7), Err(LinkError::SymbolIndex));
-    check_definitions(rt, 0, versions, &[Ok(1), Ok(2), Ok(3)]);
-    check_needs(rt, 0, versions, &[Ok(4)]);
+    check_items(rt, 0, versions, OF_DEFINITIONS, &[Ok(1), Ok(2), Ok(3)]);
+    check_items(rt, 0, versions, OF_NEEDS, &[Ok(4)]);
     want(rt, library_of(versions, 1), Ok(Some("libw.so")));
 }
 

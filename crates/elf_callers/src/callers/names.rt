@@ -1,24 +1,10 @@
-//! Callers that compare names in place, and that take them as bytes.
+//! Callers that take names as bytes.
 
-ghost use Rattle.std.specs.Prelude.{◌≡◌, ◌<◌, Bool, List, length, ℕ};
 ghost use Rattle.xmas_elf.specs.Lent.{Answers, Lends};
-ghost use Rattle.xmas_elf.specs.NameTable.{HasName, IsNameTable, name_of};
-ghost use Rattle.xmas_elf.specs.TextCompared.{TextCompared};
+ghost use Rattle.xmas_elf.specs.NameTable.{HasName, name_of};
 
 use xmas_elf::sections::SectionHeader;
 use xmas_elf::{ElfError, ElfFile};
-
-/// How many bytes a comparison with a name looks at: as many as `text_is` says of the name table,
-/// so none where its index is past the end of that.
-pub fn compared_bytes(file: &ElfFile<'_>, index: u32, name: &str) -> usize
-    ensures counted { (table : List ℕ) → IsNameTable file.now table
-        → (answer : Bool) × TextCompared table index name.now answer result }
-    ensures past { (table : List ℕ) → IsNameTable file.now table → length table < index
-        → result ≡ 0 }
-    ensures no_table { ((table : List ℕ) → ¬ IsNameTable file.now table) → result ≡ 0 }
-{
-    file.shstr_is(index, name).1
-}
 
 /// The name of a section by its bytes, where these are UTF-8: what `get_name` returns, with the
 /// same errors.

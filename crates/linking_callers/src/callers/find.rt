@@ -1,34 +1,17 @@
 //! Callers that ask for the value of a name by its version, in an object whose look-ups find what
 //! they must and whose versions can be read.
 
-ghost use Rattle.std.specs.Prelude.{◌≡◌, ℕ, Err, MatchResult, Ok, Option};
+ghost use Rattle.std.specs.Prelude.{◌≡◌, ℕ, Ok, Option};
 ghost use Rattle.std.specs.Prelude.{option_map};
-ghost use Rattle.elf_linking.specs.AnyTable.{IsCheckBy, IsGoodBy};
+ghost use Rattle.elf_linking.specs.AnyTable.{IsGoodBy};
 ghost use Rattle.elf_linking.specs.DynamicObject.{object_dynamic_symbols};
 ghost use Rattle.elf_linking.specs.Find.{AreReadable, FindsRight};
 ghost use Rattle.elf_linking.specs.Find.{exact_version};
-ghost use Rattle.elf_linking.specs.Serves.{if_serving};
 ghost use Rattle.elf_linking.specs.declared.find.Use.TheVariants.{Any};
-ghost use Rattle.elf_linking.specs.declared.find.Wanted.TheVariants.{Newest};
 
+use elf_linking::DynamicObject;
 use elf_linking::find::{Use, Wanted};
 use elf_linking::view::LinkedSymbol;
-use elf_linking::{DynamicObject, LinkError};
-
-/// The value of the symbol with this name that `dlsym` finds: that of the symbol which is right in the
-/// list of symbols, if it serves other files. Returns an error as the check of the hash table does.
-pub fn served_value<E: LinkedSymbol>(
-    object: &DynamicObject<'_, E>,
-    name: &str,
-) -> Result<Option<u64>, LinkError>
-    requires { AreReadable (object_dynamic_symbols E.fields object.now) }
-    ensures { let file = object_dynamic_symbols E.fields object.now in MatchResult result
-        (λ value. (found : Option (ℕ × E)) × FindsRight file name.now Newest Any (Ok found)
-        × (value ≡ option_map (λ at. (E.fields at.1).value) (if_serving E.fields found)))
-        (λ error. IsCheckBy file.table file.symbols (Err error)) }
-{
-    object.newest_value(name)
-}
 
 /// The value of a symbol with this name and a version with the other name, as `dlvsym` asks: that of the
 /// symbol which is right in the list of symbols. `None` if the version of each symbol that look-ups must

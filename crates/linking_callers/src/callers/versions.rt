@@ -1,14 +1,13 @@
-//! Callers that read the versions of a file and of its symbols.
+//! Callers that read the versions of a file.
 
 ghost use Rattle.std.specs.Prelude.{◌≡◌, Option, option_map};
 ghost use Rattle.elf_linking.specs.Loaded.{lent};
 ghost use Rattle.elf_linking.specs.VersionTables.{definition_parts, definitions_in, result_map};
-ghost use Rattle.elf_linking.specs.Versions.{IsFirst, first_item, named_at, version_tables};
+ghost use Rattle.elf_linking.specs.Versions.{IsFirst, first_item, version_tables};
 ghost use Rattle.linking_callers.specs.VersionNames.{Defines, defines, is_name};
-ghost use Rattle.linking_callers.specs.VersionNames.{library_in};
 
 use elf_linking::LinkError;
-use elf_linking::versions::{Definition, NamedVersion, Versions};
+use elf_linking::versions::{Definition, Versions};
 
 // Whether a name can be read and is this.
 fn is_name(found: Result<&str, LinkError>, name: &str) -> bool
@@ -60,24 +59,4 @@ fn search_definitions<'a>(
         }
     }
     Ok(None)
-}
-
-/// The library that a symbol's version is needed of, if it is needed of one. Rejected as
-/// `version_of` and `Need::file` are.
-pub fn library_of<'a>(versions: &Versions<'a>, index: u32) -> Result<Option<&'a str>, LinkError>
-    ensures { result_map (option_map (λ name. name.now)) result
-        ≡ library_in (named_at (version_tables versions.now) index) }
-{
-    let version = match versions.version_of(index) {
-        Ok(Some(version)) => version,
-        Ok(None) => return Ok(None),
-        Err(error) => return Err(error),
-    };
-    match version.named {
-        Some(NamedVersion::Needed(need)) => match need.file() {
-            Ok(file) => Ok(Some(file)),
-            Err(error) => Err(error),
-        },
-        _ => Ok(None),
-    }
 }

@@ -7,7 +7,7 @@ ghost use Rattle.elf_linking.specs.Loaded.{LiesAsLoaded};
 ghost use Rattle.elf_linking.specs.Loaded.{bytes_from_of};
 
 use elf_linking::LinkError;
-use elf_linking::view::{DynamicView, bytes_from};
+use elf_linking::view::bytes_from;
 use xmas_elf::ElfFile;
 
 /// The bytes from an address on, as `bytes_from` returns them, and how many they are.
@@ -19,16 +19,4 @@ pub fn tail_at<'a>(file: &ElfFile<'a>, address: u64) -> Result<(&'a [u8], usize)
 {
     let bytes = bytes_from(file, address)?;
     Ok((bytes, bytes.len()))
-}
-
-/// The number of symbols, asked for twice: it is the same.
-pub fn same_counts<'a>(
-    view: &DynamicView<'a>,
-    file: &ElfFile<'a>,
-) -> (Result<u64, LinkError>, Result<u64, LinkError>)
-    ensures { result.0 ≡ result.1 }
-{
-    let one = view.symbol_count(file);
-    let other = view.symbol_count(file);
-    (one, other)
 }

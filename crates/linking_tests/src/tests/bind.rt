@@ -18,6 +18,7 @@ use elf_linking::view::LinkedSymbol;
 use elf_linking::{CheckedObject, CheckedScope, DynamicObject, LinkError};
 use std::process::Abort;
 use worked_files::places::{header_64, set};
+use worked_files::rows;
 use worked_files::versioned::{Field, set_fields};
 use xmas_elf::symbol_table::{DynEntry32, DynEntry64};
 
@@ -56,7 +57,9 @@ const CUT: Change = Definition((44, 4, 0x1000));
 
 const NO_HASH: Change = Definition((36, 4, 0));
 
-// An undefined symbol with a value, as a function whose address the program takes.
+// An undefined symbol, and one with a value, as a function whose address the program takes.
+const ABSENT: Change = With(1, (0x12, 0, 0));
+
 const UNDEFINED: Change = With(1, (0x12, 0, 0x10));
 
 // The numbers of the symbols of either file from index 1 on, what is changed in which file, the
@@ -70,304 +73,106 @@ type Row = (
     Answer,
 );
 
-const ORDER: &[Row] = &[
+const ORDER: &[Row] = rows! {
     // the first file in which there is one
-    (&[2], &[2], &[], (0, 0, 1), Ok(Some((0, 1)))),
-    (&[2], &[2], &[], (1, 0, 1), Ok(Some((0, 1)))),
-    (&[3], &[2], &[], (1, 0, 1), Ok(Some((1, 1)))),
-    (&[3, 0x8002], &[2], &[], (1, 0, 1), Ok(Some((0, 2)))),
-    (&[2], &[3, 2], &[], (1, 0, 1), Ok(Some((1, 1)))),
-    (&[2], &[3, 2], &[], (1, 0, 2), Ok(Some((0, 1)))),
-    (&[], &[2], &[], (1, 0, 1), Ok(Some((1, 1)))),
-    (
-        &[3],
-        &[2],
-        &[(1, With(1, (0x12, 0, 0)))],
-        (1, 0, 1),
-        Ok(None),
-    ),
+    &[2], &[2], &[], (0, 0, 1), Ok(Some((0, 1)));
+    &[2], &[2], &[], (1, 0, 1), Ok(Some((0, 1)));
+    &[3], &[2], &[], (1, 0, 1), Ok(Some((1, 1)));
+    &[3, 0x8002], &[2], &[], (1, 0, 1), Ok(Some((0, 2)));
+    &[2], &[3, 2], &[], (1, 0, 1), Ok(Some((1, 1)));
+    &[2], &[3, 2], &[], (1, 0, 2), Ok(Some((0, 1)));
+    &[], &[2], &[], (1, 0, 1), Ok(Some((1, 1)));
+    &[3], &[2], &[(1, ABSENT)], (1, 0, 1), Ok(None);
     // the reference's own file first, where it is symbolic
-    (&[2], &[2], &[(1, SYMBOLIC)], (1, 0, 1), Ok(Some((1, 1)))),
-    (&[2], &[2], &[(1, FLAGGED)], (1, 0, 1), Ok(Some((1, 1)))),
-    (
-        &[2],
-        &[2],
-        &[(1, Entry(30, 6))],
-        (1, 0, 1),
-        Ok(Some((1, 1))),
-    ),
-    (
-        &[2],
-        &[2],
-        &[(1, Entry(30, 13))],
-        (1, 0, 1),
-        Ok(Some((0, 1))),
-    ),
-    (
-        &[2],
-        &[2],
-        &[(1, Entry(24, 2))],
-        (1, 0, 1),
-        Ok(Some((0, 1))),
-    ),
-    (&[2], &[2], &[(1, SYMBOLIC)], (0, 0, 1), Ok(Some((0, 1)))),
-    (&[2], &[2], &[(0, SYMBOLIC)], (1, 0, 1), Ok(Some((0, 1)))),
-    (
-        &[2],
-        &[2],
-        &[(1, SYMBOLIC), (1, With(1, (0x12, 0, 0)))],
-        (1, 0, 1),
-        Ok(Some((0, 1))),
-    ),
+    &[2], &[2], &[(1, SYMBOLIC)], (1, 0, 1), Ok(Some((1, 1)));
+    &[2], &[2], &[(1, FLAGGED)], (1, 0, 1), Ok(Some((1, 1)));
+    &[2], &[2], &[(1, Entry(30, 6))], (1, 0, 1), Ok(Some((1, 1)));
+    &[2], &[2], &[(1, Entry(30, 13))], (1, 0, 1), Ok(Some((0, 1)));
+    &[2], &[2], &[(1, Entry(24, 2))], (1, 0, 1), Ok(Some((0, 1)));
+    &[2], &[2], &[(1, SYMBOLIC)], (0, 0, 1), Ok(Some((0, 1)));
+    &[2], &[2], &[(0, SYMBOLIC)], (1, 0, 1), Ok(Some((0, 1)));
+    &[2], &[2], &[(1, SYMBOLIC), (1, ABSENT)], (1, 0, 1), Ok(Some((0, 1)));
     // weak and unique symbols as global ones, and no others
-    (
-        &[2],
-        &[2],
-        &[(0, With(1, (0x22, 5, 0x10)))],
-        (1, 0, 1),
-        Ok(Some((0, 1))),
-    ),
-    (
-        &[2],
-        &[2],
-        &[(0, With(1, (0xa2, 5, 0x10)))],
-        (1, 0, 1),
-        Ok(Some((0, 1))),
-    ),
-    (
-        &[2],
-        &[2],
-        &[(0, With(1, (0x02, 5, 0x10)))],
-        (1, 0, 1),
-        Ok(Some((1, 1))),
-    ),
-    (
-        &[2, 2],
-        &[2],
-        &[(0, With(1, (0x02, 5, 0x10)))],
-        (1, 0, 1),
-        Ok(Some((1, 1))),
-    ),
-    (
-        &[2],
-        &[2],
-        &[(0, With(1, (0x32, 5, 0x10)))],
-        (1, 0, 1),
-        Ok(Some((1, 1))),
-    ),
-    (
-        &[2],
-        &[2],
-        &[(0, With(1, (0xb2, 5, 0x10)))],
-        (1, 0, 1),
-        Ok(Some((1, 1))),
-    ),
-    (
-        &[2],
-        &[2],
-        &[(0, With(1, (0xd2, 5, 0x10)))],
-        (1, 0, 1),
-        Ok(Some((1, 1))),
-    ),
+    &[2], &[2], &[(0, With(1, (0x22, 5, 0x10)))], (1, 0, 1), Ok(Some((0, 1)));
+    &[2], &[2], &[(0, With(1, (0xa2, 5, 0x10)))], (1, 0, 1), Ok(Some((0, 1)));
+    &[2], &[2], &[(0, With(1, (0x02, 5, 0x10)))], (1, 0, 1), Ok(Some((1, 1)));
+    &[2, 2], &[2], &[(0, With(1, (0x02, 5, 0x10)))], (1, 0, 1), Ok(Some((1, 1)));
+    &[2], &[2], &[(0, With(1, (0x32, 5, 0x10)))], (1, 0, 1), Ok(Some((1, 1)));
+    &[2], &[2], &[(0, With(1, (0xb2, 5, 0x10)))], (1, 0, 1), Ok(Some((1, 1)));
+    &[2], &[2], &[(0, With(1, (0xd2, 5, 0x10)))], (1, 0, 1), Ok(Some((1, 1)));
     // the symbol itself, if it is local, hidden or internal, whatever it is; a protected one
-    (
-        &[2],
-        &[2],
-        &[(1, With(1, (0x02, 5, 0x10)))],
-        (1, 0, 1),
-        Ok(Some((1, 1))),
-    ),
-    (
-        &[2],
-        &[2],
-        &[(1, With(1, (0x03, 5, 0)))],
-        (1, 0, 1),
-        Ok(Some((1, 1))),
-    ),
-    (&[2], &[2], &[(1, Other(1, 1))], (1, 0, 1), Ok(Some((1, 1)))),
-    (&[2], &[2], &[(1, Other(1, 2))], (1, 0, 1), Ok(Some((1, 1)))),
-    (&[2], &[2], &[(1, Other(1, 3))], (1, 0, 1), Ok(Some((1, 1)))),
-    (
-        &[2],
-        &[2],
-        &[(1, Other(1, 0xfc))],
-        (1, 0, 1),
-        Ok(Some((0, 1))),
-    ),
-    (&[2], &[2], &[(0, Other(1, 2))], (1, 0, 1), Ok(Some((1, 1)))),
-    (
-        &[2],
-        &[2],
-        &[(1, Other(1, 2)), (1, NAMELESS)],
-        (1, 0, 1),
-        Ok(Some((1, 1))),
-    ),
-    (&[2], &[2], &[], (1, 0, 0), Ok(Some((1, 0)))),
-];
+    &[2], &[2], &[(1, With(1, (0x02, 5, 0x10)))], (1, 0, 1), Ok(Some((1, 1)));
+    &[2], &[2], &[(1, With(1, (0x03, 5, 0)))], (1, 0, 1), Ok(Some((1, 1)));
+    &[2], &[2], &[(1, Other(1, 1))], (1, 0, 1), Ok(Some((1, 1)));
+    &[2], &[2], &[(1, Other(1, 2))], (1, 0, 1), Ok(Some((1, 1)));
+    &[2], &[2], &[(1, Other(1, 3))], (1, 0, 1), Ok(Some((1, 1)));
+    &[2], &[2], &[(1, Other(1, 0xfc))], (1, 0, 1), Ok(Some((0, 1)));
+    &[2], &[2], &[(0, Other(1, 2))], (1, 0, 1), Ok(Some((1, 1)));
+    &[2], &[2], &[(1, Other(1, 2)), (1, NAMELESS)], (1, 0, 1), Ok(Some((1, 1)));
+    &[2], &[2], &[], (1, 0, 0), Ok(Some((1, 0)));
+};
 
-const VERSIONS: &[Row] = &[
+const VERSIONS: &[Row] = rows! {
     // a version that a library is needed for, hidden or not
-    (&[3], &[4], &[], (1, 0, 1), Ok(Some((1, 1)))),
-    (&[9], &[4], &[], (1, 0, 1), Ok(Some((0, 1)))),
-    (&[9], &[0x8005], &[], (1, 0, 1), Ok(Some((1, 1)))),
-    (&[9], &[0x8002], &[], (1, 0, 1), Ok(Some((0, 1)))),
-    (&[0x8009], &[2], &[], (1, 0, 1), Ok(Some((1, 1)))),
+    &[3], &[4], &[], (1, 0, 1), Ok(Some((1, 1)));
+    &[9], &[4], &[], (1, 0, 1), Ok(Some((0, 1)));
+    &[9], &[0x8005], &[], (1, 0, 1), Ok(Some((1, 1)));
+    &[9], &[0x8002], &[], (1, 0, 1), Ok(Some((0, 1)));
+    &[0x8009], &[2], &[], (1, 0, 1), Ok(Some((1, 1)));
     // no version
-    (&[3], &[1], &[], (1, 0, 1), Ok(Some((0, 1)))),
-    (&[3, 2], &[1], &[], (1, 0, 1), Ok(Some((0, 2)))),
-    (&[3, 4], &[1], &[], (1, 0, 1), Ok(Some((1, 1)))),
-    (&[0x8003, 4], &[9], &[], (1, 0, 1), Ok(Some((0, 2)))),
-    (&[0x8002, 3], &[0], &[], (1, 0, 1), Ok(Some((0, 1)))),
-    (&[3, 4], &[0x8001], &[], (1, 0, 1), Ok(Some((1, 1)))),
-    (&[3], &[2], &[(1, NO_HASH)], (1, 0, 1), Ok(Some((0, 1)))),
+    &[3], &[1], &[], (1, 0, 1), Ok(Some((0, 1)));
+    &[3, 2], &[1], &[], (1, 0, 1), Ok(Some((0, 2)));
+    &[3, 4], &[1], &[], (1, 0, 1), Ok(Some((1, 1)));
+    &[0x8003, 4], &[9], &[], (1, 0, 1), Ok(Some((0, 2)));
+    &[0x8002, 3], &[0], &[], (1, 0, 1), Ok(Some((0, 1)));
+    &[3, 4], &[0x8001], &[], (1, 0, 1), Ok(Some((1, 1)));
+    &[3], &[2], &[(1, NO_HASH)], (1, 0, 1), Ok(Some((0, 1)));
     // no numbers of symbols
-    (&[3], &[2], &[(1, Unnumbered)], (1, 0, 1), Ok(Some((0, 1)))),
-    (
-        &[3, 4],
-        &[2],
-        &[(1, Unnumbered)],
-        (1, 0, 1),
-        Ok(Some((1, 1))),
-    ),
-    (&[3], &[2], &[(0, Unnumbered)], (1, 0, 1), Ok(Some((0, 1)))),
-];
+    &[3], &[2], &[(1, Unnumbered)], (1, 0, 1), Ok(Some((0, 1)));
+    &[3, 4], &[2], &[(1, Unnumbered)], (1, 0, 1), Ok(Some((1, 1)));
+    &[3], &[2], &[(0, Unnumbered)], (1, 0, 1), Ok(Some((0, 1)));
+};
 
-const USES: &[Row] = &[
+const USES: &[Row] = rows! {
     // a copy, by the machine of the reference's file
-    (&[2], &[2], &[(0, Machine(62))], (0, 5, 1), Ok(Some((1, 1)))),
-    (&[2], &[2], &[(0, Machine(3))], (0, 5, 1), Ok(Some((1, 1)))),
-    (
-        &[2],
-        &[2],
-        &[(0, Machine(183))],
-        (0, 1024, 1),
-        Ok(Some((1, 1))),
-    ),
-    (
-        &[2],
-        &[2],
-        &[(0, Machine(183))],
-        (0, 5, 1),
-        Ok(Some((0, 1))),
-    ),
-    (
-        &[2],
-        &[2],
-        &[(0, Machine(62))],
-        (0, 1024, 1),
-        Ok(Some((0, 1))),
-    ),
-    (&[2], &[2], &[(0, Machine(62))], (0, 6, 1), Ok(Some((0, 1)))),
-    (&[2], &[2], &[(0, Machine(8))], (0, 5, 1), Ok(Some((0, 1)))),
-    (&[2], &[2], &[(1, Machine(62))], (0, 5, 1), Ok(Some((0, 1)))),
-    (&[2], &[2], &[(1, Machine(62))], (1, 5, 1), Ok(Some((1, 1)))),
-    (&[2], &[3], &[(0, Machine(62))], (0, 5, 1), Ok(None)),
-    (
-        &[2],
-        &[3],
-        &[(0, Machine(62)), (0, SYMBOLIC)],
-        (0, 5, 1),
-        Ok(None),
-    ),
-    (
-        &[2],
-        &[2],
-        &[(0, Machine(62)), (0, SYMBOLIC)],
-        (0, 5, 1),
-        Ok(Some((1, 1))),
-    ),
-    (
-        &[2],
-        &[2],
-        &[(0, Machine(62)), (0, Other(1, 3))],
-        (0, 5, 1),
-        Ok(Some((1, 1))),
-    ),
+    &[2], &[2], &[(0, Machine(62))], (0, 5, 1), Ok(Some((1, 1)));
+    &[2], &[2], &[(0, Machine(3))], (0, 5, 1), Ok(Some((1, 1)));
+    &[2], &[2], &[(0, Machine(183))], (0, 1024, 1), Ok(Some((1, 1)));
+    &[2], &[2], &[(0, Machine(183))], (0, 5, 1), Ok(Some((0, 1)));
+    &[2], &[2], &[(0, Machine(62))], (0, 1024, 1), Ok(Some((0, 1)));
+    &[2], &[2], &[(0, Machine(62))], (0, 6, 1), Ok(Some((0, 1)));
+    &[2], &[2], &[(0, Machine(8))], (0, 5, 1), Ok(Some((0, 1)));
+    &[2], &[2], &[(1, Machine(62))], (0, 5, 1), Ok(Some((0, 1)));
+    &[2], &[2], &[(1, Machine(62))], (1, 5, 1), Ok(Some((1, 1)));
+    &[2], &[3], &[(0, Machine(62))], (0, 5, 1), Ok(None);
+    &[2], &[3], &[(0, Machine(62)), (0, SYMBOLIC)], (0, 5, 1), Ok(None);
+    &[2], &[2], &[(0, Machine(62)), (0, SYMBOLIC)], (0, 5, 1), Ok(Some((1, 1)));
+    &[2], &[2], &[(0, Machine(62)), (0, Other(1, 3))], (0, 5, 1), Ok(Some((1, 1)));
     // a defined symbol
-    (
-        &[2],
-        &[2],
-        &[(0, UNDEFINED), (1, Machine(62))],
-        (1, 7, 1),
-        Ok(Some((1, 1))),
-    ),
-    (
-        &[2],
-        &[2],
-        &[(0, UNDEFINED), (1, Machine(62))],
-        (1, 6, 1),
-        Ok(Some((0, 1))),
-    ),
-    (
-        &[2],
-        &[2],
-        &[(0, UNDEFINED), (1, Machine(3))],
-        (1, 14, 1),
-        Ok(Some((1, 1))),
-    ),
-    (
-        &[2],
-        &[2],
-        &[(0, UNDEFINED), (0, Machine(62))],
-        (1, 7, 1),
-        Ok(Some((0, 1))),
-    ),
-];
+    &[2], &[2], &[(0, UNDEFINED), (1, Machine(62))], (1, 7, 1), Ok(Some((1, 1)));
+    &[2], &[2], &[(0, UNDEFINED), (1, Machine(62))], (1, 6, 1), Ok(Some((0, 1)));
+    &[2], &[2], &[(0, UNDEFINED), (1, Machine(3))], (1, 14, 1), Ok(Some((1, 1)));
+    &[2], &[2], &[(0, UNDEFINED), (0, Machine(62))], (1, 7, 1), Ok(Some((0, 1)));
+};
 
 const PAST: LinkError = LinkError::Elf(ElfError::TextStart);
 
-const REFUSED: &[Row] = &[
-    (&[2], &[2], &[], (2, 0, 1), Err(LinkError::ObjectIndex)),
-    (
-        &[2],
-        &[2],
-        &[],
-        (usize::MAX, 0, 9),
-        Err(LinkError::ObjectIndex),
-    ),
-    (&[2], &[2], &[], (1, 0, 4), Err(LinkError::SymbolIndex)),
-    (
-        &[2],
-        &[2],
-        &[],
-        (0, 0, u32::MAX),
-        Err(LinkError::SymbolIndex),
-    ),
+const REFUSED: &[Row] = rows! {
+    &[2], &[2], &[], (2, 0, 1), Err(LinkError::ObjectIndex);
+    &[2], &[2], &[], (usize::MAX, 0, 9), Err(LinkError::ObjectIndex);
+    &[2], &[2], &[], (1, 0, 4), Err(LinkError::SymbolIndex);
+    &[2], &[2], &[], (0, 0, u32::MAX), Err(LinkError::SymbolIndex);
     // the name of the symbol, and then its version
-    (&[2], &[2], &[(1, NAMELESS)], (1, 0, 1), Err(PAST)),
-    (&[2], &[3], &[(1, NAMELESS), (1, CUT)], (1, 0, 1), Err(PAST)),
-    (
-        &[2],
-        &[3],
-        &[(1, CUT)],
-        (1, 0, 1),
-        Err(LinkError::ShortVersion),
-    ),
+    &[2], &[2], &[(1, NAMELESS)], (1, 0, 1), Err(PAST);
+    &[2], &[3], &[(1, NAMELESS), (1, CUT)], (1, 0, 1), Err(PAST);
+    &[2], &[3], &[(1, CUT)], (1, 0, 1), Err(LinkError::ShortVersion);
     // a file that is asked before there is an answer
-    (
-        &[3],
-        &[2],
-        &[(0, CUT)],
-        (1, 0, 1),
-        Err(LinkError::ShortVersion),
-    ),
-    (
-        &[3],
-        &[2],
-        &[(0, CUT), (1, SYMBOLIC)],
-        (1, 0, 1),
-        Ok(Some((1, 1))),
-    ),
-    (
-        &[3],
-        &[2],
-        &[(0, CUT), (1, Machine(62))],
-        (1, 5, 1),
-        Ok(Some((1, 1))),
-    ),
-    (&[2], &[3], &[(1, CUT)], (0, 0, 1), Ok(Some((0, 1)))),
-    (&[3], &[1], &[(0, CUT)], (1, 0, 1), Ok(Some((0, 1)))),
-];
+    &[3], &[2], &[(0, CUT)], (1, 0, 1), Err(LinkError::ShortVersion);
+    &[3], &[2], &[(0, CUT), (1, SYMBOLIC)], (1, 0, 1), Ok(Some((1, 1)));
+    &[3], &[2], &[(0, CUT), (1, Machine(62))], (1, 5, 1), Ok(Some((1, 1)));
+    &[2], &[3], &[(1, CUT)], (0, 0, 1), Ok(Some((0, 1)));
+    &[3], &[1], &[(0, CUT)], (1, 0, 1), Ok(Some((0, 1)));
+};
 
 fn make_change(file: &mut [u8], kind: Kind, change: Change) {
     match change {
@@ -393,11 +198,8 @@ fn bound_of<E: LinkedSymbol>(
         DynamicObject::<E>::read(&open(rt, program))?,
         DynamicObject::<E>::read(&open(rt, library))?,
     ];
-    let answer = match Scope::new(&objects).bind(from, reference) {
-        Ok(Some(bound)) => Ok(Some((bound.object, bound.index))),
-        Ok(None) => Ok(None),
-        Err(error) => Err(error),
-    };
+    let answer = Scope::new(&objects).bind(from, reference);
+    let answer = answer.map(|bound| bound.map(|bound| (bound.object, bound.index)));
     if let Ok(bound) = checked_bound_of(objects[0], objects[1], from, reference) {
         // A reference whose symbol or name can't be read gets none.
         want(rt, bound, answer.unwrap_or(None));
@@ -413,10 +215,8 @@ fn checked_bound_of<E: LinkedSymbol>(
     reference: &Reference,
 ) -> Answer {
     let checked = [CheckedObject::of(program)?, CheckedObject::of(library)?];
-    match CheckedScope::new(&checked).bind(from, reference) {
-        Some(bound) => Ok(Some((bound.object, bound.index))),
-        None => Ok(None),
-    }
+    let bound = CheckedScope::new(&checked).bind(from, reference);
+    Ok(bound.map(|bound| (bound.object, bound.index)))
 }
 
 // What the reference of a row gets.

@@ -6,15 +6,14 @@ pub mod file;
 mod linked;
 
 use crate::tests::find::Asked::{By, Hidden};
-use crate::tests::find::file::{
-    DEFINITIONS, KINDS, Kind, Symbol, drop_numbers, find_file, set_symbol,
-};
+use crate::tests::find::file::{DEFINITIONS, KINDS, Symbol, drop_numbers, find_file, set_symbol};
 use crate::tests::want::{open, want, want_at};
 use elf_base::ElfError;
 use elf_linking::find::{Use, Wanted};
 use elf_linking::view::LinkedSymbol;
 use elf_linking::{CheckedObject, DynamicObject, LinkError};
 use std::process::Abort;
+use worked_files::rows;
 use worked_files::versioned::{Field, set_fields};
 use xmas_elf::symbol_table::{DynEntry32, DynEntry64};
 
@@ -63,7 +62,9 @@ const V3: Asked = By("V3", 0x593);
 
 const HIDDEN_V1: Asked = Hidden("V1", 0x591);
 
-type Found = Result<Option<(u32, u64)>, LinkError>;
+pub type Found = Result<Option<(u32, u64)>, LinkError>;
+
+pub type Answer = Result<Option<u32>, LinkError>;
 
 // The index and the value of the symbol that a reference gets.
 fn found_of<E: LinkedSymbol>(
@@ -75,32 +76,18 @@ fn found_of<E: LinkedSymbol>(
 ) -> Found {
     let file = open(rt, bytes);
     let object = DynamicObject::<E>::read(&file)?;
-    let found = match object.find(name, wanted, use_) {
-        Ok(Some((index, symbol))) => Ok(Some((index, symbol.value()))),
-        Ok(None) => Ok(None),
-        Err(error) => Err(error),
-    };
+    let found = object.find(name, wanted, use_);
+    let found = found.map(|found| found.map(|(index, symbol)| (index, symbol.value())));
     if let Ok(checked) = CheckedObject::of(object) {
-        want(rt, checked_found(&checked, name, wanted, use_), found);
+        let checked = checked.find(name, wanted, use_);
+        let checked = checked.map(|(index, symbol)| (index, symbol.value()));
+        want(rt, Ok(checked), found);
     }
     found
 }
 
-// The same after the checks of the file.
-fn checked_found<E: LinkedSymbol>(
-    object: &CheckedObject<'_, E>,
-    name: &str,
-    wanted: &Wanted<'_>,
-    use_: Use,
-) -> Found {
-    match object.find(name, wanted, use_) {
-        Some((index, symbol)) => Ok(Some((index, symbol.value()))),
-        None => Ok(None),
-    }
-}
-
-// The same in a file of either class.
-fn found_in(
+/// The same in a file of either class.
+pub fn found_in(
     rt: &impl Abort,
     class: u8,
     bytes: &[u8],
@@ -116,103 +103,57 @@ fn found_in(
 }
 
 // The index of the symbol `ab` that any use gets; each has 16 times its index as its value.
-fn index_in(
-    rt: &impl Abort,
-    class: u8,
-    bytes: &[u8],
-    asked: Asked,
-) -> Result<Option<u32>, LinkError> {
-    match found_in(rt, class, bytes, "ab", &asked.wanted(), Use::Any) {
-        Ok(Some((index, value))) => {
-            want(rt, value, u64::from(index).wrapping_mul(16));
-            Ok(Some(index))
-        }
-        Ok(None) => Ok(None),
-        Err(error) => Err(error),
+fn index_in(rt: &impl Abort, class: u8, bytes: &[u8], asked: Asked) -> Answer {
+    let found = found_in(rt, class, bytes, "ab", &asked.wanted(), Use::Any)?;
+    if let Some((index, value)) = found {
+        want(rt, value, u64::from(index).wrapping_mul(16));
     }
+    Ok(found.map(|found| found.0))
 }
 
 // The numbers of symbols from index 1 on, which version is asked for, and the symbol found. Number
 // 2 is V1, number 3 is V2; number 4 is V3 and number 5 the hidden V4 of a library; nothing bears 9.
-const BY_VERSION: &[(&[u16], Asked, Option<u32>)] = &[
-    (&[], V1, None),
-    (&[0x8002, 3], V1, Some(1)),
-    (&[0x8002, 3], V2, Some(2)),
-    (&[0x8002, 3], V3, None),
-    (&[3, 0x8002], V1, Some(2)),
-    (&[3, 2], V1, Some(2)),
-    (&[3, 2, 2], V1, Some(2)),
+const BY_VERSION: &[(&[u16], Asked, Option<u32>)] = rows! {
+    &[], V1, None; &[0x8002, 3], V1, Some(1); &[0x8002, 3], V2, Some(2); &[0x8002, 3], V3, None;
+    &[3, 0x8002], V1, Some(2); &[3, 2], V1, Some(2); &[3, 2, 2], V1, Some(2);
     // the default is no answer to another version
-    (&[3], V1, None),
-    (&[3], V3, None),
-    (&[4, 3], V3, Some(1)),
-    (&[3, 0x8005], By("V4", 0x594), Some(2)),
+    &[3], V1, None; &[3], V3, None; &[4, 3], V3, Some(1); &[3, 0x8005], By("V4", 0x594), Some(2);
     // the name and the hash number must both be the same
-    (&[2, 3], By("V2", 0x591), None),
-    (&[2, 3], By("V1", 0x592), None),
-    (&[2], By("V1", 0), None),
-    (&[2], By("", 0x591), None),
+    &[2, 3], By("V2", 0x591), None; &[2, 3], By("V1", 0x592), None; &[2], By("V1", 0), None;
+    &[2], By("", 0x591), None;
     // a hidden version, which asks for no other
-    (&[2], HIDDEN_V1, Some(1)),
-    (&[3, 0x8002], HIDDEN_V1, Some(2)),
+    &[2], HIDDEN_V1, Some(1); &[3, 0x8002], HIDDEN_V1, Some(2);
     // a version without a hash number is accepted too, if neither is hidden
-    (&[9], V1, Some(1)),
-    (&[0x8009], V1, None),
-    (&[9], HIDDEN_V1, None),
-    (&[0x8009], HIDDEN_V1, None),
-    (&[0], V1, Some(1)),
-    (&[1], V1, Some(1)),
-    (&[0x8001], V1, None),
-    (&[1], HIDDEN_V1, None),
-    (&[9, 2], V1, Some(1)),
-    (&[0x8009, 2], V1, Some(2)),
-    (&[9, 2], HIDDEN_V1, Some(2)),
-];
+    &[9], V1, Some(1); &[0x8009], V1, None; &[9], HIDDEN_V1, None; &[0x8009], HIDDEN_V1, None;
+    &[0], V1, Some(1); &[1], V1, Some(1); &[0x8001], V1, None; &[1], HIDDEN_V1, None;
+    &[9, 2], V1, Some(1); &[0x8009, 2], V1, Some(2); &[9, 2], HIDDEN_V1, Some(2);
+};
 
 // The same for a reference without a version: what `Unversioned` finds, and `Newest`.
-const BY_NONE: &[(&[u16], Option<u32>, Option<u32>)] = &[
-    (&[], None, None),
+const BY_NONE: &[(&[u16], Option<u32>, Option<u32>)] = rows! {
+    &[], None, None;
     // a number below 3 or below 2, hidden or not
-    (&[0], Some(1), Some(1)),
-    (&[1], Some(1), Some(1)),
-    (&[0x8000], Some(1), Some(1)),
-    (&[0x8001], Some(1), Some(1)),
-    (&[0x8002], Some(1), None),
-    (&[0x8002, 3], Some(1), Some(2)),
-    (&[3, 2], Some(2), None),
-    (&[3, 0x8002], Some(2), Some(1)),
-    (&[3, 4, 1], Some(3), Some(3)),
-    (&[3, 2, 1], Some(2), Some(3)),
+    &[0], Some(1), Some(1); &[1], Some(1), Some(1); &[0x8000], Some(1), Some(1);
+    &[0x8001], Some(1), Some(1); &[0x8002], Some(1), None; &[0x8002, 3], Some(1), Some(2);
+    &[3, 2], Some(2), None; &[3, 0x8002], Some(2), Some(1); &[3, 4, 1], Some(3), Some(3);
+    &[3, 2, 1], Some(2), Some(3);
     // one default
-    (&[2], Some(1), Some(1)),
-    (&[3], Some(1), Some(1)),
-    (&[9], Some(1), Some(1)),
-    (&[3, 0x8004], Some(1), Some(1)),
-    (&[0x8004, 3], Some(2), Some(2)),
-    (&[0x8003, 0x8004, 3], Some(3), Some(3)),
-    (&[0x8003, 0x7fff, 0xffff], Some(2), Some(2)),
+    &[2], Some(1), Some(1); &[3], Some(1), Some(1); &[9], Some(1), Some(1);
+    &[3, 0x8004], Some(1), Some(1); &[0x8004, 3], Some(2), Some(2);
+    &[0x8003, 0x8004, 3], Some(3), Some(3); &[0x8003, 0x7fff, 0xffff], Some(2), Some(2);
     // two and three of them
-    (&[3, 4], None, None),
-    (&[3, 3], None, None),
-    (&[3, 0x8003, 9], None, None),
-    (&[3, 4, 5], None, None),
+    &[3, 4], None, None; &[3, 3], None, None; &[3, 0x8003, 9], None, None; &[3, 4, 5], None, None;
     // none
-    (&[0x8003], None, None),
-    (&[0x8009], None, None),
-    (&[0x8003, 0x8004, 0xffff], None, None),
-];
+    &[0x8003], None, None; &[0x8009], None, None; &[0x8003, 0x8004, 0xffff], None, None;
+};
 
 #[test]
 fn finds_a_symbol_by_its_version(rt: HostRuntime) {
     for (row, &(numbers, asked, index)) in BY_VERSION.iter().enumerate() {
         for &kind in KINDS {
             let bytes = find_file(kind, numbers);
-            want_at(
-                &rt,
-                (row, kind),
-                index_in(&rt, kind.0, &bytes, asked),
-                Ok(index),
-            );
+            let found = index_in(&rt, kind.0, &bytes, asked);
+            want_at(&rt, (row, kind), found, Ok(index));
         }
     }
 }
@@ -222,18 +163,10 @@ fn finds_a_symbol_without_a_version(rt: HostRuntime) {
     for (row, &(numbers, plain, latest)) in BY_NONE.iter().enumerate() {
         for &kind in KINDS {
             let bytes = find_file(kind, numbers);
-            want_at(
-                &rt,
-                (row, kind),
-                index_in(&rt, kind.0, &bytes, PLAIN),
-                Ok(plain),
-            );
-            want_at(
-                &rt,
-                (row, kind),
-                index_in(&rt, kind.0, &bytes, LATEST),
-                Ok(latest),
-            );
+            let found = index_in(&rt, kind.0, &bytes, PLAIN);
+            want_at(&rt, (row, kind), found, Ok(plain));
+            let found = index_in(&rt, kind.0, &bytes, LATEST);
+            want_at(&rt, (row, kind), found, Ok(latest));
         }
     }
 }
@@ -245,45 +178,30 @@ fn finds_the_first_symbol_without_numbers(rt: HostRuntime) {
         for &kind in KINDS {
             let mut bytes = find_file(kind, &[0x8003, 3, 4]);
             drop_numbers(&mut bytes, kind);
-            want_at(
-                &rt,
-                (row, kind),
-                index_in(&rt, kind.0, &bytes, *asked),
-                Ok(Some(1)),
-            );
+            let found = index_in(&rt, kind.0, &bytes, *asked);
+            want_at(&rt, (row, kind), found, Ok(Some(1)));
         }
     }
 }
 
 // A symbol, and whether it serves any use, one that wants a defined symbol, and a copy.
-const SERVING: &[(Symbol, bool, bool, bool)] = &[
-    ((0x12, 5, 0x10), true, true, true),
-    ((0x22, 5, 0x10), true, true, true),
+const SERVING: &[(Symbol, bool, bool, bool)] = rows! {
+    (0x12, 5, 0x10), true, true, true; (0x22, 5, 0x10), true, true, true;
     // undefined, as a function that is called through the file's own table
-    ((0x12, 0, 0x10), true, false, true),
-    ((0x12, 0, 0), false, false, false),
+    (0x12, 0, 0x10), true, false, true; (0x12, 0, 0), false, false, false;
     // the value 0: in a section, absolute, common, and thread-local
-    ((0x11, 5, 0), false, false, false),
-    ((0x11, 0xfff1, 0), true, true, true),
-    ((0x12, 0xfff1, 0), true, true, true),
-    ((0x11, 0xfff2, 0), false, false, false),
-    ((0x16, 5, 0), true, true, true),
-    ((0x16, 0, 0), true, false, true),
+    (0x11, 5, 0), false, false, false; (0x11, 0xfff1, 0), true, true, true;
+    (0x12, 0xfff1, 0), true, true, true; (0x11, 0xfff2, 0), false, false, false;
+    (0x16, 5, 0), true, true, true; (0x16, 0, 0), true, false, true;
     // each type
-    ((0x10, 5, 0x10), true, true, true),
-    ((0x11, 5, 0x10), true, true, true),
-    ((0x13, 5, 0x10), false, false, false),
-    ((0x14, 0xfff1, 0x10), false, false, false),
-    ((0x15, 5, 0x10), true, true, true),
-    ((0x16, 5, 0x10), true, true, true),
-    ((0x17, 5, 0x10), false, false, false),
-    ((0x18, 5, 0x10), false, false, false),
-    ((0x19, 5, 0x10), false, false, false),
-    ((0x1a, 5, 0x10), true, true, true),
-    ((0x1a, 5, 0), false, false, false),
-    ((0x1b, 5, 0x10), false, false, false),
-    ((0x1f, 5, 0x10), false, false, false),
-];
+    (0x10, 5, 0x10), true, true, true; (0x11, 5, 0x10), true, true, true;
+    (0x13, 5, 0x10), false, false, false; (0x14, 0xfff1, 0x10), false, false, false;
+    (0x15, 5, 0x10), true, true, true; (0x16, 5, 0x10), true, true, true;
+    (0x17, 5, 0x10), false, false, false; (0x18, 5, 0x10), false, false, false;
+    (0x19, 5, 0x10), false, false, false; (0x1a, 5, 0x10), true, true, true;
+    (0x1a, 5, 0), false, false, false; (0x1b, 5, 0x10), false, false, false;
+    (0x1f, 5, 0x10), false, false, false;
+};
 
 // Wants symbol 1 for a use if it serves it, and otherwise symbol 2, which has the same number.
 fn check_serving(rt: &impl Abort, row: usize, symbol: Symbol, use_: Use, serves: bool) {
@@ -319,8 +237,6 @@ fn counts_no_default_that_does_not_serve(rt: HostRuntime) {
         want_at(&rt, kind, found, Ok(None));
     }
 }
-
-type Answer = Result<Option<u32>, LinkError>;
 
 // The definition of V1 ends the list, and its next is past the end; its name is past the end of the
 // strings, or its record of names is cut off; its hash number is 0; and V2 has the same as V1.
@@ -378,33 +294,19 @@ fn tells_why_a_version_is_not_accepted(rt: HostRuntime) {
         for &kind in KINDS {
             let mut bytes = find_file(kind, numbers);
             set_fields(&mut bytes, DEFINITIONS, fields, kind.1);
-            want_at(
-                &rt,
-                (row, kind),
-                index_in(&rt, kind.0, &bytes, asked),
-                answer,
-            );
+            let found = index_in(&rt, kind.0, &bytes, asked);
+            want_at(&rt, (row, kind), found, answer);
         }
     }
 }
 
 // Whether a reference accepts a symbol at once: those with the numbers 2, hidden 3 and 9.
-const ACCEPTED: &[(u32, Asked, Result<bool, LinkError>)] = &[
-    (0, V1, Ok(true)),
-    (1, V1, Ok(true)),
-    (1, V2, Ok(false)),
-    (2, V2, Ok(true)),
-    (3, V1, Ok(true)),
-    (3, HIDDEN_V1, Ok(false)),
-    (1, PLAIN, Ok(true)),
-    (2, PLAIN, Ok(false)),
-    (3, PLAIN, Ok(false)),
-    (0, LATEST, Ok(true)),
-    (1, LATEST, Ok(false)),
-    (4, V1, Err(LinkError::SymbolIndex)),
-    (4, PLAIN, Err(LinkError::SymbolIndex)),
-    (u32::MAX, LATEST, Err(LinkError::SymbolIndex)),
-];
+const ACCEPTED: &[(u32, Asked, Result<bool, LinkError>)] = rows! {
+    0, V1, Ok(true); 1, V1, Ok(true); 1, V2, Ok(false); 2, V2, Ok(true); 3, V1, Ok(true);
+    3, HIDDEN_V1, Ok(false); 1, PLAIN, Ok(true); 2, PLAIN, Ok(false); 3, PLAIN, Ok(false);
+    0, LATEST, Ok(true); 1, LATEST, Ok(false); 4, V1, Err(LinkError::SymbolIndex);
+    4, PLAIN, Err(LinkError::SymbolIndex); u32::MAX, LATEST, Err(LinkError::SymbolIndex);
+};
 
 #[test]
 fn accepts_a_symbol_by_its_index(rt: HostRuntime) -> Result<(), LinkError> {
@@ -417,26 +319,18 @@ fn accepts_a_symbol_by_its_index(rt: HostRuntime) -> Result<(), LinkError> {
             DynamicObject::<DynEntry64>::read(&file)?.versions()
         };
         for &(index, asked, accepted) in ACCEPTED {
-            want_at(
-                &rt,
-                (index, asked),
-                asked.wanted().accepts(&versions, index),
-                accepted,
-            );
+            let found = asked.wanted().accepts(&versions, index);
+            want_at(&rt, (index, asked), found, accepted);
         }
     }
     Ok(())
 }
 
 // Changed fields of the definitions, and whether the versions of the symbols can be read.
-const CHECKED: &[(&[Field], Result<(), LinkError>)] = &[
-    (&[], Ok(())),
-    (&[CUT], Err(SHORT)),
-    (&[PAST_STRINGS], Err(PAST)),
-    (&[CUT_NAME], Err(SHORT)),
-    (&[NO_HASH], Ok(())),
-    (&[SAME_HASH], Ok(())),
-];
+const CHECKED: &[(&[Field], Result<(), LinkError>)] = rows! {
+    &[], Ok(()); &[CUT], Err(SHORT); &[PAST_STRINGS], Err(PAST); &[CUT_NAME], Err(SHORT);
+    &[NO_HASH], Ok(()); &[SAME_HASH], Ok(());
+};
 
 #[test]
 fn checks_that_versions_can_be_read(rt: HostRuntime) -> Result<(), LinkError> {

@@ -12,6 +12,7 @@ use std::process::Abort;
 use worked_files::files::with_class;
 use worked_files::linked::small::SMALL;
 use worked_files::places::{Place, set};
+use worked_files::rows;
 use worked_files::versioned::{
     KINDS, PROGRAMS, set_entry, set_header, set_program, set_segment_end, sizes,
 };
@@ -43,13 +44,10 @@ const REL_ROWS: &[Row] = &[(0x2018, 1, 3, 0, 0), (0x2020, 8, 0, 0, 0)];
 const PLT_ROWS: &[Row] = &[(0x2028, 7, 4, 0, 0), (0x2030, 7, 5, 0x20, 0x20)];
 
 // Those that name a symbol, in the order of the tables.
-const NAMED: &[Row] = &[
-    (0x2000, 6, 1, 0x10, 0x10),
-    (0x2010, 255, 0xff_ffff, 0xffff_ffff, u64::MAX),
-    (0x2018, 1, 3, 0, 0),
-    (0x2028, 7, 4, 0, 0),
-    (0x2030, 7, 5, 0x20, 0x20),
-];
+const NAMED: &[Row] = rows! {
+    0x2000, 6, 1, 0x10, 0x10; 0x2010, 255, 0xff_ffff, 0xffff_ffff, u64::MAX; 0x2018, 1, 3, 0, 0;
+    0x2028, 7, 4, 0, 0; 0x2030, 7, 5, 0x20, 0x20;
+};
 
 // Writes relocations of this class, each of two or three numbers.
 fn set_relocations(
@@ -114,56 +112,31 @@ const OTHER_KIND: Entry = (20, 8, 8);
 const NOT_MULTIPLE: LinkError = LinkError::Elf(ElfError::NotMultiple);
 
 // Dynamic entries, and which of the relocations that name a symbol they lead to.
-const ROWS: &[(&[Entry], Result<&[usize], LinkError>)] = &[
-    (&[], Ok(&[])),
-    (&[RELA_SIZE, REL_SIZE, PLT_SIZE, OTHER_KIND], Ok(&[])),
-    (
-        &[
-            RELA_AT, RELA_SIZE, REL_AT, REL_SIZE, PLT_AT, PLT_SIZE, PLT_KIND,
-        ],
-        Ok(&[0, 1, 2, 3, 4]),
-    ),
-    (
-        &[
-            PLT_KIND, PLT_SIZE, PLT_AT, REL_SIZE, REL_AT, RELA_SIZE, RELA_AT,
-        ],
-        Ok(&[0, 1, 2, 3, 4]),
-    ),
-    (
-        &[REL_AT, REL_SIZE, PLT_AT, PLT_SIZE, PLT_KIND],
-        Ok(&[2, 3, 4]),
-    ),
-    (&[RELA_AT, (8, 24, 48)], Ok(&[0])),
-    (&[RELA_AT, (8, 0, 0)], Ok(&[])),
+const ROWS: &[(&[Entry], Result<&[usize], LinkError>)] = rows! {
+    &[], Ok(&[]);
+    &[RELA_SIZE, REL_SIZE, PLT_SIZE, OTHER_KIND], Ok(&[]);
+    &[RELA_AT, RELA_SIZE, REL_AT, REL_SIZE, PLT_AT, PLT_SIZE, PLT_KIND], Ok(&[0, 1, 2, 3, 4]);
+    &[PLT_KIND, PLT_SIZE, PLT_AT, REL_SIZE, REL_AT, RELA_SIZE, RELA_AT], Ok(&[0, 1, 2, 3, 4]);
+    &[REL_AT, REL_SIZE, PLT_AT, PLT_SIZE, PLT_KIND], Ok(&[2, 3, 4]);
+    &[RELA_AT, (8, 24, 48)], Ok(&[0]);
+    &[RELA_AT, (8, 0, 0)], Ok(&[]);
     // the relocations of the procedure linkage table without addends
-    (&[(23, 0x1180, 0x1180), (2, 16, 32), (20, 17, 17)], Ok(&[2])),
+    &[(23, 0x1180, 0x1180), (2, 16, 32), (20, 17, 17)], Ok(&[2]);
     // entries that lack, the first table before the next
-    (&[RELA_AT], Err(LinkError::NoEntry)),
-    (&[REL_AT, RELA_SIZE], Err(LinkError::NoEntry)),
-    (&[PLT_AT, PLT_KIND], Err(LinkError::NoEntry)),
-    (&[PLT_AT, PLT_SIZE], Err(LinkError::NoEntry)),
-    (&[PLT_AT, OTHER_KIND], Err(LinkError::NoEntry)),
-    (
-        &[PLT_AT, PLT_SIZE, OTHER_KIND],
-        Err(LinkError::RelocationKind),
-    ),
-    (
-        &[(23, 0x9000, 0x9000), PLT_SIZE, OTHER_KIND],
-        Err(LinkError::RelocationKind),
-    ),
-    (
-        &[RELA_AT, PLT_AT, PLT_SIZE, OTHER_KIND],
-        Err(LinkError::NoEntry),
-    ),
-    (
-        &[(7, 0x9000, 0x9000), RELA_SIZE, REL_AT],
-        Err(LinkError::Address),
-    ),
-    (&[RELA_AT, (8, 0x1000, 0x1000)], Err(LinkError::Address)),
-    (&[RELA_AT, (8, 35, 71)], Err(NOT_MULTIPLE)),
-    (&[REL_AT, (18, 12, 24)], Err(NOT_MULTIPLE)),
-    (&[PLT_AT, (2, 16, 32), PLT_KIND], Err(NOT_MULTIPLE)),
-];
+    &[RELA_AT], Err(LinkError::NoEntry);
+    &[REL_AT, RELA_SIZE], Err(LinkError::NoEntry);
+    &[PLT_AT, PLT_KIND], Err(LinkError::NoEntry);
+    &[PLT_AT, PLT_SIZE], Err(LinkError::NoEntry);
+    &[PLT_AT, OTHER_KIND], Err(LinkError::NoEntry);
+    &[PLT_AT, PLT_SIZE, OTHER_KIND], Err(LinkError::RelocationKind);
+    &[(23, 0x9000, 0x9000), PLT_SIZE, OTHER_KIND], Err(LinkError::RelocationKind);
+    &[RELA_AT, PLT_AT, PLT_SIZE, OTHER_KIND], Err(LinkError::NoEntry);
+    &[(7, 0x9000, 0x9000), RELA_SIZE, REL_AT], Err(LinkError::Address);
+    &[RELA_AT, (8, 0x1000, 0x1000)], Err(LinkError::Address);
+    &[RELA_AT, (8, 35, 71)], Err(NOT_MULTIPLE);
+    &[REL_AT, (18, 12, 24)], Err(NOT_MULTIPLE);
+    &[PLT_AT, (2, 16, 32), PLT_KIND], Err(NOT_MULTIPLE);
+};
 
 fn reference(row: Row, class: u8) -> Reference {
     let (offset, kind, symbol, narrow, wide) = row;
@@ -246,15 +219,12 @@ fn lists_all_relocations(rt: HostRuntime) -> Result<(), LinkError> {
 // of the first record marks the words 7 and 8 after it in class 32, and 31 and 32 in class 64.
 const RELR_AT: Entry = (36, 0x1180, 0x1180);
 
-const PACKED: &[(&[Entry], Option<LinkError>)] = &[
-    (&[REL_AT, (35, 8, 16)], None),
-    (&[RELR_AT], Some(LinkError::NoEntry)),
-    (&[RELR_AT, (35, 6, 12)], Some(LinkError::NotMultiple)),
-    (
-        &[(36, 0x9000, 0x9000), (35, 8, 16)],
-        Some(LinkError::Address),
-    ),
-];
+const PACKED: &[(&[Entry], Option<LinkError>)] = rows! {
+    &[REL_AT, (35, 8, 16)], None;
+    &[RELR_AT], Some(LinkError::NoEntry);
+    &[RELR_AT, (35, 6, 12)], Some(LinkError::NotMultiple);
+    &[(36, 0x9000, 0x9000), (35, 8, 16)], Some(LinkError::Address);
+};
 
 #[test]
 fn lists_packed_relocations(rt: HostRuntime) -> Result<(), LinkError> {
@@ -327,36 +297,15 @@ fn lists_a_jump_slot_of_a_shared_object(rt: HostRuntime) -> Result<(), LinkError
 }
 
 // By machine and relocation type, as the processor supplements of the System V ABI number them.
-const USES: &[(u16, u32, Use)] = &[
-    (62, 5, Use::Copy),
-    (62, 6, Use::Any),
-    (62, 7, Use::Defined),
-    (62, 8, Use::Any),
-    (62, 16, Use::Defined),
-    (62, 17, Use::Defined),
-    (62, 18, Use::Defined),
-    (62, 36, Use::Defined),
-    (62, 1024, Use::Any),
-    (3, 5, Use::Copy),
-    (3, 7, Use::Defined),
-    (3, 14, Use::Defined),
-    (3, 16, Use::Any),
-    (3, 35, Use::Defined),
-    (3, 36, Use::Defined),
-    (3, 37, Use::Defined),
-    (3, 41, Use::Defined),
-    (183, 5, Use::Any),
-    (183, 1024, Use::Copy),
-    (183, 1025, Use::Any),
-    (183, 1026, Use::Defined),
-    (183, 1027, Use::Any),
-    (183, 1028, Use::Defined),
-    (183, 1029, Use::Defined),
-    (183, 1030, Use::Defined),
-    (183, 1031, Use::Defined),
-    (40, 5, Use::Any),
-    (0, 7, Use::Any),
-];
+const USES: &[(u16, u32, Use)] = rows! {
+    62, 5, Use::Copy; 62, 6, Use::Any; 62, 7, Use::Defined; 62, 8, Use::Any; 62, 16, Use::Defined;
+    62, 17, Use::Defined; 62, 18, Use::Defined; 62, 36, Use::Defined; 62, 1024, Use::Any;
+    3, 5, Use::Copy; 3, 7, Use::Defined; 3, 14, Use::Defined; 3, 16, Use::Any; 3, 35, Use::Defined;
+    3, 36, Use::Defined; 3, 37, Use::Defined; 3, 41, Use::Defined; 183, 5, Use::Any;
+    183, 1024, Use::Copy; 183, 1025, Use::Any; 183, 1026, Use::Defined; 183, 1027, Use::Any;
+    183, 1028, Use::Defined; 183, 1029, Use::Defined; 183, 1030, Use::Defined;
+    183, 1031, Use::Defined; 40, 5, Use::Any; 0, 7, Use::Any;
+};
 
 #[test]
 fn uses_are_by_machine_and_type(rt: HostRuntime) {

@@ -4,6 +4,7 @@
 
 use crate::tests::want::want;
 use std::process::Abort;
+use worked_files::rows;
 use xmas_elf::ElfError;
 use xmas_elf::bytes::Order;
 use xmas_elf::hash::HashTable;
@@ -40,15 +41,12 @@ fn check_texts(
 
 const REFUSED: Option<Result<&str, ElfError>> = Some(Err(ElfError::TextUtf8));
 
-const TEXTS: &[(&[u8], &[Option<Result<&str, ElfError>>])] = &[
-    (
-        b"ab\0cd",
-        &[Some(Ok("ab")), Some(Err(ElfError::TextEnd)), None, None],
-    ),
-    (b"a\0\xff\0b\0", &[Some(Ok("a")), REFUSED, None]),
-    (b"a\0b\0\0c\0", &[Some(Ok("a")), Some(Ok("b")), None, None]),
-    (b"a\0", &[Some(Ok("a")), None]),
-];
+const TEXTS: &[(&[u8], &[Option<Result<&str, ElfError>>])] = rows! {
+    b"ab\0cd", &[Some(Ok("ab")), Some(Err(ElfError::TextEnd)), None, None];
+    b"a\0\xff\0b\0", &[Some(Ok("a")), REFUSED, None];
+    b"a\0b\0\0c\0", &[Some(Ok("a")), Some(Ok("b")), None, None];
+    b"a\0", &[Some(Ok("a")), None];
+};
 
 #[test]
 fn lists_the_texts_of_a_string_table(rt: HostRuntime) {

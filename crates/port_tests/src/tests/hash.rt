@@ -7,6 +7,7 @@ use crate::tests::want::{want, want_at};
 use elf_callers::own::Numbered;
 use std::test::Fail;
 use worked_files::files::{put_symbols, put_words, strtab_file};
+use worked_files::rows;
 use xmas_elf::ElfFile;
 use xmas_elf::bytes::{Order, Table};
 use xmas_elf::hash::{HashTable, hash};
@@ -14,14 +15,10 @@ use xmas_elf::symbol_table::{Entry, Entry32};
 
 const LITTLE: Order = Order::Little;
 
-const NAMES: &[(&str, u32)] = &[
-    ("", 0),
-    ("printf", 0x077905a6),
-    ("exit", 0x0006cf04),
-    ("syscall", 0x0b09985c),
-    ("flapenguin.me", 0x03987915),
-    ("ZZZZZW9p", 0),
-];
+const NAMES: &[(&str, u32)] = rows! {
+    "", 0; "printf", 0x077905a6; "exit", 0x0006cf04; "syscall", 0x0b09985c;
+    "flapenguin.me", 0x03987915; "ZZZZZW9p", 0;
+};
 
 #[test]
 fn hash_numbers_are_the_known_ones(rt: HostRuntime) {

@@ -9,6 +9,7 @@ use std::process::Abort;
 use std::string::ToString;
 use std::test::Fail;
 use worked_files::files::strtab_file;
+use worked_files::rows;
 use xmas_elf::ElfError;
 use xmas_elf::bytes::Order;
 use xmas_elf::header::{Class, Data, Machine, OsAbi, Type as FileType, Version};
@@ -17,29 +18,17 @@ use xmas_elf::report::ReportFault;
 use xmas_elf::sections::ShType;
 use xmas_elf::symbol_table::{Binding, Type as SymbolType, Visibility};
 
-const MESSAGES: &[(ElfError, &str)] = &[
-    (
-        ElfError::ShortPart1,
-        "File is shorter than the first ELF header part",
-    ),
-    (ElfError::NoMagic, "Did not find ELF magic number"),
-    (ElfError::TextUtf8, "Text is not valid UTF-8"),
-    (ElfError::Note32, "32-bit binaries not implemented"),
-    (ElfError::NoStrtab, "no .strtab section"),
-    (
-        ElfError::HeaderSize,
-        "header_size does not match size of header",
-    ),
-    (ElfError::ShLibUsed, "Shouldn't use ShLib"),
-    (
-        ElfError::BadAlign,
-        "Invalid combination of virtual_addr, offset, and align",
-    ),
-    (
-        ElfError::HashMissing,
-        "Symbol is missing from the hash table",
-    ),
-];
+const MESSAGES: &[(ElfError, &str)] = rows! {
+    ElfError::ShortPart1, "File is shorter than the first ELF header part";
+    ElfError::NoMagic, "Did not find ELF magic number";
+    ElfError::TextUtf8, "Text is not valid UTF-8";
+    ElfError::Note32, "32-bit binaries not implemented";
+    ElfError::NoStrtab, "no .strtab section";
+    ElfError::HeaderSize, "header_size does not match size of header";
+    ElfError::ShLibUsed, "Shouldn't use ShLib";
+    ElfError::BadAlign, "Invalid combination of virtual_addr, offset, and align";
+    ElfError::HashMissing, "Symbol is missing from the hash table";
+};
 
 #[test]
 fn each_error_has_its_message(rt: HostRuntime) -> Result<(), AllocError> {
@@ -87,12 +76,7 @@ fn options_change_no_name(rt: HostRuntime) -> Result<(), Fail> {
     check_name(&rt, alloc, &ShType::User(7), "User(7)")?;
     check_name(&rt, alloc, &Type::OsSpecific(8), "OsSpecific(8)")?;
     check_name(&rt, alloc, &Binding::Local, "Local")?;
-    check_name(&rt, alloc, &SymbolType::Func, "Func")
-}
-
-#[test]
-fn options_change_no_name_of_a_header(rt: HostRuntime) -> Result<(), Fail> {
-    let alloc = rt.alloc();
+    check_name(&rt, alloc, &SymbolType::Func, "Func")?;
     check_name(&rt, alloc, &Visibility::Hidden, "Hidden")?;
     check_name(&rt, alloc, &Class::SixtyFour, "SixtyFour")?;
     check_name(&rt, alloc, &Data::LittleEndian, "LittleEndian")?;

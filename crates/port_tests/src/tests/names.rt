@@ -6,6 +6,7 @@ use elf_callers::callers::names::name_by_bytes;
 use std::process::Abort;
 use worked_files::files::{dynstr_file, strtab_file};
 use worked_files::places::{header_32, put, section_32, set, symbol_32, symbol_64};
+use worked_files::rows;
 use xmas_elf::ElfError;
 use xmas_elf::bytes::{Order, Record, Table};
 use xmas_elf::symbol_table::{DynEntry32, Entry, Entry32, Entry64, SymbolTable};
@@ -41,16 +42,9 @@ fn names_of_sections_need_not_be_utf8(rt: HostRuntime) -> Result<(), ElfError> {
 }
 
 // Null, a type of the table, one without a meaning, that of `.relr.dyn`, and of each reserved range one.
-const TYPES: &[u64] = &[
-    0,
-    3,
-    12,
-    19,
-    0x5fff_ffff,
-    0x6fff_fff6,
-    0x7000_0000,
-    0xffff_ffff,
-];
+const TYPES: &[u64] = rows! {
+    0; 3; 12; 19; 0x5fff_ffff; 0x6fff_fff6; 0x7000_0000; 0xffff_ffff;
+};
 
 // `readelf -SW` shows these names for each type.
 #[test]
@@ -62,12 +56,8 @@ fn sections_of_any_type_have_names(rt: HostRuntime) -> Result<(), ElfError> {
         let file = open(&rt, &bytes);
         let (null, section) = (file.section_header(0)?, file.section_header(1)?);
         want_at(&rt, kind, file.section_name(&null), Ok(b"ab".as_slice()));
-        want_at(
-            &rt,
-            kind,
-            file.section_name(&section),
-            Ok(b".strtab".as_slice()),
-        );
+        let found = file.section_name(&section);
+        want_at(&rt, kind, found, Ok(b".strtab".as_slice()));
     }
     Ok(())
 }
@@ -96,12 +86,8 @@ fn sections_are_named_by_the_wide_index(rt: HostRuntime) -> Result<(), ElfError>
         set(&mut bytes, 92, section_32::NAME, name, LITTLE);
         let file = open(&rt, &bytes);
         let section = file.section_header(1)?;
-        want_at(
-            &rt,
-            (index, link, name),
-            file.section_name(&section),
-            wanted,
-        );
+        let found = file.section_name(&section);
+        want_at(&rt, (index, link, name), found, wanted);
     }
     Ok(())
 }
@@ -147,14 +133,6 @@ const STRINGS: &[(&[u8], Result<&str, ElfError>, Result<&str, ElfError>)] = &[
     (b"", Err(ElfError::TextStart), Err(ElfError::TextStart)),
 ];
 
-// The bytes of a name.
-fn bytes_of(name: Result<&str, ElfError>) -> Result<&[u8], ElfError> {
-    match name {
-        Ok(text) => Ok(text.as_bytes()),
-        Err(error) => Err(error),
-    }
-}
-
 // Wants this name of a symbol of a table, and its bytes.
 fn check_name<E: Entry + Record>(
     rt: &impl Abort,
@@ -163,7 +141,8 @@ fn check_name<E: Entry + Record>(
     name: Result<&str, ElfError>,
 ) {
     want_at(rt, index, symbols.name(index), Some(name));
-    want_at(rt, index, symbols.name_bytes(index), Some(bytes_of(name)));
+    let bytes = name.map(|text| text.as_bytes());
+    want_at(rt, index, symbols.name_bytes(index), Some(bytes));
 }
 
 // Wants the names of two symbols in each of these strings.

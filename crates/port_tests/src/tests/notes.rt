@@ -4,6 +4,7 @@ use crate::tests::want::{want, want_at};
 use elf_base::ElfError;
 use elf_base::bytes::{Order, Record};
 use elf_records::sections::NoteHeader;
+use worked_files::rows;
 
 const LITTLE: Order = Order::Little;
 
@@ -19,14 +20,11 @@ fn note(name_size: u8, desc_size: u8) -> NoteHeader {
 const BODY: &[u8] = b"A\0\xff\xff\x07";
 
 // The sizes of a note's name and description, the bytes behind its header, and its name.
-const NAMES: &[(u8, u8, &[u8], Result<&str, ElfError>)] = &[
-    (2, 1, BODY, Ok("A")),
-    (0, 0, b"\0", Err(ElfError::NoteName)),
-    (1, 0, b"\0", Ok("")),
-    (3, 0, BODY, Err(ElfError::NoteName)),
-    (1, 0, b"A", Err(ElfError::TextEnd)),
-    (3, 0, b"\xff\xff\0", Err(ElfError::TextUtf8)),
-];
+const NAMES: &[(u8, u8, &[u8], Result<&str, ElfError>)] = rows! {
+    2, 1, BODY, Ok("A"); 0, 0, b"\0", Err(ElfError::NoteName); 1, 0, b"\0", Ok("");
+    3, 0, BODY, Err(ElfError::NoteName); 1, 0, b"A", Err(ElfError::TextEnd);
+    3, 0, b"\xff\xff\0", Err(ElfError::TextUtf8);
+};
 
 #[test]
 fn reads_names_of_notes(rt: HostRuntime) {
@@ -37,14 +35,11 @@ fn reads_names_of_notes(rt: HostRuntime) {
 }
 
 // The same, and its description.
-const DESCRIPTIONS: &[(u8, u8, &[u8], Result<&[u8], ElfError>)] = &[
-    (2, 1, BODY, Ok(b"\x07")),
-    (2, 1, b"A\0\xff\xff", Err(ElfError::NoteDesc)),
-    (2, 0, b"A\0\xff\xff", Ok(b"")),
-    (4, 1, BODY, Ok(b"\x07")),
-    (0, 5, BODY, Ok(BODY)),
-    (5, 0, BODY, Err(ElfError::NoteDesc)),
-];
+const DESCRIPTIONS: &[(u8, u8, &[u8], Result<&[u8], ElfError>)] = rows! {
+    2, 1, BODY, Ok(b"\x07"); 2, 1, b"A\0\xff\xff", Err(ElfError::NoteDesc);
+    2, 0, b"A\0\xff\xff", Ok(b""); 4, 1, BODY, Ok(b"\x07"); 0, 5, BODY, Ok(BODY);
+    5, 0, BODY, Err(ElfError::NoteDesc);
+};
 
 #[test]
 fn reads_descriptions_of_notes(rt: HostRuntime) {

@@ -4,36 +4,21 @@ use crate::tests::want::want;
 use elf_base::ElfError;
 use elf_records::program::{self, Flags};
 use elf_records::sections::{ShType, ShType_};
+use worked_files::rows;
 
-const SECTION_TYPES: &[(u32, Result<ShType, ElfError>)] = &[
-    (0, Ok(ShType::Null)),
-    (1, Ok(ShType::ProgBits)),
-    (2, Ok(ShType::SymTab)),
-    (3, Ok(ShType::StrTab)),
-    (4, Ok(ShType::Rela)),
-    (5, Ok(ShType::Hash)),
-    (6, Ok(ShType::Dynamic)),
-    (7, Ok(ShType::Note)),
-    (8, Ok(ShType::NoBits)),
-    (9, Ok(ShType::Rel)),
-    (10, Ok(ShType::ShLib)),
-    (11, Ok(ShType::DynSym)),
-    (12, Err(ElfError::InvalidShType)),
-    (13, Err(ElfError::InvalidShType)),
-    (14, Ok(ShType::InitArray)),
-    (15, Ok(ShType::FiniArray)),
-    (16, Ok(ShType::PreInitArray)),
-    (17, Ok(ShType::Group)),
-    (18, Ok(ShType::SymTabShIndex)),
-    (19, Err(ElfError::InvalidShType)),
-    (0x5fff_ffff, Err(ElfError::InvalidShType)),
-    (0x6000_0000, Ok(ShType::OsSpecific(0x6000_0000))),
-    (0x6fff_ffff, Ok(ShType::OsSpecific(0x6fff_ffff))),
-    (0x7000_0000, Ok(ShType::ProcessorSpecific(0x7000_0000))),
-    (0x7fff_ffff, Ok(ShType::ProcessorSpecific(0x7fff_ffff))),
-    (0x8000_0000, Ok(ShType::User(0x8000_0000))),
-    (0xffff_ffff, Ok(ShType::User(0xffff_ffff))),
-];
+const SECTION_TYPES: &[(u32, Result<ShType, ElfError>)] = rows! {
+    0, Ok(ShType::Null); 1, Ok(ShType::ProgBits); 2, Ok(ShType::SymTab); 3, Ok(ShType::StrTab);
+    4, Ok(ShType::Rela); 5, Ok(ShType::Hash); 6, Ok(ShType::Dynamic); 7, Ok(ShType::Note);
+    8, Ok(ShType::NoBits); 9, Ok(ShType::Rel); 10, Ok(ShType::ShLib); 11, Ok(ShType::DynSym);
+    12, Err(ElfError::InvalidShType); 13, Err(ElfError::InvalidShType); 14, Ok(ShType::InitArray);
+    15, Ok(ShType::FiniArray); 16, Ok(ShType::PreInitArray); 17, Ok(ShType::Group);
+    18, Ok(ShType::SymTabShIndex); 19, Err(ElfError::InvalidShType);
+    0x5fff_ffff, Err(ElfError::InvalidShType); 0x6000_0000, Ok(ShType::OsSpecific(0x6000_0000));
+    0x6fff_ffff, Ok(ShType::OsSpecific(0x6fff_ffff));
+    0x7000_0000, Ok(ShType::ProcessorSpecific(0x7000_0000));
+    0x7fff_ffff, Ok(ShType::ProcessorSpecific(0x7fff_ffff));
+    0x8000_0000, Ok(ShType::User(0x8000_0000)); 0xffff_ffff, Ok(ShType::User(0xffff_ffff));
+};
 
 #[test]
 fn names_the_types_of_sections(rt: HostRuntime) {
@@ -43,33 +28,27 @@ fn names_the_types_of_sections(rt: HostRuntime) {
     }
 }
 
-const SEGMENT_TYPES: &[(u32, Result<program::Type, ElfError>)] = &[
-    (0, Ok(program::Type::Null)),
-    (1, Ok(program::Type::Load)),
-    (2, Ok(program::Type::Dynamic)),
-    (3, Ok(program::Type::Interp)),
-    (4, Ok(program::Type::Note)),
-    (5, Ok(program::Type::ShLib)),
-    (6, Ok(program::Type::Phdr)),
-    (7, Ok(program::Type::Tls)),
-    (8, Err(ElfError::InvalidPhType)),
-    (0x5fff_ffff, Err(ElfError::InvalidPhType)),
-    (0x6000_0000, Ok(program::Type::OsSpecific(0x6000_0000))),
-    (0x6474_e551, Ok(program::Type::OsSpecific(0x6474_e551))),
-    (0x6474_e552, Ok(program::Type::GnuRelro)),
-    (0x6474_e553, Ok(program::Type::OsSpecific(0x6474_e553))),
-    (0x6fff_ffff, Ok(program::Type::OsSpecific(0x6fff_ffff))),
-    (
-        0x7000_0000,
-        Ok(program::Type::ProcessorSpecific(0x7000_0000)),
-    ),
-    (
-        0x7fff_ffff,
-        Ok(program::Type::ProcessorSpecific(0x7fff_ffff)),
-    ),
-    (0x8000_0000, Err(ElfError::InvalidPhType)),
-    (0xffff_ffff, Err(ElfError::InvalidPhType)),
-];
+const SEGMENT_TYPES: &[(u32, Result<program::Type, ElfError>)] = rows! {
+    0, Ok(program::Type::Null);
+    1, Ok(program::Type::Load);
+    2, Ok(program::Type::Dynamic);
+    3, Ok(program::Type::Interp);
+    4, Ok(program::Type::Note);
+    5, Ok(program::Type::ShLib);
+    6, Ok(program::Type::Phdr);
+    7, Ok(program::Type::Tls);
+    8, Err(ElfError::InvalidPhType);
+    0x5fff_ffff, Err(ElfError::InvalidPhType);
+    0x6000_0000, Ok(program::Type::OsSpecific(0x6000_0000));
+    0x6474_e551, Ok(program::Type::OsSpecific(0x6474_e551));
+    0x6474_e552, Ok(program::Type::GnuRelro);
+    0x6474_e553, Ok(program::Type::OsSpecific(0x6474_e553));
+    0x6fff_ffff, Ok(program::Type::OsSpecific(0x6fff_ffff));
+    0x7000_0000, Ok(program::Type::ProcessorSpecific(0x7000_0000));
+    0x7fff_ffff, Ok(program::Type::ProcessorSpecific(0x7fff_ffff));
+    0x8000_0000, Err(ElfError::InvalidPhType);
+    0xffff_ffff, Err(ElfError::InvalidPhType);
+};
 
 #[test]
 fn names_the_types_of_segments(rt: HostRuntime) {

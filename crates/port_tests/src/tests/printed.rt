@@ -43,7 +43,7 @@ fn check_parts<T: Debug>(
 }
 
 #[test]
-fn numbers_of_headers_print_their_number(rt: HostRuntime) {
+fn numbers_print_their_number(rt: HostRuntime) {
     let alloc = rt.alloc();
     check(&rt, alloc, &header::Class_::from_raw(2), "Class_(2)");
     check(&rt, alloc, &header::Data_::from_raw(1), "Data_(1)");
@@ -52,11 +52,6 @@ fn numbers_of_headers_print_their_number(rt: HostRuntime) {
     check(&rt, alloc, &header::Type_(3), "Type_(3)");
     check(&rt, alloc, &header::Machine_::from_raw(62), "Machine_(62)");
     check(&rt, alloc, &ShType_::from_raw(3), "ShType_(3)");
-}
-
-#[test]
-fn numbers_of_records_print_their_number(rt: HostRuntime) {
-    let alloc = rt.alloc();
     check(&rt, alloc, &program::Type_::from_raw(1), "Type_(1)");
     check(&rt, alloc, &program::Flags(5), "Flags(5)");
     check(&rt, alloc, &Visibility_::from_raw(2), "Visibility_(2)");
@@ -67,7 +62,7 @@ fn numbers_of_records_print_their_number(rt: HostRuntime) {
 }
 
 #[test]
-fn meanings_of_headers_print_their_name(rt: HostRuntime) {
+fn meanings_print_their_name(rt: HostRuntime) {
     let alloc = rt.alloc();
     check(&rt, alloc, &header::Class::Other(9), "Other(9)");
     check(&rt, alloc, &header::Data::BigEndian, "BigEndian");
@@ -77,11 +72,6 @@ fn meanings_of_headers_print_their_name(rt: HostRuntime) {
     check(&rt, alloc, &header::Machine::RISC_V, "RISC_V");
     let kind = ShType::OsSpecific(0x6000_0000);
     check(&rt, alloc, &kind, "OsSpecific(1610612736)");
-}
-
-#[test]
-fn meanings_of_records_print_their_name(rt: HostRuntime) {
-    let alloc = rt.alloc();
     check(&rt, alloc, &program::Type::GnuRelro, "GnuRelro");
     check(&rt, alloc, &Visibility::Hidden, "Hidden");
     check(&rt, alloc, &Binding::Weak, "Weak");
@@ -245,12 +235,8 @@ fn words_print_their_bytes(rt: HostRuntime) -> Result<(), Fail> {
     let alloc = rt.alloc();
     let words = Table::<u32>::new(&WORDS[..4], LITTLE)?;
     check(&rt, alloc, &words, TABLE);
-    check_parts(
-        &rt,
-        alloc,
-        &words.iter(),
-        &["TableIter { rest: ", TABLE, " }"],
-    )?;
+    let parts = ["TableIter { rest: ", TABLE, " }"];
+    check_parts(&rt, alloc, &words.iter(), &parts)?;
     let array = SectionData::FnArray32(words);
     check_parts(&rt, alloc, &array, &["FnArray32(", TABLE, ")"])?;
     Ok(())

@@ -13,20 +13,11 @@ fn reads_narrow_relocations(rt: HostRuntime) {
     let narrow = Rel::<P32>::decode(&bytes, LITTLE);
     let numbers = [narrow.get_offset(), narrow.get_symbol_table_index()];
     want(&rt, (numbers, narrow.get_type()), ([0x10, 3], 7));
-    let bytes: [u8; 12] = [
-        0, 0, 0, 0x10, 0xff, 0xff, 0xff, 0x07, 0xff, 0xff, 0xff, 0xfc,
-    ];
-    let narrow = Rela::<P32>::decode(&bytes, Order::Big);
-    let numbers = [
-        narrow.get_offset(),
-        narrow.get_symbol_table_index(),
-        narrow.get_addend(),
-    ];
-    want(
-        &rt,
-        (numbers, narrow.get_type()),
-        ([0x10, 0x00ff_ffff, 0xffff_fffc], 7),
-    );
+    let bytes = b"\0\0\0\x10\xff\xff\xff\x07\xff\xff\xff\xfc";
+    let narrow = Rela::<P32>::decode(bytes, Order::Big);
+    let numbers = [narrow.get_offset(), narrow.get_symbol_table_index()];
+    let found = (numbers, narrow.get_addend(), narrow.get_type());
+    want(&rt, found, ([0x10, 0x00ff_ffff], 0xffff_fffc, 7));
 }
 
 #[test]
@@ -36,16 +27,10 @@ fn reads_wide_relocations(rt: HostRuntime) {
     let kind = (wide.get_symbol_table_index(), wide.get_type());
     want(&rt, wide.get_offset(), 0x0807_0605_0403_0201);
     want(&rt, kind, (0xff00_0003, 0x8000_0007));
-    let bytes: [u8; 24] = [
-        0x10, 0, 0, 0, 0, 0, 0, 0, 7, 0, 0, 0, 3, 0, 0, 0, 0xfc, 0xff, 0xff, 0xff, 0xff, 0xff,
-        0xff, 0xff,
-    ];
-    let wide = Rela::<P64>::decode(&bytes, LITTLE);
+    let bytes = b"\x10\0\0\0\0\0\0\0\x07\0\0\0\x03\0\0\0\xfc\xff\xff\xff\xff\xff\xff\xff";
+    let wide = Rela::<P64>::decode(bytes, LITTLE);
     let kind = (wide.get_symbol_table_index(), wide.get_type());
-    want(
-        &rt,
-        [wide.get_offset(), wide.get_addend()],
-        [0x10, u64::MAX - 3],
-    );
+    let found = [wide.get_offset(), wide.get_addend()];
+    want(&rt, found, [0x10, u64::MAX - 3]);
     want(&rt, kind, (3, 7));
 }

@@ -47,11 +47,8 @@ fn prints_a_section_header(rt: HostRuntime) -> Result<(), Fail> {
     set(&mut record, 0, section_64::TYPE, 12, LITTLE);
     set(&mut record, 0, section_64::FLAGS, u64::MAX, LITTLE);
     let section = SectionHeader::Sh64(SectionHeader_::<P64>::decode(&record, LITTLE));
-    want(
-        &rt,
-        section.to_string(rt.alloc())?.as_str(),
-        PRINTED_REFUSED,
-    );
+    let found = section.to_string(rt.alloc())?;
+    want(&rt, found.as_str(), PRINTED_REFUSED);
     Ok(())
 }
 
@@ -84,7 +81,6 @@ fn stored_ranges_are_by_type_and_place(rt: HostRuntime) {
 fn callers_count_what_they_ask_for(rt: HostRuntime) {
     let bytes = debug_link_file();
     let file = open(&rt, &bytes);
-    want(&rt, callers::readable_sections(&file), 4);
     want(&rt, callers::counted_sections(&file), 4);
     want(&rt, file.program_iter().count(), 0);
     let refused = file.program_header(0).err();

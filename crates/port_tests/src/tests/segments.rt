@@ -90,18 +90,12 @@ impl fmt::Display for Upper {
 #[test]
 fn prints_flags_as_numbers(rt: HostRuntime) -> Result<(), AllocError> {
     let alloc = rt.alloc();
-    want(&rt, Lower(Flags(5)).to_string(alloc)?.as_str(), "0x5");
-    want(&rt, Upper(Flags(5)).to_string(alloc)?.as_str(), "0x5");
-    want(
-        &rt,
-        Lower(Flags(0xf0ab)).to_string(alloc)?.as_str(),
-        "0xf0ab",
-    );
-    want(
-        &rt,
-        Upper(Flags(0xf0ab)).to_string(alloc)?.as_str(),
-        "0xF0AB",
-    );
+    for (number, lower, upper) in [(5, "0x5", "0x5"), (0xf0ab, "0xf0ab", "0xF0AB")] {
+        let found = Lower(Flags(number)).to_string(alloc)?;
+        want(&rt, found.as_str(), lower);
+        let found = Upper(Flags(number)).to_string(alloc)?;
+        want(&rt, found.as_str(), upper);
+    }
     Ok(())
 }
 

@@ -2,8 +2,9 @@
 
 use crate::tests::want::{open, want, want_at};
 use std::process::Abort;
-use worked_files::files::{put_header_64, put_section_64};
-use worked_files::places::{header_64, program_64, section_64, set, symbol_64};
+use worked_files::files::{put_header_64, put_section_64, put_symbol};
+use worked_files::places::{header_64, program_64, section_64, set};
+use worked_files::rows;
 use xmas_elf::ElfError;
 use xmas_elf::bytes::{Order, Table};
 use xmas_elf::symbol_table::{Entry64, SymbolTable};
@@ -40,45 +41,28 @@ type Row = (u64, u64, u64, u64);
 type Found = Result<Option<(usize, usize)>, ElfError>;
 
 // In a shared object: a value is an address, or an offset in the template.
-const LINKED: &[(Row, Found)] = &[
-    ((1, 2, 0x1000, 32), Ok(Some((496, 32)))),
-    ((1, 2, 0x1010, 8), Ok(Some((512, 8)))),
-    ((1, 0, 0x1020, 0), Ok(Some((528, 0)))),
-    ((1, 1, 0x1020, 1), Ok(None)),
-    ((1, 1, 0xfff, 1), Ok(None)),
-    ((1, 1, 0x1000, u64::MAX), Ok(None)),
-    ((2, 1, 0x2000, 4), Ok(None)),
-    ((0, 1, 0x1000, 4), Ok(None)),
-    ((0xfff1, 1, 0x1000, 4), Ok(None)),
-    ((0xfff2, 1, 0x1000, 4), Ok(None)),
-    ((3, 6, 8, 4), Ok(Some((528, 4)))),
-    ((3, 6, 0x14, 4), Ok(Some((540, 4)))),
-    ((3, 6, 0x15, 4), Ok(None)),
-    ((3, 6, 7, 4), Ok(None)),
-    ((3, 6, u64::MAX, 1), Ok(None)),
-    ((3, 1, 0x300c, 4), Ok(Some((532, 4)))),
-    ((4, 1, 0, 0), Err(ElfError::DataRange)),
-    ((8, 1, 0, 0), Err(ElfError::ShortSectionHeader)),
-    ((0xff00, 1, 0, 0), Err(ElfError::ReservedIndex)),
-    ((0xffff, 1, 0, 0), Err(ElfError::NoShIndex)),
-];
+const LINKED: &[(Row, Found)] = rows! {
+    (1, 2, 0x1000, 32), Ok(Some((496, 32))); (1, 2, 0x1010, 8), Ok(Some((512, 8)));
+    (1, 0, 0x1020, 0), Ok(Some((528, 0))); (1, 1, 0x1020, 1), Ok(None); (1, 1, 0xfff, 1), Ok(None);
+    (1, 1, 0x1000, u64::MAX), Ok(None); (2, 1, 0x2000, 4), Ok(None); (0, 1, 0x1000, 4), Ok(None);
+    (0xfff1, 1, 0x1000, 4), Ok(None); (0xfff2, 1, 0x1000, 4), Ok(None);
+    (3, 6, 8, 4), Ok(Some((528, 4))); (3, 6, 0x14, 4), Ok(Some((540, 4)));
+    (3, 6, 0x15, 4), Ok(None); (3, 6, 7, 4), Ok(None); (3, 6, u64::MAX, 1), Ok(None);
+    (3, 1, 0x300c, 4), Ok(Some((532, 4))); (4, 1, 0, 0), Err(ElfError::DataRange);
+    (8, 1, 0, 0), Err(ElfError::ShortSectionHeader);
+    (0xff00, 1, 0, 0), Err(ElfError::ReservedIndex); (0xffff, 1, 0, 0), Err(ElfError::NoShIndex);
+};
 
 // In an object file: a value is an offset in the section.
-const OBJECT: &[(Row, Found)] = &[
-    ((1, 2, 0, 32), Ok(Some((496, 32)))),
-    ((1, 2, 0x10, 8), Ok(Some((512, 8)))),
-    ((1, 2, 0x1000, 1), Ok(None)),
-    ((1, 2, u64::MAX, u64::MAX), Ok(None)),
-    ((3, 6, 4, 4), Ok(Some((532, 4)))),
-    ((2, 6, 4, 4), Ok(None)),
-];
+const OBJECT: &[(Row, Found)] = rows! {
+    (1, 2, 0, 32), Ok(Some((496, 32))); (1, 2, 0x10, 8), Ok(Some((512, 8)));
+    (1, 2, 0x1000, 1), Ok(None); (1, 2, u64::MAX, u64::MAX), Ok(None);
+    (3, 6, 4, 4), Ok(Some((532, 4))); (2, 6, 4, 4), Ok(None);
+};
 
 fn symbol_bytes(row: Row) -> [u8; 24] {
     let mut bytes = [0; 24];
-    set(&mut bytes, 0, symbol_64::SHNDX, row.0, LITTLE);
-    set(&mut bytes, 0, symbol_64::INFO, row.1, LITTLE);
-    set(&mut bytes, 0, symbol_64::VALUE, row.2, LITTLE);
-    set(&mut bytes, 0, symbol_64::SIZE, row.3, LITTLE);
+    put_symbol(&mut bytes, 2, 0, [0, row.1, row.0, row.2, row.3], LITTLE);
     bytes
 }
 

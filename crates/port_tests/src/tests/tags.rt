@@ -5,119 +5,78 @@ use elf_base::bytes::{Order, Record};
 use elf_base::{ElfError, P32, P64};
 use elf_records::dynamic::{Dynamic, Tag, Tag_};
 use std::process::Abort;
+use worked_files::places::put;
+use worked_files::rows;
 
 const LITTLE: Order = Order::Little;
 
 // A 32-bit entry with this tag, and the number 8.
 fn narrow_entry(tag: u32) -> Dynamic<P32> {
-    let mut bytes = [0u8; 8];
-    bytes[0] = (tag % 256) as u8;
-    bytes[1] = (tag / 256 % 256) as u8;
-    bytes[2] = (tag / 65536 % 256) as u8;
-    bytes[3] = (tag / 16777216 % 256) as u8;
+    let mut bytes = [0; 8];
+    put(&mut bytes, 0, &tag.to_le_bytes());
     bytes[4] = 8;
     Dynamic::<P32>::decode(&bytes, LITTLE)
 }
 
 // A 64-bit entry with this tag, and the number 2 to the 63.
 fn wide_entry(tag: u32) -> Dynamic<P64> {
-    let mut bytes = [0u8; 16];
-    bytes[7] = (tag % 256) as u8;
-    bytes[6] = (tag / 256 % 256) as u8;
-    bytes[5] = (tag / 65536 % 256) as u8;
-    bytes[4] = (tag / 16777216 % 256) as u8;
+    let mut bytes = [0; 16];
+    put(&mut bytes, 4, &tag.to_be_bytes());
     bytes[8] = 0x80;
     Dynamic::<P64>::decode(&bytes, Order::Big)
 }
 
 // What an entry has as its value and as its pointer, where it has them.
-fn numbers<P>(number: P, has_value: bool, has_pointer: bool) -> [Result<P, ElfError>; 2]
-where
-    P: Copy,
-{
-    let value = if has_value {
-        Ok(number)
-    } else {
-        Err(ElfError::InvalidValue)
-    };
-    let pointer = if has_pointer {
-        Ok(number)
-    } else {
-        Err(ElfError::InvalidPtr)
-    };
-    [value, pointer]
+fn numbers<P: Copy>(number: P, has_value: bool, has_pointer: bool) -> [Result<P, ElfError>; 2] {
+    let value = if has_value { Some(number) } else { None };
+    let pointer = if has_pointer { Some(number) } else { None };
+    [
+        value.ok_or(ElfError::InvalidValue),
+        pointer.ok_or(ElfError::InvalidPtr),
+    ]
 }
 
 // Wants of a 32-bit entry with this tag its name, and whether it has a value and a pointer.
 fn check_narrow(rt: &impl Abort, number: u32, name: &Tag<P32>, has_value: bool, has_pointer: bool) {
     let entry = narrow_entry(number);
-    want_at(
-        rt,
-        number,
-        entry.get_tag().ok().as_ref() == Some(name),
-        true,
-    );
+    let found = entry.get_tag().ok().as_ref() == Some(name);
+    want_at(rt, number, found, true);
     let found = [entry.get_val(), entry.get_ptr()];
     want_at(rt, number, found, numbers(8, has_value, has_pointer));
     let raw = [entry.raw_tag(), entry.raw_val()];
     want_at(rt, number, raw, [u64::from(number), 8]);
 }
 
-const TAGS: &[(u32, Tag<P32>, bool, bool)] = &[
-    (0, Tag::Null, false, false),
-    (1, Tag::Needed, true, false),
-    (2, Tag::PltRelSize, true, false),
-    (3, Tag::Pltgot, false, true),
-    (4, Tag::Hash, false, true),
-    (5, Tag::StrTab, false, true),
-    (6, Tag::SymTab, false, true),
-    (7, Tag::Rela, false, true),
-    (8, Tag::RelaSize, true, false),
-    (9, Tag::RelaEnt, true, false),
-    (10, Tag::StrSize, true, false),
-    (11, Tag::SymEnt, true, false),
-    (12, Tag::Init, false, true),
-    (13, Tag::Fini, false, true),
-    (14, Tag::SoName, true, false),
-    (15, Tag::RPath, true, false),
-    (16, Tag::Symbolic, false, false),
-];
+// The tags whose number is a value, those whose number is a pointer, and those without a number
+// (gABI, "Dynamic Section").
+const VALUES: &[(u32, Tag<P32>)] = rows! {
+    1, Tag::Needed; 2, Tag::PltRelSize; 8, Tag::RelaSize; 9, Tag::RelaEnt; 10, Tag::StrSize;
+    11, Tag::SymEnt; 14, Tag::SoName; 15, Tag::RPath; 18, Tag::RelSize; 19, Tag::RelEnt;
+    20, Tag::PltRel; 27, Tag::InitArraySize; 28, Tag::FiniArraySize; 29, Tag::RunPath;
+    30, Tag::Flags; 33, Tag::PreInitArraySize; 35, Tag::RelrSize; 37, Tag::RelrEnt;
+    0x6fff_fffb, Tag::Flags1;
+};
+
+const POINTERS: &[(u32, Tag<P32>)] = rows! {
+    3, Tag::Pltgot; 4, Tag::Hash; 5, Tag::StrTab; 6, Tag::SymTab; 7, Tag::Rela; 12, Tag::Init;
+    13, Tag::Fini; 17, Tag::Rel; 21, Tag::Debug; 23, Tag::JmpRel; 25, Tag::InitArray;
+    26, Tag::FiniArray; 32, Tag::PreInitArray; 34, Tag::SymTabShIndex; 36, Tag::Relr;
+};
+
+const NEITHER: &[(u32, Tag<P32>)] = rows! {
+    0, Tag::Null; 16, Tag::Symbolic; 22, Tag::TextRel; 24, Tag::BindNow;
+};
 
 #[test]
-fn names_the_tags_up_to_16(rt: HostRuntime) {
-    for (number, name, has_value, has_pointer) in TAGS {
-        check_narrow(&rt, *number, name, *has_value, *has_pointer);
+fn names_the_tags(rt: HostRuntime) {
+    for (number, name) in VALUES {
+        check_narrow(&rt, *number, name, true, false);
     }
-}
-
-const LATER_TAGS: &[(u32, Tag<P32>, bool, bool)] = &[
-    (17, Tag::Rel, false, true),
-    (18, Tag::RelSize, true, false),
-    (19, Tag::RelEnt, true, false),
-    (20, Tag::PltRel, true, false),
-    (21, Tag::Debug, false, true),
-    (22, Tag::TextRel, false, false),
-    (23, Tag::JmpRel, false, true),
-    (24, Tag::BindNow, false, false),
-    (25, Tag::InitArray, false, true),
-    (26, Tag::FiniArray, false, true),
-    (27, Tag::InitArraySize, true, false),
-    (28, Tag::FiniArraySize, true, false),
-    (29, Tag::RunPath, true, false),
-    (30, Tag::Flags, true, false),
-    (32, Tag::PreInitArray, false, true),
-    (33, Tag::PreInitArraySize, true, false),
-    (34, Tag::SymTabShIndex, false, true),
-    (35, Tag::RelrSize, true, false),
-    (36, Tag::Relr, false, true),
-    (37, Tag::RelrEnt, true, false),
-    (0x6fff_fffb, Tag::Flags1, true, false),
-];
-
-#[test]
-fn names_the_tags_from_17_on(rt: HostRuntime) {
-    for (number, name, has_value, has_pointer) in LATER_TAGS {
-        check_narrow(&rt, *number, name, *has_value, *has_pointer);
+    for (number, name) in POINTERS {
+        check_narrow(&rt, *number, name, false, true);
+    }
+    for (number, name) in NEITHER {
+        check_narrow(&rt, *number, name, false, false);
     }
 }
 
@@ -146,27 +105,16 @@ const WIDE_TAGS: &[(u32, Tag<P64>, bool, bool)] = &[
 fn names_the_tags_of_class_64(rt: HostRuntime) {
     for (number, name, has_value, has_pointer) in WIDE_TAGS {
         let entry = wide_entry(*number);
-        want_at(
-            &rt,
-            number,
-            entry.get_tag().ok().as_ref() == Some(name),
-            true,
-        );
+        let found = entry.get_tag().ok().as_ref() == Some(name);
+        want_at(&rt, number, found, true);
         let found = [entry.get_val(), entry.get_ptr()];
-        want_at(
-            &rt,
-            number,
-            found,
-            numbers(1 << 63, *has_value, *has_pointer),
-        );
+        let wanted = numbers(1 << 63, *has_value, *has_pointer);
+        want_at(&rt, number, found, wanted);
         let raw = [entry.raw_tag(), entry.raw_val()];
         want_at(&rt, number, raw, [u64::from(*number), 1 << 63]);
     }
-    want(
-        &rt,
-        Tag_::<P64>::from_raw(0x1_0000_0001).as_tag().is_err(),
-        true,
-    );
+    let found = Tag_::<P64>::from_raw(0x1_0000_0001).as_tag().is_err();
+    want(&rt, found, true);
 }
 
 #[test]
@@ -186,54 +134,24 @@ fn refuses_other_tags(rt: HostRuntime) {
 
 // The bytes of an entry of class 32, their order, and its two numbers: a tag that is known, one of
 // the processor, one that is unknown, and two with the highest bit set.
-const NARROW_NUMBERS: &[([u8; 8], Order, [u32; 2])] = &[
-    ([5, 0, 0, 0, 8, 7, 6, 5], Order::Little, [5, 0x0506_0708]),
-    (
-        [0x70, 0, 0, 1, 8, 7, 6, 5],
-        Order::Big,
-        [0x7000_0001, 0x0807_0605],
-    ),
-    ([0, 0, 0, 31, 0, 0, 0, 1], Order::Big, [31, 1]),
-    (
-        [1, 0, 0, 0x80, 2, 0, 0, 0x90],
-        Order::Little,
-        [0x8000_0001, 0x9000_0002],
-    ),
-    (
-        [0xff, 0xff, 0xff, 0xfe, 0xff, 0xff, 0xff, 0xfd],
-        Order::Big,
-        [0xffff_fffe, 0xffff_fffd],
-    ),
-];
+const NARROW_NUMBERS: &[([u8; 8], Order, [u32; 2])] = rows! {
+    [5, 0, 0, 0, 8, 7, 6, 5], Order::Little, [5, 0x0506_0708];
+    [0x70, 0, 0, 1, 8, 7, 6, 5], Order::Big, [0x7000_0001, 0x0807_0605];
+    [0, 0, 0, 31, 0, 0, 0, 1], Order::Big, [31, 1];
+    [1, 0, 0, 0x80, 2, 0, 0, 0x90], Order::Little, [0x8000_0001, 0x9000_0002];
+    [0xff, 0xff, 0xff, 0xfe, 0xff, 0xff, 0xff, 0xfd], Order::Big, [0xffff_fffe, 0xffff_fffd];
+};
 
 // The same of class 64, with tags that are known only without their high half.
-const WIDE_NUMBERS: &[([u8; 16], Order, [u64; 2])] = &[
-    (
-        [5, 0, 0, 0, 0, 0, 0, 0, 8, 7, 6, 5, 4, 3, 2, 1],
-        Order::Little,
-        [5, 0x0102_0304_0506_0708],
-    ),
-    (
-        [0, 0, 0, 0, 0x70, 0, 0, 1, 8, 7, 6, 5, 4, 3, 2, 1],
-        Order::Big,
-        [0x7000_0001, 0x0807_0605_0403_0201],
-    ),
-    (
-        [0, 0, 0, 0, 0x80, 0, 0, 1, 0, 0, 0, 0, 0x90, 0, 0, 2],
-        Order::Big,
-        [0x8000_0001, 0x9000_0002],
-    ),
-    (
-        [5, 0, 0, 0, 1, 0, 0, 0, 7, 0, 0, 0, 2, 0, 0, 0],
-        Order::Little,
-        [0x1_0000_0005, 0x2_0000_0007],
-    ),
-    (
-        [0x80, 0, 0, 0, 0, 0, 0, 5, 0xff, 0, 0, 0, 0, 0, 0, 7],
-        Order::Big,
-        [0x8000_0000_0000_0005, 0xff00_0000_0000_0007],
-    ),
-];
+const WIDE_NUMBERS: &[([u8; 16], Order, [u64; 2])] = rows! {
+    [5, 0, 0, 0, 0, 0, 0, 0, 8, 7, 6, 5, 4, 3, 2, 1], Order::Little, [5, 0x0102_0304_0506_0708];
+    [0, 0, 0, 0, 0x70, 0, 0, 1, 8, 7, 6, 5, 4, 3, 2, 1], Order::Big, [0x7000_0001,
+        0x0807_0605_0403_0201];
+    [0, 0, 0, 0, 0x80, 0, 0, 1, 0, 0, 0, 0, 0x90, 0, 0, 2], Order::Big, [0x8000_0001, 0x9000_0002];
+    [5, 0, 0, 0, 1, 0, 0, 0, 7, 0, 0, 0, 2, 0, 0, 0], Order::Little, [0x1_0000_0005, 0x2_0000_0007];
+    [0x80, 0, 0, 0, 0, 0, 0, 5, 0xff, 0, 0, 0, 0, 0, 0, 7], Order::Big, [0x8000_0000_0000_0005,
+        0xff00_0000_0000_0007];
+};
 
 // Each keeps its tag and its value.
 #[test]

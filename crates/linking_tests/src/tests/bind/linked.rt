@@ -3,8 +3,6 @@
 //! prints the same bindings under `LD_DEBUG=bindings LD_BIND_NOW=1`, in either order of the
 //! libraries.
 
-mod changed;
-
 use crate::tests::bind::Answer;
 use crate::tests::bind::files::{
     NARROW_CALLER, NARROW_FIRST, NARROW_SECOND, WIDE_CALLER, WIDE_FIRST, WIDE_SECOND,
@@ -18,138 +16,55 @@ use elf_linking::{DynamicObject, LinkError};
 use linking_callers::callers::second_file::is_of_second_file;
 use std::process::Abort;
 use worked_files::places::put;
+use worked_files::rows;
 use xmas_elf::symbol_table::{DynEntry32, DynEntry64};
 
 // The offset, the type, the index of the symbol and the addend of each reference.
 type Listed = (u64, u32, u32, u64);
 
-const NARROW_REFERENCES: [&[Listed]; 3] = [
-    &[
-        (0x80493e8, 5, 7, 0),
-        (0x80493d8, 7, 1, 0),
-        (0x80493dc, 7, 5, 0),
-        (0x80493e0, 7, 2, 0),
-        (0x80493e4, 7, 3, 0),
-    ],
-    &[
-        (0x1484, 35, 6, 0),
-        (0x1488, 36, 6, 0),
-        (0x148c, 6, 12, 0),
-        (0x14ac, 1, 2, 0),
-        (0x14b4, 1, 10, 0),
-        (0x149c, 7, 10, 0),
-        (0x14a0, 7, 5, 0),
-    ],
-    &[
-        (0x141c, 6, 4, 0),
-        (0x1420, 14, 9, 0),
-        (0x1424, 6, 10, 0),
-        (0x1450, 1, 12, 0),
-        (0x1454, 1, 8, 0),
-        (0x1458, 1, 8, 0),
-        (0x1434, 7, 3, 0),
-        (0x1438, 7, 12, 0),
-        (0x1444, 41, 7, 0),
-    ],
-];
+const NARROW_REFERENCES: &[&[Listed]; 3] = rows! {
+    &[(0x80493e8, 5, 7, 0), (0x80493d8, 7, 1, 0), (0x80493dc, 7, 5, 0), (0x80493e0, 7, 2, 0),
+        (0x80493e4, 7, 3, 0)];
+    &[(0x1484, 35, 6, 0), (0x1488, 36, 6, 0), (0x148c, 6, 12, 0), (0x14ac, 1, 2, 0),
+        (0x14b4, 1, 10, 0), (0x149c, 7, 10, 0), (0x14a0, 7, 5, 0)];
+    &[(0x141c, 6, 4, 0), (0x1420, 14, 9, 0), (0x1424, 6, 10, 0), (0x1450, 1, 12, 0),
+        (0x1454, 1, 8, 0), (0x1458, 1, 8, 0), (0x1434, 7, 3, 0), (0x1438, 7, 12, 0),
+        (0x1444, 41, 7, 0)];
+};
 
-const WIDE_REFERENCES: [&[Listed]; 3] = [
-    &[
-        (0x401608, 5, 7, 0),
-        (0x4015e8, 7, 1, 0),
-        (0x4015f0, 7, 5, 0),
-        (0x4015f8, 7, 2, 0),
-        (0x401600, 7, 3, 0),
-    ],
-    &[
-        (0x1690, 16, 6, 0),
-        (0x1698, 17, 6, 0),
-        (0x16a0, 6, 12, 0),
-        (0x16e0, 1, 2, 0),
-        (0x16f0, 1, 10, 0),
-        (0x16c0, 7, 10, 0),
-        (0x16c8, 7, 5, 0),
-    ],
-    &[
-        (0x1668, 6, 4, 0),
-        (0x1670, 18, 9, 0),
-        (0x1678, 6, 10, 0),
-        (0x16e0, 1, 12, 0),
-        (0x16f0, 1, 8, 4),
-        (0x16f8, 1, 8, 0xffff_ffff_ffff_fffc),
-        (0x16a0, 7, 3, 0),
-        (0x16a8, 7, 12, 0),
-        (0x16c0, 36, 7, 0),
-    ],
-];
+const WIDE_REFERENCES: &[&[Listed]; 3] = rows! {
+    &[(0x401608, 5, 7, 0), (0x4015e8, 7, 1, 0), (0x4015f0, 7, 5, 0), (0x4015f8, 7, 2, 0),
+        (0x401600, 7, 3, 0)];
+    &[(0x1690, 16, 6, 0), (0x1698, 17, 6, 0), (0x16a0, 6, 12, 0), (0x16e0, 1, 2, 0),
+        (0x16f0, 1, 10, 0), (0x16c0, 7, 10, 0), (0x16c8, 7, 5, 0)];
+    &[(0x1668, 6, 4, 0), (0x1670, 18, 9, 0), (0x1678, 6, 10, 0), (0x16e0, 1, 12, 0),
+        (0x16f0, 1, 8, 4), (0x16f8, 1, 8, 0xffff_ffff_ffff_fffc), (0x16a0, 7, 3, 0),
+        (0x16a8, 7, 12, 0), (0x16c0, 36, 7, 0)];
+};
 
 // The file and the symbol that each of them gets; the libraries in their order, and in the other.
-type Bindings = [&'static [Option<(usize, u32)>]; 3];
+type Bindings = &'static [&'static [Option<(usize, u32)>]; 3];
 
-const BINDINGS: Bindings = [
+const BINDINGS: Bindings = rows! {
     // shared, version@V1, taken, version@@V2 and choose of the first library
-    &[
-        Some((1, 12)),
-        Some((1, 4)),
-        Some((1, 9)),
-        Some((1, 8)),
-        Some((1, 5)),
-    ],
+    &[Some((1, 12)), Some((1, 4)), Some((1, 9)), Some((1, 8)), Some((1, 5))];
     // per_thread twice, shared of the program, kept, own of the program twice, and choose
-    &[
-        Some((1, 6)),
-        Some((1, 6)),
-        Some((0, 7)),
-        Some((1, 2)),
-        Some((0, 6)),
-        Some((0, 6)),
-        Some((1, 5)),
-    ],
+    &[Some((1, 6)), Some((1, 6)), Some((0, 7)), Some((1, 2)), Some((0, 6)), Some((0, 6)),
+        Some((1, 5))];
     // only, static_thread, absent, taken and twice shared of the program, version@V1, taken and
     // per_thread
-    &[
-        Some((2, 4)),
-        Some((1, 7)),
-        None,
-        Some((0, 5)),
-        Some((0, 7)),
-        Some((0, 7)),
-        Some((1, 4)),
-        Some((1, 9)),
-        Some((1, 6)),
-    ],
-];
+    &[Some((2, 4)), Some((1, 7)), None, Some((0, 5)), Some((0, 7)), Some((0, 7)), Some((1, 4)),
+        Some((1, 9)), Some((1, 6))];
+};
 
-const OTHER_BINDINGS: Bindings = [
+const OTHER_BINDINGS: Bindings = rows! {
     // choose of the second library
-    &[
-        Some((2, 12)),
-        Some((2, 4)),
-        Some((2, 9)),
-        Some((2, 8)),
-        Some((1, 6)),
-    ],
-    &[
-        Some((1, 4)),
-        Some((2, 7)),
-        None,
-        Some((0, 5)),
-        Some((0, 7)),
-        Some((0, 7)),
-        Some((2, 4)),
-        Some((2, 9)),
-        Some((2, 6)),
-    ],
-    &[
-        Some((2, 6)),
-        Some((2, 6)),
-        Some((0, 7)),
-        Some((2, 2)),
-        Some((0, 6)),
-        Some((0, 6)),
-        Some((1, 6)),
-    ],
-];
+    &[Some((2, 12)), Some((2, 4)), Some((2, 9)), Some((2, 8)), Some((1, 6))];
+    &[Some((1, 4)), Some((2, 7)), None, Some((0, 5)), Some((0, 7)), Some((0, 7)), Some((2, 4)),
+        Some((2, 9)), Some((2, 6))];
+    &[Some((2, 6)), Some((2, 6)), Some((0, 7)), Some((2, 2)), Some((0, 6)), Some((0, 6)),
+        Some((1, 6))];
+};
 
 // The dynamic symbols of a file, whose table and versions pass their checks.
 fn loaded<'a, E: LinkedSymbol>(
@@ -162,35 +77,34 @@ fn loaded<'a, E: LinkedSymbol>(
     Ok(object)
 }
 
-// Wants these references of a file.
-fn check_listed<E: LinkedSymbol>(
+// The same of a program and its two libraries.
+fn loaded_all<'a, E: LinkedSymbol>(
     rt: &impl Abort,
-    file: &[u8],
-    listed: &[Listed],
-) -> Result<(), LinkError> {
-    let object = loaded::<E>(rt, file)?;
-    let mut references = object.references()?;
-    for &(offset, kind, symbol, addend) in listed {
-        let reference = Reference {
-            offset,
-            kind,
-            symbol,
-            addend,
-        };
-        want(rt, references.next(), Some(reference));
-    }
-    want(rt, references.next(), None);
-    Ok(())
+    files: [&'a [u8]; 3],
+) -> Result<[DynamicObject<'a, E>; 3], LinkError> {
+    let [program, first, second] = files;
+    Ok([
+        loaded(rt, program)?,
+        loaded(rt, first)?,
+        loaded(rt, second)?,
+    ])
 }
 
 // Wants these references of each file.
-fn check_all_listed<E: LinkedSymbol>(
+fn check_listed<E: LinkedSymbol>(
     rt: &impl Abort,
     files: [&[u8]; 3],
     listed: &[&[Listed]; 3],
 ) -> Result<(), LinkError> {
     for (file, listed) in files.iter().zip(listed) {
-        check_listed::<E>(rt, file, listed)?;
+        let object = loaded::<E>(rt, file)?;
+        let mut references = object.references()?;
+        for &wanted in *listed {
+            let found = references.next();
+            let found = found.map(|it| (it.offset, it.kind, it.symbol, it.addend));
+            want(rt, found, Some(wanted));
+        }
+        want(rt, references.next(), None);
     }
     Ok(())
 }
@@ -257,11 +171,7 @@ fn check_bound<E: LinkedSymbol>(
     files: [&[u8]; 3],
     bindings: Bindings,
 ) -> Result<(), LinkError> {
-    let [program, first, second] = files;
-    let program = loaded::<E>(rt, program)?;
-    let first = loaded::<E>(rt, first)?;
-    let second = loaded::<E>(rt, second)?;
-    let objects = [program, first, second];
+    let objects = loaded_all::<E>(rt, files)?;
     check_bindings(rt, &objects, bindings)?;
     check_scope(rt, &objects, bindings)
 }
@@ -269,10 +179,10 @@ fn check_bound<E: LinkedSymbol>(
 #[test]
 fn lists_and_binds_references(rt: HostRuntime) -> Result<(), LinkError> {
     let files: [&[u8]; 3] = [NARROW_CALLER, NARROW_FIRST, NARROW_SECOND];
-    check_all_listed::<DynEntry32>(&rt, files, &NARROW_REFERENCES)?;
+    check_listed::<DynEntry32>(&rt, files, NARROW_REFERENCES)?;
     check_bound::<DynEntry32>(&rt, files, BINDINGS)?;
     let files: [&[u8]; 3] = [WIDE_CALLER, WIDE_FIRST, WIDE_SECOND];
-    check_all_listed::<DynEntry64>(&rt, files, &WIDE_REFERENCES)?;
+    check_listed::<DynEntry64>(&rt, files, WIDE_REFERENCES)?;
     check_bound::<DynEntry64>(&rt, files, BINDINGS)
 }
 
@@ -301,84 +211,109 @@ fn binds_in_another_order(rt: HostRuntime) -> Result<(), LinkError> {
     check_bound::<DynEntry64>(&rt, files, OTHER_BINDINGS)
 }
 
-// A place in a file, and the byte there.
-type Change = (usize, u8);
+// A file, a place in it, and the byte there.
+type Change = (usize, usize, u8);
 
-// Changes of the second library of class 32 and of class 64, and what its reference to `only` gets:
-// its own symbol, or that of the first library. The dynamic entries begin at 0x374 and 0x4f8.
-const SYMBOLIC: &[(&[Change], &[Change], (usize, u32))] = &[
-    (&[], &[], (2, 4)),
+// The changes in class 32 and in class 64, the file of a reference and its place among the
+// references of the file, and the file and the symbol that it gets.
+type Row = (
+    &'static [Change],
+    &'static [Change],
+    (usize, usize),
+    (usize, u32),
+);
+
+// What a reference gets where the binding or the visibility of a symbol is changed, by the rules.
+// The dynamic linker of glibc 2.36 prints the same bindings for the files of class 64. The last rows
+// change dynamic entries of the second library, by the rules alone.
+const CHANGED: &[Row] = rows! {
+    // `choose` of the first library is hidden, internal, protected or local
+    &[(1, 401, 2)], &[(1, 565, 2)], (0, 4), (2, 6);
+    &[(1, 401, 2)], &[(1, 565, 2)], (1, 6), (1, 5);
+    &[(1, 401, 1)], &[(1, 565, 1)], (0, 4), (2, 6);
+    &[(1, 401, 0xfe)], &[(1, 565, 0xfe)], (0, 4), (2, 6);
+    &[(1, 401, 0xfc)], &[(1, 565, 0xfc)], (0, 4), (1, 5);
+    &[(1, 401, 3)], &[(1, 565, 3)], (0, 4), (1, 5);
+    &[(1, 401, 3)], &[(1, 565, 3)], (1, 6), (1, 5);
+    &[(1, 400, 2)], &[(1, 564, 2)], (0, 4), (2, 6);
+    &[(1, 400, 2)], &[(1, 564, 2)], (1, 6), (1, 5);
+    // `own` of the first library is protected, whose address and whose jump slot are its own
+    &[(1, 481, 3)], &[(1, 685, 3)], (1, 4), (1, 10);
+    &[(1, 481, 3)], &[(1, 685, 3)], (1, 5), (1, 10);
+    // `own` of the program is hidden
+    &[(0, 421, 2)], &[(0, 637, 2)], (1, 4), (1, 10);
+    // `shared` of the first library is protected: the program copies it, and the library doesn't
+    // use the copy
+    &[(1, 513, 3)], &[(1, 733, 3)], (0, 0), (1, 12);
+    &[(1, 513, 3)], &[(1, 733, 3)], (1, 2), (1, 12);
+    // `shared` of the program is protected, and is still copied from the library
+    &[(0, 437, 3)], &[(0, 661, 3)], (0, 0), (1, 12);
+    // `taken` of the first library is protected, and its address is that in the program
+    &[(1, 465, 3)], &[(1, 661, 3)], (2, 3), (0, 5);
+    &[(1, 465, 3)], &[(1, 661, 3)], (0, 2), (1, 9);
+    // `only` of the second library, whose dynamic entries begin at 0x374 and 0x4f8
+    &[], &[], (2, 0), (2, 4);
     // d_tag of the entry SYMBOLIC
-    (&[(0x37c, 24)], &[(0x508, 24)], (2, 4)),
+    &[(2, 0x37c, 24)], &[(2, 0x508, 24)], (2, 0), (2, 4);
     // d_un of the entry FLAGS
-    (&[(0x3e8, 0x10)], &[(0x600, 0x10)], (2, 4)),
-    (
-        &[(0x37c, 24), (0x3e8, 0x10)],
-        &[(0x508, 24), (0x600, 0x10)],
-        (1, 1),
-    ),
+    &[(2, 0x3e8, 0x10)], &[(2, 0x600, 0x10)], (2, 0), (2, 4);
+    &[(2, 0x37c, 24), (2, 0x3e8, 0x10)], &[(2, 0x508, 24), (2, 0x600, 0x10)], (2, 0), (1, 1);
     // d_tag of the entry FLAGS
-    (
-        &[(0x37c, 24), (0x3e4, 24)],
-        &[(0x508, 24), (0x5f8, 24)],
-        (1, 1),
-    ),
-];
+    &[(2, 0x37c, 24), (2, 0x3e4, 24)], &[(2, 0x508, 24), (2, 0x5f8, 24)], (2, 0), (1, 1);
+};
 
-fn make_change(file: &mut [u8], changes: &[Change]) {
-    for &(place, byte) in changes {
-        put(file, place, &[byte]);
+fn make_changes(program: &mut [u8], first: &mut [u8], second: &mut [u8], changes: &[Change]) {
+    for &(file, place, byte) in changes {
+        match file {
+            0 => put(program, place, &[byte]),
+            1 => put(first, place, &[byte]),
+            _ => put(second, place, &[byte]),
+        }
     }
 }
 
-// What the first reference of the last file gets.
-fn last_bound<E: LinkedSymbol>(rt: &impl Abort, files: [&[u8]; 3]) -> Answer {
-    let [program, first, second] = files;
-    let program = loaded::<E>(rt, program)?;
-    let first = loaded::<E>(rt, first)?;
-    let second = loaded::<E>(rt, second)?;
-    let reference = second.references()?.next();
-    match reference {
-        Some(reference) => bound_in(rt, &[program, first, second], 2, &reference),
-        None => Ok(None),
+// What the reference at a place among those of a file gets.
+fn bound_at<E: LinkedSymbol>(
+    rt: &impl Abort,
+    files: [&[u8]; 3],
+    (from, place): (usize, usize),
+) -> Answer {
+    let objects = loaded_all::<E>(rt, files)?;
+    let Some(asking) = objects.get(from) else {
+        return Ok(None);
+    };
+    for (index, reference) in asking.references()?.enumerate() {
+        if index == place {
+            return bound_in(rt, &objects, from, &reference);
+        }
     }
+    Ok(None)
 }
 
 #[test]
-fn asks_a_symbolic_library_first(rt: HostRuntime) {
-    for (row, &(narrow, wide, found)) in SYMBOLIC.iter().enumerate() {
+fn binds_after_a_change(rt: HostRuntime) {
+    for (row, &(narrow, wide, at, found)) in CHANGED.iter().enumerate() {
+        let (mut program, mut first) = (*NARROW_CALLER, *NARROW_FIRST);
         let mut second = *NARROW_SECOND;
-        make_change(&mut second, narrow);
-        let files: [&[u8]; 3] = [NARROW_CALLER, NARROW_FIRST, &second];
-        want_at(
-            &rt,
-            row,
-            last_bound::<DynEntry32>(&rt, files),
-            Ok(Some(found)),
-        );
+        make_changes(&mut program, &mut first, &mut second, narrow);
+        let files: [&[u8]; 3] = [&program, &first, &second];
+        let bound = bound_at::<DynEntry32>(&rt, files, at);
+        want_at(&rt, row, bound, Ok(Some(found)));
+        let (mut program, mut first) = (*WIDE_CALLER, *WIDE_FIRST);
         let mut second = *WIDE_SECOND;
-        make_change(&mut second, wide);
-        let files: [&[u8]; 3] = [WIDE_CALLER, WIDE_FIRST, &second];
-        want_at(
-            &rt,
-            row,
-            last_bound::<DynEntry64>(&rt, files),
-            Ok(Some(found)),
-        );
+        make_changes(&mut program, &mut first, &mut second, wide);
+        let files: [&[u8]; 3] = [&program, &first, &second];
+        let bound = bound_at::<DynEntry64>(&rt, files, at);
+        want_at(&rt, row, bound, Ok(Some(found)));
     }
 }
 
 // The names that the program refers to, whether it gets each from the second file, and whether it
 // does where the libraries are in the other order.
-const OF_SECOND: &[(&str, bool, bool)] = &[
-    ("choose", true, true),
-    ("shared", true, false),
-    ("version", true, false),
-    ("taken", true, false),
-    ("own", false, false),
-    ("only", false, false),
-    ("", false, false),
-];
+const OF_SECOND: &[(&str, bool, bool)] = rows! {
+    "choose", true, true; "shared", true, false; "version", true, false; "taken", true, false;
+    "own", false, false; "only", false, false; "", false, false;
+};
 
 // Wants the answers for a program and two libraries.
 fn check_second<E: LinkedSymbol>(rt: &impl Abort, files: [&[u8]; 3]) {
@@ -399,4 +334,40 @@ fn tells_what_is_of_the_second_file(rt: HostRuntime) {
     check_second::<DynEntry64>(&rt, [WIDE_CALLER, WIDE_FIRST, WIDE_SECOND]);
     let found = is_of_second_file::<DynEntry32>(WIDE_CALLER, WIDE_FIRST, WIDE_SECOND, "choose");
     want(&rt, found, Err(LinkError::UnknownClass));
+}
+
+// A machine, a type of a relocation with a symbol index other than 0, in two bytes, and whether it
+// names the symbol: not if it is NONE or RELATIVE of the machine. IRELATIVE does.
+const TYPES: &[(u8, [u8; 2], bool)] = rows! {
+    62, [0, 0], false; 62, [8, 0], false; 62, [38, 0], false; 62, [37, 0], true; 62, [1, 0], true;
+    62, [0, 1], true; 62, [3, 4], true; 3, [0, 0], false; 3, [8, 0], false; 3, [42, 0], true;
+    3, [38, 0], true; 183, [0, 0], false; 183, [0, 1], false; 183, [3, 4], false; 183, [8, 4], true;
+    183, [8, 0], true; 8, [0, 0], true; 8, [8, 0], true;
+};
+
+// How many references a file has.
+fn reference_count<E: LinkedSymbol>(rt: &impl Abort, file: &[u8]) -> Result<usize, LinkError> {
+    let object = DynamicObject::<E>::read(&open(rt, file))?;
+    Ok(object.references()?.count())
+}
+
+// The type of the relocation of `kept` in the first library is at byte 780 in class 32, in one byte,
+// and at 1096 in class 64.
+#[test]
+fn names_a_symbol_by_its_type(rt: HostRuntime) {
+    for &(machine, kind, named) in TYPES {
+        let count = if named { 7 } else { 6 };
+        let mut first = *WIDE_FIRST;
+        put(&mut first, 18, &[machine]);
+        put(&mut first, 1096, &kind);
+        let found = reference_count::<DynEntry64>(&rt, &first);
+        want_at(&rt, (machine, kind), found, Ok(count));
+        if kind[1] == 0 {
+            let mut first = *NARROW_FIRST;
+            put(&mut first, 18, &[machine]);
+            put(&mut first, 780, &[kind[0]]);
+            let found = reference_count::<DynEntry32>(&rt, &first);
+            want_at(&rt, (machine, kind), found, Ok(count));
+        }
+    }
 }

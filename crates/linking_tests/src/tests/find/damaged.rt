@@ -10,27 +10,17 @@ use elf_linking::{DynamicObject, LinkError};
 use std::process::Abort;
 use worked_files::linked::versions::{NARROW, NARROW_TABLES, WIDE, WIDE_TABLES};
 use worked_files::places::put;
+use worked_files::rows;
 use xmas_elf::symbol_table::{DynEntry32, DynEntry64};
 
 // Where the fields lie that a reference to `ab` reads, from the start of the version tables on: the
 // numbers of symbols 3 and 4; of the base its next; of V1 and V2 the flags, the number, the hash
 // number, where the names lie, the next of V1, and the offset of the name. The base is no version,
 // whatever number it has, and V2 is the last definition by their count.
-const READ: &[(usize, usize)] = &[
-    (6, 10),
-    (32, 36),
-    (46, 48),
-    (48, 50),
-    (52, 56),
-    (56, 60),
-    (60, 64),
-    (64, 68),
-    (74, 76),
-    (76, 78),
-    (80, 84),
-    (84, 88),
-    (92, 96),
-];
+const READ: &[(usize, usize)] = rows! {
+    6, 10; 32, 36; 46, 48; 48, 50; 52, 56; 56, 60; 60, 64; 64, 68; 74, 76; 76, 78; 80, 84; 84, 88;
+    92, 96;
+};
 
 fn is_read(place: usize) -> bool {
     READ.iter()
@@ -46,11 +36,8 @@ fn check_same<E: LinkedSymbol>(rt: &impl Abort, place: usize, object: &DynamicOb
 
 // The index of the symbol `ab` that a reference gets.
 fn index_of<E: LinkedSymbol>(object: &DynamicObject<'_, E>, asked: Asked) -> Answer {
-    match object.find("ab", &asked.wanted(), Use::Defined) {
-        Ok(Some((index, _symbol))) => Ok(Some(index)),
-        Ok(None) => Ok(None),
-        Err(error) => Err(error),
-    }
+    let found = object.find("ab", &asked.wanted(), Use::Defined);
+    found.map(|found| found.map(|found| found.0))
 }
 
 // Whether a symbol has a version, or one that is open to each.
@@ -124,18 +111,10 @@ fn check_damaged<E: LinkedSymbol>(
         return Err(LinkError::Missing);
     };
     let numbers = (first, second);
-    want_at(
-        rt,
-        place,
-        index_of(&object, PLAIN),
-        Ok(by_numbers(numbers, 3)),
-    );
-    want_at(
-        rt,
-        place,
-        index_of(&object, LATEST),
-        Ok(by_numbers(numbers, 2)),
-    );
+    let found = index_of(&object, PLAIN);
+    want_at(rt, place, found, Ok(by_numbers(numbers, 3)));
+    let found = index_of(&object, LATEST);
+    want_at(rt, place, found, Ok(by_numbers(numbers, 2)));
     Ok(())
 }
 

@@ -2,7 +2,9 @@
 //! versions that `versions::file` has.
 
 use elf_base::bytes::Order;
-use worked_files::places::{Place, WORD, put, set, symbol_32, symbol_64};
+use worked_files::files::put_symbol;
+use worked_files::places::{Place, put, set};
+use worked_files::rows;
 use worked_files::versioned::{
     DEFINED, NAMES, NEEDED, PROGRAMS, set_entry, set_fields, set_header, set_program,
     set_segment_end, sizes,
@@ -16,16 +18,10 @@ const LITTLE: Order = Order::Little;
 
 const BIG: Order = Order::Big;
 
-pub const KINDS: &[Kind] = &[
-    Kind(1, LITTLE, false),
-    Kind(1, LITTLE, true),
-    Kind(1, BIG, false),
-    Kind(1, BIG, true),
-    Kind(2, LITTLE, false),
-    Kind(2, LITTLE, true),
-    Kind(2, BIG, false),
-    Kind(2, BIG, true),
-];
+pub const KINDS: &[Kind] = rows! {
+    Kind(1, LITTLE, false); Kind(1, LITTLE, true); Kind(1, BIG, false); Kind(1, BIG, true);
+    Kind(2, LITTLE, false); Kind(2, LITTLE, true); Kind(2, BIG, false); Kind(2, BIG, true);
+};
 
 // Where the parts of the file are; its addresses are 0x1000 higher.
 const DYNAMIC: usize = 0xb0;
@@ -45,16 +41,10 @@ const NEEDS: usize = 0x288;
 const SIZE: usize = 0x2d8;
 
 // The dynamic entries behind that of the hash table; the last is that of the numbers of symbols.
-const ENTRIES: &[(u64, u64)] = &[
-    (5, 0x1170),
-    (10, 32),
-    (6, 0x1190),
-    (0x6fff_fffc, 0x1230),
-    (0x6fff_fffd, 3),
-    (0x6fff_fffe, 0x1288),
-    (0x6fff_ffff, 2),
-    (0x6fff_fff0, 0x1220),
-];
+const ENTRIES: &[(u64, u64)] = rows! {
+    5, 0x1170; 10, 32; 6, 0x1190; 0x6fff_fffc, 0x1230; 0x6fff_fffd, 3; 0x6fff_fffe, 0x1288;
+    0x6fff_ffff, 2; 0x6fff_fff0, 0x1220;
+};
 
 // The tables over symbols 1, 2 and 3 in this order, of one bucket: that of the standard, and the
 // words of GNU's before and behind its Bloom filter, which passes each name.
@@ -76,48 +66,27 @@ fn symbol_start(class: u8, index: usize) -> usize {
 /// Writes a symbol at an index.
 pub fn set_symbol(file: &mut [u8], kind: Kind, index: usize, symbol: Symbol) {
     let start = symbol_start(kind.0, index);
-    if kind.0 == 1 {
-        set(file, start, symbol_32::NAME, 1, kind.1);
-        set(file, start, symbol_32::INFO, symbol.0 as u64, kind.1);
-        set(file, start, symbol_32::SHNDX, symbol.1 as u64, kind.1);
-        set(file, start, symbol_32::VALUE, symbol.2, kind.1);
-    } else {
-        set(file, start, symbol_64::NAME, 1, kind.1);
-        set(file, start, symbol_64::INFO, symbol.0 as u64, kind.1);
-        set(file, start, symbol_64::SHNDX, symbol.1 as u64, kind.1);
-        set(file, start, symbol_64::VALUE, symbol.2, kind.1);
-    }
+    let (info, shndx, value) = symbol;
+    let numbers = [1, u64::from(info), u64::from(shndx), value, 0];
+    put_symbol(file, kind.0, start, numbers, kind.1);
 }
 
 /// Writes `st_other` of the symbol at an index.
 pub fn set_other(file: &mut [u8], kind: Kind, index: usize, other: u64) {
-    let place = if kind.0 == 1 {
-        symbol_32::OTHER
-    } else {
-        symbol_64::OTHER
-    };
-    set(file, symbol_start(kind.0, index), place, other, kind.1);
+    let offset: usize = if kind.0 == 1 { 13 } else { 5 };
+    let start = symbol_start(kind.0, index);
+    set(file, start, Place(offset, 1), other, kind.1);
 }
 
 /// Writes where the name of the symbol at an index begins in the strings.
 pub fn set_name(file: &mut [u8], kind: Kind, index: usize, name: u64) {
-    let place = if kind.0 == 1 {
-        symbol_32::NAME
-    } else {
-        symbol_64::NAME
-    };
-    set(file, symbol_start(kind.0, index), place, name, kind.1);
+    let start = symbol_start(kind.0, index);
+    set(file, start, Place(0, 4), name, kind.1);
 }
 
 fn set_words(file: &mut [u8], start: usize, words: &[u64], order: Order) {
     for (k, word) in words.iter().enumerate() {
-        set(
-            file,
-            start.wrapping_add(k.wrapping_mul(4)),
-            WORD,
-            *word,
-            order,
-        );
+        set(file, start, Place(k.wrapping_mul(4), 4), *word, order);
     }
 }
 
@@ -134,33 +103,21 @@ fn set_hash(file: &mut [u8], kind: Kind) {
 }
 
 fn set_dynamic(file: &mut [u8], kind: Kind) {
-    let (program, width) = sizes(kind.0);
-    let segment = (2, DYNAMIC as u64, 192);
-    set_program(
-        file,
-        PROGRAMS.wrapping_add(program),
-        kind.0,
-        segment,
-        kind.1,
-    );
+    let (program, _width) = sizes(kind.0);
+    let (start, segment) = (PROGRAMS.wrapping_add(program), (2, DYNAMIC as u64, 192));
+    set_program(file, start, kind.0, segment, kind.1);
     let tag = if kind.2 { 0x6fff_fef5 } else { 4 };
     let hash = [(tag, 0x11f0)];
     for (k, entry) in hash.iter().chain(ENTRIES.iter()).enumerate() {
-        let start = DYNAMIC.wrapping_add(k.wrapping_mul(width).wrapping_mul(2));
-        set_entry(file, start, width, *entry, kind.1);
+        set_entry_at(file, kind, k, *entry);
     }
 }
 
 // Writes a dynamic entry behind so many others.
 fn set_entry_at(file: &mut [u8], kind: Kind, index: usize, entry: (u64, u64)) {
     let (_program, width) = sizes(kind.0);
-    set_entry(
-        file,
-        DYNAMIC.wrapping_add(width.wrapping_mul(2).wrapping_mul(index)),
-        width,
-        entry,
-        kind.1,
-    );
+    let start = DYNAMIC.wrapping_add(width.wrapping_mul(2).wrapping_mul(index));
+    set_entry(file, start, width, entry, kind.1);
 }
 
 /// Takes the numbers of symbols out of a file: its last dynamic entry.
