@@ -8,6 +8,7 @@ pub mod Listed
 pub mod Sorted
 pub mod Lasting
 pub mod Build
+pub mod OfFile
 pub mod Reached
 pub mod FileParts
 pub mod Runs

@@ -18,3 +18,4 @@ pub mod Pieces
 pub mod SymbolPieces
 pub mod SectionCounts
 pub mod Symtab
+pub mod OfFile

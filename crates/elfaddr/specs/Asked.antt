@@ -4,7 +4,8 @@ use Rattle.std.specs.Option.{option_and_then}
 use Rattle.elf_addresses.specs.Candidates.{is_candidate}
 use Rattle.elf_addresses.specs.Dladdr.{dladdr_claim, is_found, reach_of}
 use Rattle.elf_addresses.specs.SymbolClaims.{symbol_claim, symbol_items}
-use Rattle.elf_addresses.specs.Symtab.{IsIndexData, IsSymtabRefused, IsSymtabSection, parts_of}
+use Rattle.elf_addresses.specs.OfFile.{HasNoSymbols}
+use Rattle.elf_addresses.specs.Symtab.{IsIndexData, IsSymtabSection, parts_of}
 use Rattle.elf_addresses.specs.declared.claim.Claim.{Claim}
 use Rattle.elf_addresses.specs.declared.dladdr.Reach.{Reach}
 use Rattle.elf_addresses.specs.declared.symbols.AddressSymbols.{AddressSymbols}
@@ -13,20 +14,19 @@ use Rattle.elf_base.specs.Number.{number}
 use Rattle.elf_base.specs.Table.{records, table_items}
 use Rattle.elf_base.specs.declared.bytes.Order.{Order}
 use Rattle.elf_linking.specs.AnyTable.{IsLinkedTable}
-use Rattle.elf_linking.specs.DynamicObject.{AreDynamicSymbols, AreOfClassFor}
+use Rattle.elf_linking.specs.DynamicObject.{AreDynamicSymbols, AreOfClassFor, IsObjectRefused}
 use Rattle.elf_linking.specs.DynamicView.{dynamic_entries_of, dynamic_strings_of}
 use Rattle.elf_linking.specs.Find.{DynamicSymbols}
 use Rattle.elf_linking.specs.References.{file_machine}
 use Rattle.elf_linking.specs.declared.any_table.AnyTable.{AnyTable}
 use Rattle.elf_linking.specs.declared.error.LinkError.{LinkError}
-use Rattle.elf_linking.specs.declared.error.LinkError.TheVariants.{Elf}
 use Rattle.elfaddr.specs.Lines.{AreLines, name_in}
-use Rattle.elfaddr.specs.Tables.{IsDladdrRefused, IsDynamicRefused, IsReach, IsTableCount}
+use Rattle.elfaddr.specs.Tables.{IsDladdrRefused, IsReach, IsTableCount}
 use Rattle.elfaddr.specs.declared.Source.{Source}
 use Rattle.elfaddr.specs.declared.Source.TheVariants.{Dladdr, Dynamic, Symtab}
 use Rattle.xmas_elf.specs.First.{FindsFirstAt}
 use Rattle.xmas_elf.specs.SectionHeader.{section_list}
-use Rattle.xmas_elf.specs.Symbol.{SymbolFields, dyn_entry_32, dyn_entry_32_fields, dyn_entry_64, dyn_entry_64_fields, entry_32, entry_32_fields, entry_64, entry_64_fields}
+use Rattle.xmas_elf.specs.Symbol.{SymbolFields, dyn_entry_32, dyn_entry_32_fields, dyn_entry_64, dyn_entry_64_fields}
 use Rattle.xmas_elf.specs.Types.{Dynamic as Entry, ElfFile}
 
 -- how the symbols of a type are read: the size of one, the symbol that bytes are in a byte order, and its fields
@@ -125,27 +125,26 @@ pub data FromDladdr {E : Type 0} (class : ℕ) (kind : Kind E) (file : ElfFile) 
       → AreReachedParts class kind file items strings reach
       → FromDladdr class kind file (claims_reached kind.fields items strings reach) (name_in kind.fields items strings)
 
--- they are those of the symbols that are asked for, by the class of the file: of the first section of type
--- SHT_SYMTAB, or else of the dynamic segment; or of the latter at once
-pub data AreAsked {S D : Type 0} (class : ℕ) (symtab : Kind S) (dynamic : Kind D) (file : ElfFile) : Source → (ℕ → Option Claim) → (ℕ → List ℕ) → Type 0 where
-  in_symtab : (index : ℕ) (claim_of : ℕ → Option Claim) (name_of : ℕ → List ℕ)
-      → FindsFirstAt IsSymtabSection (section_list file) (Some index) → FromSymtab symtab file index claim_of name_of
-      → AreAsked class symtab dynamic file Symtab claim_of name_of
-  in_no_symtab : (claim_of : ℕ → Option Claim) (name_of : ℕ → List ℕ)
-      → FindsFirstAt IsSymtabSection (section_list file) None → FromDynamic class dynamic file claim_of name_of
-      → AreAsked class symtab dynamic file Symtab claim_of name_of
-  in_dynamic : (claim_of : ℕ → Option Claim) (name_of : ℕ → List ℕ)
-      → FromDynamic class dynamic file claim_of name_of → AreAsked class symtab dynamic file Dynamic claim_of name_of
-  in_dladdr : (claim_of : ℕ → Option Claim) (name_of : ℕ → List ℕ)
-      → FromDladdr class dynamic file claim_of name_of → AreAsked class symtab dynamic file Dladdr claim_of name_of
+-- they are those of the first section of type SHT_SYMTAB, or if there is none of the dynamic segment
+pub data FromFile {E : Type 0} (class : ℕ) (kind : Kind E) (file : ElfFile) (claim_of : ℕ → Option Claim) (name_of : ℕ → List ℕ) : Type 0 where
+  in_symtab : (index : ℕ) → FindsFirstAt IsSymtabSection (section_list file) (Some index)
+      → FromSymtab kind file index claim_of name_of → FromFile class kind file claim_of name_of
+  in_no_symtab : FindsFirstAt IsSymtabSection (section_list file) None → FromDynamic class kind file claim_of name_of
+      → FromFile class kind file claim_of name_of
+
+-- they are those of the symbols that are asked for, in a file of a class
+abbrev pub AreAsked : {E : Type 0} → ℕ → Kind E → ElfFile → Source → (ℕ → Option Claim) → (ℕ → List ℕ) → Type 0
+AreAsked class kind file Symtab claim_of name_of = FromFile class kind file claim_of name_of
+AreAsked class kind file Dynamic claim_of name_of = FromDynamic class kind file claim_of name_of
+AreAsked class kind file Dladdr claim_of name_of = FromDladdr class kind file claim_of name_of
 
 -- the same of a file, of either class
 pub data AreOfFile (file : ElfFile) (source : Source) (claim_of : ℕ → Option Claim) (name_of : ℕ → List ℕ) : Type 0 where
   narrow : file_class file.header ≡ 1
-      → AreAsked 1 (kind 16 entry_32 entry_32_fields) (kind 16 dyn_entry_32 dyn_entry_32_fields) file source claim_of name_of
+      → AreAsked 1 (kind 16 dyn_entry_32 dyn_entry_32_fields) file source claim_of name_of
       → AreOfFile file source claim_of name_of
   wide : file_class file.header ≢ 1
-      → AreAsked 2 (kind 24 entry_64 entry_64_fields) (kind 24 dyn_entry_64 dyn_entry_64_fields) file source claim_of name_of
+      → AreAsked 2 (kind 24 dyn_entry_64 dyn_entry_64_fields) file source claim_of name_of
       → AreOfFile file source claim_of name_of
 
 -- there are such symbols
@@ -163,25 +162,16 @@ pub record AreLinesBy (Asked : (ℕ → Option Claim) → (ℕ → List ℕ) →
 
 -- Why there are no such symbols.
 
--- the section at an index has no symbols of a size
-abbrev pub IsSymtabError : ℕ → ElfFile → ℕ → LinkError → Type 0
-IsSymtabError size file index (Elf error) = IsSymtabRefused size file index error
-IsSymtabError size file index _ = ⊥
-
--- by the class of the file: the error of the section, or of the dynamic segment
-pub data AreRefused (class symtab_size dynamic_size : ℕ) (file : ElfFile) : Source → LinkError → Type 0 where
-  by_symtab : (index : ℕ) (error : LinkError) → FindsFirstAt IsSymtabSection (section_list file) (Some index)
-      → IsSymtabError symtab_size file index error → AreRefused class symtab_size dynamic_size file Symtab error
-  by_no_symtab : (error : LinkError) → FindsFirstAt IsSymtabSection (section_list file) None
-      → IsDynamicRefused class dynamic_size file error → AreRefused class symtab_size dynamic_size file Symtab error
-  by_dynamic : (error : LinkError) → IsDynamicRefused class dynamic_size file error
-      → AreRefused class symtab_size dynamic_size file Dynamic error
-  by_dladdr : (error : LinkError) → IsDladdrRefused class dynamic_size file error
-      → AreRefused class symtab_size dynamic_size file Dladdr error
+-- in a file of a class, where symbols have a size: the first error of the file's symbols, of the dynamic segment, or of what
+-- `dladdr` reads
+abbrev pub AreRefused : ℕ → ℕ → ElfFile → Source → LinkError → Type 0
+AreRefused class size file Symtab error = HasNoSymbols class size file error
+AreRefused class size file Dynamic error = IsObjectRefused class size file error
+AreRefused class size file Dladdr error = IsDladdrRefused class size file error
 
 -- the same of a file, of either class
 pub data AreRefusedOfFile (file : ElfFile) (source : Source) (error : LinkError) : Type 0 where
-  narrow_refused : file_class file.header ≡ 1 → AreRefused 1 16 16 file source error
+  narrow_refused : file_class file.header ≡ 1 → AreRefused 1 16 file source error
       → AreRefusedOfFile file source error
-  wide_refused : file_class file.header ≢ 1 → AreRefused 2 24 24 file source error
+  wide_refused : file_class file.header ≢ 1 → AreRefused 2 24 file source error
       → AreRefusedOfFile file source error

@@ -1,12 +1,12 @@
 -- The dynamic symbols of a file, and those of them that its hash table reaches.
-use Rattle.std.specs.Prelude.{◌≡◌, ℕ, ◌⊎◌, List, [], length, Some, Result, Ok, Err}
+use Rattle.std.specs.Prelude.{◌≡◌, ℕ, List, [], length, Some, Result, Ok, Err}
 use Rattle.elf_base.specs.Table.{table_data}
 use Rattle.elf_addresses.specs.Reached.{AreReached}
 use Rattle.elf_addresses.specs.declared.dladdr.Reach.{Reach}
 use Rattle.elf_addresses.specs.declared.dladdr.Reach.TheVariants.{Buckets, Chains}
 use Rattle.elf_addresses.specs.declared.symbols.AddressSymbols.{AddressSymbols}
 use Rattle.elf_linking.specs.AnyTable.{IsLinkedTable}
-use Rattle.elf_linking.specs.DynamicObject.{IsObject, IsObjectFor, IsObjectRefused, IsObjectRefusedFor, object_records}
+use Rattle.elf_linking.specs.DynamicObject.{IsObject, IsObjectFor, IsObjectRefusedFor, object_records}
 use Rattle.elf_linking.specs.DynamicView.{dynamic_entries_of, dynamic_strings_of}
 use Rattle.elf_linking.specs.GnuCount.{IsGnuCount}
 use Rattle.elf_linking.specs.References.{file_machine}
@@ -18,19 +18,6 @@ use Rattle.elf_linking.specs.declared.object.DynamicObject.{DynamicObject}
 use Rattle.xmas_elf.specs.HashTable.{chain_count_of}
 use Rattle.xmas_elf.specs.declared.hash.HashTable.{HashTable}
 use Rattle.xmas_elf.specs.Types.{Dynamic, ElfFile}
-
--- the symbols of the dynamic segment
-pub record AreDynamic {E : Type 0} {r : _} (class size : ℕ) (file : ElfFile) (symbols : AddressSymbols E r) : Type 0 where
-  pub object : DynamicObject E r
-  pub is_object : IsObject class size file object
-  pub table : symbols.table ≡ object_records object
-  pub strings : dynamic_strings_of file ≡ Ok symbols.strings.now
-  pub indices : table_data symbols.indices ≡ []
-  pub machine : symbols.machine ≡ file_machine file
-
--- why there are none: the dynamic segment can't be read, or its string table
-abbrev pub IsDynamicRefused : ℕ → ℕ → ElfFile → LinkError → Type 0
-IsDynamicRefused class size file error = IsObjectRefused class size file error ⊎ (dynamic_strings_of file ≡ Err error)
 
 -- the number of symbols by the hash table that `dladdr` reads (elf/dl-addr.c in glibc 2.36): GNU's if there is one, otherwise
 -- that of the ELF standard, which has a chain for each symbol; or why there is none
@@ -50,12 +37,11 @@ pub record IsDladdrObject {E : Type 0} {r : _} (class size : ℕ) (file : ElfFil
   pub counted : IsTableCount file (Ok count)
   pub is_object : IsObjectFor (Some count) class size file object
 
--- why there is no such object with a string table
+-- why there is no such object: the first error, of the number of symbols, or of the object
 pub data IsDladdrRefused (class size : ℕ) (file : ElfFile) (error : LinkError) : Type 0 where
   no_count : IsTableCount file (Err error) → IsDladdrRefused class size file error
   no_object : (count : ℕ) → IsTableCount file (Ok count) → IsObjectRefusedFor (Some count) class size file error
       → IsDladdrRefused class size file error
-  no_strings : dynamic_strings_of file ≡ Err error → IsDladdrRefused class size file error
 
 -- what a hash table reaches of as many symbols: for GNU's, words that say it for each
 abbrev pub IsReach : AnyTable → ℕ → Reach → Type 0

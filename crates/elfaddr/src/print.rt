@@ -1,14 +1,16 @@
 //! The lines of a file by the symbols that are asked for.
 
 ghost use Rattle.std.specs.Prelude.{◌≡◌, MatchResult, Ok, length, ⊤};
+ghost use Rattle.elf_addresses.specs.OfFile.{HasNoSymbols};
 ghost use Rattle.elf_addresses.specs.SymbolClaims.{symbol_items};
+ghost use Rattle.elf_linking.specs.DynamicObject.{IsObjectRefused};
 ghost use Rattle.elf_linking.specs.DynamicView.{dynamic_strings_of};
 ghost use Rattle.elfaddr.specs.Asked.{AreAsked, AreLinesBy, AreOfFile, AreRefused, AreRefusedOfFile};
-ghost use Rattle.elfaddr.specs.Asked.{AreThere, FromDladdr, FromDynamic, FromSymtab, IsSymtabError};
+ghost use Rattle.elfaddr.specs.Asked.{AreThere, FromDladdr, FromDynamic, FromFile};
 ghost use Rattle.elfaddr.specs.Asked.{claims_of, kind, parts_in};
 ghost use Rattle.elfaddr.specs.Lines.{AreLines, name_in};
-ghost use Rattle.elfaddr.specs.Tables.{AreDynamic, IsDladdrObject, IsDladdrRefused};
-ghost use Rattle.elfaddr.specs.Tables.{IsDynamicRefused, IsReach, IsTableCount};
+ghost use Rattle.elfaddr.specs.Tables.{IsDladdrObject, IsDladdrRefused};
+ghost use Rattle.elfaddr.specs.Tables.{IsReach, IsTableCount};
 ghost use Rattle.program_ends.specs.Appended.{AppendsSome};
 ghost use Rattle.program_ends.specs.Ends.{IsFault};
 
@@ -16,15 +18,15 @@ use crate::Source;
 use crate::lines::Lines;
 use crate::names::Named;
 use elf_addresses::dladdr::{DladdrSymbols, Reach, fill_reached};
-use elf_addresses::{AddressSymbols, SymbolClaims, symtab_at, symtab_index};
+use elf_addresses::{AddressSymbols, SymbolClaims};
 use elf_linking::view::{DynamicView, LinkedSymbol, strings};
 use elf_linking::{AnyTable, DynamicObject, LinkError};
 use program_ends::{Fault, fault_of, write_buffered};
 use std::alloc::Global;
 use std::io::Write;
 use xmas_elf::ElfFile;
-use xmas_elf::bytes::{Record, Table};
-use xmas_elf::symbol_table::{DynEntry32, DynEntry64, Entry, Entry32, Entry64};
+use xmas_elf::bytes::Record;
+use xmas_elf::symbol_table::{DynEntry32, DynEntry64, Entry};
 
 // A line for each address, by the class of the file.
 pub(crate) fn print_file<'a, W: Write + Drop>(
@@ -41,14 +43,14 @@ pub(crate) fn print_file<'a, W: Write + Drop>(
         (IsFault path.entry (AreRefusedOfFile file.now source) (AreThere asked)) }
 {
     if file.header.pt1.class.raw() == 1 {
-        return print_by::<Entry32, DynEntry32, W>(alloc, path, file, source, addresses, out);
+        return print_by::<DynEntry32, W>(alloc, path, file, source, addresses, out);
     }
     // A file is of class 32 or 64.
-    print_by::<Entry64, DynEntry64, W>(alloc, path, file, source, addresses, out)
+    print_by::<DynEntry64, W>(alloc, path, file, source, addresses, out)
 }
 
-// The lines by symbols of these types.
-fn print_by<'a, S: Entry + Record, D: LinkedSymbol, W: Write + Drop>(
+// The lines by symbols of this type.
+fn print_by<'a, D: LinkedSymbol, W: Write + Drop>(
     alloc: Global,
     path: &'a str,
     file: &ElfFile<'_>,
@@ -56,42 +58,34 @@ fn print_by<'a, S: Entry + Record, D: LinkedSymbol, W: Write + Drop>(
     addresses: &[u64],
     out: W,
 ) -> Result<W, Fault<'a, LinkError>>
-    ensures { let asked = AreAsked D.CLASS (kind S.SIZE S.value S.fields)
-        (kind D.SIZE D.value D.fields) file.now source in
+    ensures { let asked = AreAsked D.CLASS (kind D.SIZE D.value D.fields) file.now source in
         MatchResult result (λ back. AppendsSome (AreLinesBy asked file.now addresses.now)
         (W.contents out) (W.contents back))
-        (IsFault path.entry (AreRefused D.CLASS S.SIZE D.SIZE file.now source) (AreThere asked)) }
+        (IsFault path.entry (AreRefused D.CLASS D.SIZE file.now source) (AreThere asked)) }
 {
     match source {
-        Source::Symtab => match symtab_index(file) {
-            Some(index) => print_symtab::<S, W>(alloc, path, file, index, addresses, out),
-            None => print_dynamic::<D, W>(alloc, path, file, addresses, out),
-        },
+        Source::Symtab => print_symtab::<D, W>(alloc, path, file, addresses, out),
         Source::Dynamic => print_dynamic::<D, W>(alloc, path, file, addresses, out),
         Source::Dladdr => print_dladdr::<D, W>(alloc, path, file, addresses, out),
     }
 }
 
-// The lines by the symbols of the section at an index.
-fn print_symtab<'a, S: Entry + Record, W: Write + Drop>(
+// The lines by the symbol table of the file, or else by the dynamic symbols.
+fn print_symtab<'a, D: LinkedSymbol, W: Write + Drop>(
     alloc: Global,
     path: &'a str,
     file: &ElfFile<'_>,
-    index: usize,
     addresses: &[u64],
     out: W,
 ) -> Result<W, Fault<'a, LinkError>>
-    ensures { let asked = FromSymtab (kind S.SIZE S.value S.fields) file.now index in
+    ensures { let asked = FromFile D.CLASS (kind D.SIZE D.value D.fields) file.now in
         MatchResult result (λ back. AppendsSome (AreLinesBy asked file.now addresses.now)
         (W.contents out) (W.contents back))
-        (IsFault path.entry (IsSymtabError S.SIZE file.now index) (AreThere asked)) }
+        (IsFault path.entry (HasNoSymbols D.CLASS D.SIZE file.now) (AreThere asked)) }
 {
-    match symtab_at::<S>(file, index) {
+    match AddressSymbols::<D>::of_file(file) {
         Ok(symbols) => print_symbols(alloc, path, file, &symbols, addresses, out),
-        Err(error) => Err(Fault::Refused {
-            path,
-            error: LinkError::Elf(error),
-        }),
+        Err(error) => Err(Fault::Refused { path, error }),
     }
 }
 
@@ -106,9 +100,9 @@ fn print_dynamic<'a, D: LinkedSymbol, W: Write + Drop>(
     ensures { let asked = FromDynamic D.CLASS (kind D.SIZE D.value D.fields) file.now in
         MatchResult result (λ back. AppendsSome (AreLinesBy asked file.now addresses.now)
         (W.contents out) (W.contents back))
-        (IsFault path.entry (IsDynamicRefused D.CLASS D.SIZE file.now) (AreThere asked)) }
+        (IsFault path.entry (IsObjectRefused D.CLASS D.SIZE file.now) (AreThere asked)) }
 {
-    match dynamic_symbols::<D>(file) {
+    match AddressSymbols::<D>::of_dynamic(file) {
         Ok(symbols) => print_symbols(alloc, path, file, &symbols, addresses, out),
         Err(error) => Err(Fault::Refused { path, error }),
     }
@@ -134,26 +128,6 @@ fn print_symbols<'a, E: Entry + Record, W: Write + Drop>(
         within: None,
     };
     print_lines(alloc, path, file, &claims, addresses, out)
-}
-
-// The dynamic symbols, with their names.
-fn dynamic_symbols<'a, D: LinkedSymbol>(
-    file: &ElfFile<'a>,
-) -> Result<AddressSymbols<'a, D>, LinkError>
-    ensures { MatchResult result (AreDynamic D.CLASS D.SIZE file.now)
-        (IsDynamicRefused D.CLASS D.SIZE file.now) }
-{
-    let object = DynamicObject::<D>::read(file)?;
-    let strings = strings(file)?;
-    let Ok(indices) = Table::new(&[], file.byte_order()) else {
-        unreachable!();
-    };
-    Ok(AddressSymbols {
-        table: object.symbols().table(),
-        strings,
-        indices,
-        machine: file.header.pt2.machine().raw(),
-    })
 }
 
 // The lines by the symbols that `dladdr` finds.
@@ -202,7 +176,9 @@ fn object_with_strings<'a, D: LinkedSymbol>(
 {
     let count = table_count(file)?;
     let object = DynamicObject::<D>::read_counted(file, count)?;
-    let strings = strings(file)?;
+    let Ok(strings) = strings(file) else {
+        unreachable!();
+    };
     Ok((object, strings))
 }
 

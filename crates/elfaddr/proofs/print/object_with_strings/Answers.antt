@@ -1,6 +1,6 @@
 use Rattle.std.proofs.Common.{sym}
 use Rattle.std.proofs.lemmas.Result.{err_from_is_err_and}
-use Rattle.elfaddr.specs.Tables.{no_count, no_object, no_strings}
+use Rattle.elfaddr.specs.Tables.{no_count, no_object}
 use Rattle.elfaddr.proofs.print.object_with_strings.Goals as goal
 
 pub returns-in_err-count : goal.returns-in_err-count
@@ -13,13 +13,8 @@ returns-in_err-object g c =
     let p = err_from_is_err_and c.from_residual-in_err-object.result c.from_residual-in_err-object.ensures.1 in
     rw (p.1, p.2) (no_object c.in_ok-count.count c.in_ok-count.ensures c.in_err-object.ensures)
 
-pub returns-in_err-strings : goal.returns-in_err-strings
-returns-in_err-strings g c =
-    let p = err_from_is_err_and c.from_residual-in_err-strings.result c.from_residual-in_err-strings.ensures.1 in
-    rw (p.1, p.2) (no_strings (sym c.in_err-strings.ensures.exact))
-
 pub returns : goal.returns
 returns g c = (
   record { count = c.in_ok-count.count; counted = c.in_ok-count.ensures; is_object = c.in_ok-object.ensures },
-  sym c.in_ok-strings.ensures.exact,
+  sym c.in-Ok.ensures.exact,
 )
