@@ -10,8 +10,6 @@ use Rattle.elf_linking.specs.Relr.{relr_rest}
 use Rattle.elf_linking.specs.TableLocations.{table_by}
 use Rattle.elf_linking.specs.declared.error.LinkError.{LinkError}
 use Rattle.elf_linking.specs.declared.references.Reference.{Reference}
-use Rattle.elf_linking.specs.declared.references.types.Row.{Row}
-use Rattle.elf_linking.specs.declared.references.types.TheConstants.{R_X86_64_RELATIVE}
 use Rattle.elf_linking.specs.declared.relr.Relr.{Relr}
 use Rattle.elf_linking.specs.declared.view.tags.TheConstants.{DT_JMPREL, DT_PLTREL, DT_PLTRELSZ, DT_REL, DT_RELA, DT_RELASZ, DT_RELR, DT_RELRSZ, DT_RELSZ}
 use Rattle.elf_linking.specs.declared.view.location.TableLocation.{TableLocation}
