@@ -5,17 +5,19 @@ use Rattle.std.specs.Prelude.{All, Contains, ◌≡◌, ℕ, zero, suc, ◌+◌,
 use Rattle.std.specs.Result.{result_ok}
 use Rattle.elf_records.specs.HashNumber.{hash_number}
 use Rattle.elf_linking.specs.AnyTable.{IsFor}
-use Rattle.elf_linking.specs.DynamicObject.{object_dynamic_symbols, object_machine, object_view}
+use Rattle.elf_linking.specs.DynamicObject.{object_dynamic_symbols, object_file, object_machine, object_view}
 use Rattle.elf_linking.specs.DynamicView.{is_symbolic, view_entries}
 use Rattle.elf_linking.specs.Find.{DynamicSymbols}
 use Rattle.elf_linking.specs.GnuHash as gnu
 use Rattle.elf_linking.specs.Layouts.{gnu_hash_number}
 use Rattle.elf_linking.specs.VersionList.{VersionEntry}
+use Rattle.elf_linking.specs.References.{references_of}
 use Rattle.elf_linking.specs.Versions.{VersionParts, version_at}
 use Rattle.elf_linking.specs.declared.any_table.AnyTable.{AnyTable}
 use Rattle.elf_linking.specs.declared.any_table.AnyTable.TheVariants.{Gnu, Sysv}
 use Rattle.elf_linking.specs.declared.error.LinkError.{LinkError}
 use Rattle.elf_linking.specs.declared.object.DynamicObject.{DynamicObject}
+use Rattle.elf_linking.specs.declared.references.Reference.{Reference}
 use Rattle.xmas_elf.specs.HashTable as gabi
 use Rattle.xmas_elf.specs.Symbol.{SymbolFields}
 
@@ -39,13 +41,14 @@ pub record SymbolParts : Type 0 where
   pub fields : SymbolFields
   pub version : Option NumberedVersion
 
--- a file whose checks passed: its exports, its symbols, whether it is searched first for its own references, and its
--- machine (e_machine)
+-- a file whose checks passed: its exports, its symbols, whether it is searched first for its own references, its machine
+-- (e_machine), and its relocations that name a symbol, which is None if they can't be read
 pub record ObjectParts : Type 0 where
   pub exports : List SymbolParts
   pub symbols : List SymbolParts
   pub symbolic : Bool
   pub machine : ℕ
+  pub references : Option (List Reference)
 
 -- The symbols.
 
@@ -157,4 +160,5 @@ object_parts fields object = let file = object_dynamic_symbols fields object in 
   symbols = symbols_of file;
   symbolic = is_symbolic (view_entries (object_view object));
   machine = object_machine object;
+  references = result_ok (references_of (object_file object) (view_entries (object_view object)));
 }

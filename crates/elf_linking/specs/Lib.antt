@@ -34,3 +34,4 @@ pub mod Bindings
 pub mod Exports
 pub mod Checked
 pub mod CheckedScope
+pub mod CheckedBindings

@@ -3,12 +3,14 @@
 
 ghost use Rattle.std.specs.Prelude.{◌≡◌, IfOk, option_map};
 
+mod bindings;
 mod scope;
 
+pub use crate::checked::bindings::{CheckedBinding, CheckedBindings};
 pub use crate::checked::scope::CheckedScope;
 use crate::find::{Use, Wanted};
 use crate::gnu_hash::gnu_hash;
-use crate::references::Reference;
+use crate::references::{Reference, References};
 use crate::scope::Asked;
 use crate::view::LinkedSymbol;
 use crate::{DynamicObject, LinkError};
@@ -46,6 +48,7 @@ impl<'a, E: LinkedSymbol> CheckedObject<'a, E> {
     ghost use Rattle.elf_linking.specs.DynamicObject.{object_dynamic_symbols};
     ghost use Rattle.elf_linking.specs.Exports.{AreExports, object_parts};
     ghost use Rattle.elf_linking.specs.Layouts.{gnu_hash_number};
+    ghost use Rattle.elf_linking.specs.References.{references_left};
     ghost use Rattle.elf_linking.specs.VersionTables.{result_map};
 
     /// The object, after its checks.
@@ -77,6 +80,17 @@ impl<'a, E: LinkedSymbol> CheckedObject<'a, E> {
         ensures { result ≡ self.now.symbolic }
     {
         self.object.is_symbolic()
+    }
+
+    /// An iterator over the relocations of the file that name a symbol; `None` if they can't be read:
+    /// `DynamicObject::references` says why.
+    pub fn references(&self) -> Option<References<'a>>
+        ensures { option_map references_left result ≡ self.now.references }
+    {
+        match self.object.references() {
+            Ok(references) => Some(references),
+            Err(_unread) => None,
+        }
     }
 
     /// What a reference of this file asks for: the result of `DynamicObject::asked`. `None` if the

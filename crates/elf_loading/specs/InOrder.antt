@@ -8,8 +8,7 @@ use Rattle.elf_linking.specs.References.{file_machine, record_size, relocation_t
 use Rattle.elf_linking.specs.RelocationTypes.{relative_kind}
 use Rattle.elf_linking.specs.Relr.{relr_rest}
 use Rattle.elf_linking.specs.TableLocations.{table_by}
-use Rattle.elf_loading.specs.Types.{Dynamic, ElfFile, InOrder, LinkError, Packed, Part, Reference, Relocation, Relr, Row, TableLocation}
-use Rattle.elf_linking.specs.declared.references.types.TheConstants.{R_X86_64_RELATIVE}
+use Rattle.elf_loading.specs.Types.{Dynamic, ElfFile, InOrder, LinkError, Packed, Part, Reference, Relocation, Relr, TableLocation}
 use Rattle.elf_linking.specs.declared.view.tags.TheConstants.{DT_JMPREL, DT_PLTREL, DT_PLTRELSZ, DT_REL, DT_RELA, DT_RELASZ, DT_RELR, DT_RELRSZ, DT_RELSZ}
 use Rattle.elf_loading.specs.Words.{address_size}
 

@@ -12,7 +12,7 @@ use elf_base::ElfError;
 use elf_linking::references::Reference;
 use elf_linking::scope::Scope;
 use elf_linking::view::LinkedSymbol;
-use elf_linking::{DynamicObject, LinkError};
+use elf_linking::{CheckedObject, CheckedScope, DynamicObject, LinkError};
 use linking_callers::callers::second_file::is_of_second_file;
 use std::process::Abort;
 use worked_files::places::put;
@@ -165,6 +165,31 @@ fn check_bindings<E: LinkedSymbol>(
     Ok(())
 }
 
+// Wants these bindings of the iterator over all references of the same objects after their checks.
+fn check_checked_bindings<E: LinkedSymbol>(
+    rt: &impl Abort,
+    objects: &[DynamicObject<'_, E>; 3],
+    bindings: Bindings,
+) -> Result<(), LinkError> {
+    let program = CheckedObject::of(objects[0])?;
+    let first = CheckedObject::of(objects[1])?;
+    let second = CheckedObject::of(objects[2])?;
+    let objects = [program, first, second];
+    let mut found = CheckedScope::new(&objects).bindings();
+    for (from, wanted) in bindings.iter().enumerate() {
+        for &wanted in *wanted {
+            let Some(Ok(binding)) = found.next() else {
+                panic!(rt; "no binding of object {from}");
+            };
+            want_at(rt, binding.reference, binding.from, from);
+            let bound = binding.bound.map(|bound| (bound.object, bound.index));
+            want_at(rt, binding.reference, bound, wanted);
+        }
+    }
+    want(rt, found.next().is_none(), true);
+    Ok(())
+}
+
 // Wants these bindings of the references of each file.
 fn check_bound<E: LinkedSymbol>(
     rt: &impl Abort,
@@ -173,6 +198,7 @@ fn check_bound<E: LinkedSymbol>(
 ) -> Result<(), LinkError> {
     let objects = loaded_all::<E>(rt, files)?;
     check_bindings(rt, &objects, bindings)?;
+    check_checked_bindings(rt, &objects, bindings)?;
     check_scope(rt, &objects, bindings)
 }
 
@@ -198,6 +224,12 @@ fn goes_on_after_relocations_that_are_not_read(rt: HostRuntime) -> Result<(), Li
     let mut bindings = Scope::new(&objects).bindings();
     let refused = bindings.next().and_then(|item| item.err());
     want(&rt, refused, Some((0, LinkError::RelocationKind)));
+    let next = bindings.next().and_then(|item| item.ok());
+    want(&rt, next.map(|binding| binding.from), Some(1));
+    let checked = [CheckedObject::of(program)?, CheckedObject::of(first)?];
+    let mut bindings = CheckedScope::new(&checked).bindings();
+    let unread = bindings.next().and_then(|item| item.err());
+    want(&rt, unread, Some(0));
     let next = bindings.next().and_then(|item| item.ok());
     want(&rt, next.map(|binding| binding.from), Some(1));
     Ok(())

@@ -1,0 +1,40 @@
+-- The references of all objects of a scope of files whose checks passed, and what each gets (gABI, "Relocation" and
+-- "Dynamic Section"; the order of objects as glibc's linker has it).
+use Rattle.std.specs.Prelude.{ℕ, ◌+◌, List, [], ◌∷◌, ◌++◌, drop, map, Option, None, Some, Result, Ok, Err}
+use Rattle.elf_linking.specs.Bindings.{current_left}
+use Rattle.elf_linking.specs.CheckedScope.{bound_fields, bound_in}
+use Rattle.elf_linking.specs.Exports.{ObjectParts}
+use Rattle.elf_linking.specs.declared.checked.bindings.CheckedBinding.{CheckedBinding}
+use Rattle.elf_linking.specs.declared.checked.bindings.CheckedBindings.{CheckedBindings}
+use Rattle.elf_linking.specs.declared.references.Reference.{Reference}
+use Rattle.elf_linking.specs.declared.scope.Bound.{Bound}
+use Rattle.xmas_elf.specs.Symbol.{SymbolFields}
+
+-- references of the object at an index of a scope, each with the index and with what it gets; None in the place of
+-- relocations that can't be read
+abbrev pub bindings_at : List ObjectParts → ℕ → Option (List Reference) → List (ℕ × Option (Reference × Option (Bound SymbolFields)))
+bindings_at objects from None = (from, None) ∷ []
+bindings_at objects from (Some references) = map (λ reference. (from, Some (reference, bound_in objects from reference))) references
+
+-- those of objects of the scope in order, the first of which is at index `from`
+abbrev pub bindings_from : List ObjectParts → ℕ → List ObjectParts → List (ℕ × Option (Reference × Option (Bound SymbolFields)))
+bindings_from objects from [] = []
+bindings_from objects from (object ∷ rest) = bindings_at objects from object.references ++ bindings_from objects (from + 1) rest
+
+-- those of all objects
+abbrev pub all_bindings : List ObjectParts → List (ℕ × Option (Reference × Option (Bound SymbolFields)))
+all_bindings objects = bindings_from objects 0 objects
+
+-- an item of an iterator
+abbrev pub item_parts : {E : Type 0} → (E → SymbolFields) → Result (CheckedBinding E) ℕ → ℕ × Option (Reference × Option (Bound SymbolFields))
+item_parts fields (Ok binding) = (binding.from, Some (binding.reference, bound_fields fields binding.bound))
+item_parts fields (Err from) = (from, None)
+
+-- the objects of an iterator's scope
+abbrev pub checked_objects : {E : Type 0} → CheckedBindings E → List ObjectParts
+checked_objects iter = iter.scope
+
+-- the items that an iterator has not yet returned
+abbrev pub checked_left : {E : Type 0} → CheckedBindings E → List (ℕ × Option (Reference × Option (Bound SymbolFields)))
+checked_left iter = let objects = checked_objects iter in
+    bindings_at objects iter.from (Some (current_left iter.references)) ++ bindings_from objects iter.next (drop iter.next objects)
