@@ -12,6 +12,7 @@ ghost use Rattle.program_ends.specs.Names.{escaped};
 ghost use Rattle.program_ends.specs.Stops.{HasBegun, IsStop};
 
 use std::alloc::Global;
+use std::convert::AsStr;
 use std::fmt::Display;
 use std::io::{BufWriter, Read, Write};
 use std::process::ExitCode;
@@ -133,6 +134,27 @@ pub fn arguments(rt: &HostRuntime) -> io::Result<Vec<String>> {
         words.push(argument)?;
     }
     Ok(words)
+}
+
+/// The version of the programs, which is that of the packages of the bindings.
+pub const VERSION: &str = "0.1.0";
+
+/// Writes the help of a program if its first argument is `--help`, and its name and version if it is
+/// `--version`, and returns whether it is one of them. `usage` is the name with the arguments, and
+/// `help` what the program prints, and its options, in lines. The error is that of the writer.
+pub fn write_about<S: AsStr, W: Write>(
+    name: &str,
+    usage: &str,
+    help: &str,
+    arguments: &[S],
+    out: &mut W,
+) -> io::Result<bool> {
+    match arguments.first().map(|word| word.as_str()) {
+        Some("--help") => writeln!(out, "usage: {usage}\n{help}")?,
+        Some("--version") => writeln!(out, "{name} {VERSION}")?,
+        _ => return Ok(false),
+    }
+    Ok(true)
 }
 
 /// Writes a line with the name of a program and why it ends with status 1, if the writer doesn't fail,
