@@ -123,6 +123,18 @@ static uint32_t any_dynamics(const struct asked *a, union output *out)
 {
     return xmas_elf_dynamics(a->bytes, a->size, &a->header, (uint64_t)a->section, (uint64_t)a->index, out[0].of_dynamic, 3, &out[1].of_u64[0]);
 }
+static uint32_t any_dynamic_entries(const struct asked *a, union output *out)
+{
+    return xmas_elf_dynamic_entries(a->bytes, a->size, &a->header, (uint64_t)a->index, out[0].of_dynamic, 3, &out[1].of_u64[0]);
+}
+static uint32_t any_dynamic_relocations(const struct asked *a, union output *out)
+{
+    return xmas_elf_dynamic_relocations(a->bytes, a->size, &a->header, (uint64_t)a->index, out[0].of_relocation, 3, &out[1].of_u64[0]);
+}
+static uint32_t any_dynamic_packed_relocations(const struct asked *a, union output *out)
+{
+    return xmas_elf_dynamic_packed_relocations(a->bytes, a->size, &a->header, (uint64_t)a->index, out[0].of_u64, 3, &out[1].of_u64[0]);
+}
 static uint32_t any_note(const struct asked *a, union output *out)
 {
     return xmas_elf_note(a->bytes, a->size, &a->header, &a->part, (uint64_t)a->index, &out[0].of_note[0]);
@@ -138,6 +150,10 @@ static uint32_t any_dynamic_texts(const struct asked *a, union output *out)
 static uint32_t any_dynamic_symbols_open(const struct asked *a, union output *out)
 {
     return xmas_elf_dynamic_symbols_open(a->bytes, a->size, &a->header, &out[0].of_symbol_table[0]);
+}
+static uint32_t any_file_symbols_open(const struct asked *a, union output *out)
+{
+    return xmas_elf_file_symbols_open(a->bytes, a->size, &a->header, &out[0].of_symbol_table[0]);
 }
 static uint32_t any_dynamic_symbol_versions(const struct asked *a, union output *out)
 {
@@ -240,10 +256,14 @@ static const struct any {
     {"relocations", any_relocations, {XMAS_ELF_OK, XMAS_ELF_SHORT_SECTION_HEADER, XMAS_ELF_UNKNOWN_CLASS, XMAS_ELF_SMALL_ENTRY, XMAS_ELF_INVALID_SH_TYPE, XMAS_ELF_DATA_RANGE, XMAS_ELF_NOT_MULTIPLE, XMAS_ELF_NOTE_32, XMAS_ELF_SHORT_DATA, XMAS_ELF_OTHER_DATA, XMAS_ELF_NO_RECORD}, 11},
     {"packed_relocations", any_packed_relocations, {XMAS_ELF_OK, XMAS_ELF_SHORT_SECTION_HEADER, XMAS_ELF_UNKNOWN_CLASS, XMAS_ELF_SMALL_ENTRY, XMAS_ELF_OTHER_DATA, XMAS_ELF_DATA_RANGE, XMAS_ELF_LINK_NOT_MULTIPLE, XMAS_ELF_NO_RECORD}, 8},
     {"dynamics", any_dynamics, {XMAS_ELF_OK, XMAS_ELF_SHORT_SECTION_HEADER, XMAS_ELF_UNKNOWN_CLASS, XMAS_ELF_SMALL_ENTRY, XMAS_ELF_INVALID_SH_TYPE, XMAS_ELF_DATA_RANGE, XMAS_ELF_NOT_MULTIPLE, XMAS_ELF_NOTE_32, XMAS_ELF_SHORT_DATA, XMAS_ELF_OTHER_DATA, XMAS_ELF_NO_RECORD}, 11},
+    {"dynamic_entries", any_dynamic_entries, {XMAS_ELF_OK, XMAS_ELF_LINK_NO_DYNAMIC, XMAS_ELF_DATA_RANGE, XMAS_ELF_UNKNOWN_CLASS, XMAS_ELF_NOT_MULTIPLE, XMAS_ELF_NO_RECORD}, 6},
+    {"dynamic_relocations", any_dynamic_relocations, {XMAS_ELF_OK, XMAS_ELF_LINK_NO_DYNAMIC, XMAS_ELF_DATA_RANGE, XMAS_ELF_NOT_MULTIPLE, XMAS_ELF_LINK_NO_ENTRY, XMAS_ELF_LINK_RELOCATION_KIND, XMAS_ELF_LINK_ADDRESS, XMAS_ELF_NO_RECORD}, 8},
+    {"dynamic_packed_relocations", any_dynamic_packed_relocations, {XMAS_ELF_OK, XMAS_ELF_LINK_NO_DYNAMIC, XMAS_ELF_DATA_RANGE, XMAS_ELF_NOT_MULTIPLE, XMAS_ELF_LINK_NO_ENTRY, XMAS_ELF_LINK_ADDRESS, XMAS_ELF_LINK_NOT_MULTIPLE, XMAS_ELF_NO_RECORD}, 8},
     {"note", any_note, {XMAS_ELF_OK, XMAS_ELF_DATA_RANGE, XMAS_ELF_NO_RECORD, XMAS_ELF_LINK_SHORT_NOTE}, 4},
     {"bytes_at", any_bytes_at, {XMAS_ELF_OK, XMAS_ELF_LINK_ADDRESS, XMAS_ELF_DATA_RANGE}, 3},
     {"dynamic_texts", any_dynamic_texts, {XMAS_ELF_OK, XMAS_ELF_LINK_NO_DYNAMIC, XMAS_ELF_DATA_RANGE, XMAS_ELF_NOT_MULTIPLE, XMAS_ELF_NO_RECORD}, 5},
     {"dynamic_symbols_open", any_dynamic_symbols_open, {XMAS_ELF_OK, XMAS_ELF_LINK_NO_DYNAMIC, XMAS_ELF_DATA_RANGE, XMAS_ELF_NOT_MULTIPLE, XMAS_ELF_LINK_NO_ENTRY, XMAS_ELF_LINK_ADDRESS, XMAS_ELF_SHORT_DATA, XMAS_ELF_LINK_SHORT_TABLE, XMAS_ELF_LINK_BLOOM_COUNT, XMAS_ELF_LINK_CHAIN_INDEX, XMAS_ELF_LINK_CHAIN_DATA, XMAS_ELF_LINK_SYMBOL_INDEX}, 12},
+    {"file_symbols_open", any_file_symbols_open, {XMAS_ELF_OK, XMAS_ELF_SHORT_SECTION_HEADER, XMAS_ELF_UNKNOWN_CLASS, XMAS_ELF_SMALL_ENTRY, XMAS_ELF_INVALID_SH_TYPE, XMAS_ELF_DATA_RANGE, XMAS_ELF_NOT_MULTIPLE, XMAS_ELF_NOTE_32, XMAS_ELF_SHORT_DATA, XMAS_ELF_OTHER_DATA, XMAS_ELF_LINK_NO_DYNAMIC, XMAS_ELF_LINK_NO_ENTRY, XMAS_ELF_LINK_ADDRESS, XMAS_ELF_LINK_SHORT_TABLE, XMAS_ELF_LINK_BLOOM_COUNT, XMAS_ELF_LINK_CHAIN_INDEX, XMAS_ELF_LINK_CHAIN_DATA, XMAS_ELF_LINK_SYMBOL_INDEX}, 18},
     {"dynamic_symbol_versions", any_dynamic_symbol_versions, {XMAS_ELF_OK, XMAS_ELF_LINK_NO_DYNAMIC, XMAS_ELF_DATA_RANGE, XMAS_ELF_NOT_MULTIPLE, XMAS_ELF_LINK_NO_ENTRY, XMAS_ELF_LINK_ADDRESS, XMAS_ELF_SHORT_DATA, XMAS_ELF_LINK_SHORT_TABLE, XMAS_ELF_LINK_BLOOM_COUNT, XMAS_ELF_LINK_CHAIN_INDEX, XMAS_ELF_LINK_CHAIN_DATA, XMAS_ELF_LINK_SYMBOL_INDEX, XMAS_ELF_NOT_FOUND, XMAS_ELF_NO_RECORD}, 14},
     {"version_definitions", any_version_definitions, {XMAS_ELF_OK, XMAS_ELF_LINK_NO_DYNAMIC, XMAS_ELF_DATA_RANGE, XMAS_ELF_NOT_MULTIPLE, XMAS_ELF_LINK_ADDRESS, XMAS_ELF_LINK_NO_ENTRY, XMAS_ELF_NO_RECORD}, 7},
     {"version_needs", any_version_needs, {XMAS_ELF_OK, XMAS_ELF_LINK_NO_DYNAMIC, XMAS_ELF_DATA_RANGE, XMAS_ELF_NOT_MULTIPLE, XMAS_ELF_LINK_ADDRESS, XMAS_ELF_LINK_NO_ENTRY, XMAS_ELF_NO_RECORD}, 7},

@@ -99,6 +99,9 @@ CALL(symbols_open) { return xmas_elf_symbols_open(FILE_OF(a), a->index == 0 ? a-
 CALL_MANY(relocations, relocations, a->section, a->index)
 CALL_MANY(packed_relocations, addresses, a->section, a->index)
 CALL_MANY(dynamics, dynamics, a->section, a->index)
+CALL_MANY(dynamic_entries, dynamics, a->index)
+CALL_MANY(dynamic_relocations, relocations, a->index)
+CALL_MANY(dynamic_packed_relocations, addresses, a->index)
 CALL(note)
 {
     xmas_elf_range_t part = {a->index, 1};
@@ -127,6 +130,7 @@ CALL(dynamic_symbols_open) /* the symbols of the section for dynamic linking, wi
     }
     return xmas_elf_symbols(a->bytes, a->size, table, table->count, symbols, 2, &one) == XMAS_ELF_NO_RECORD ? status : 992;
 }
+CALL(file_symbols_open) { return xmas_elf_file_symbols_open(FILE_OF(a), &out->of.table); }
 CALL_MANY(dynamic_symbol_versions, versions, a->index)
 CALL_MANY(version_definitions, versions, a->index)
 CALL_MANY(version_needs, versions, a->index)
@@ -298,10 +302,14 @@ static const struct row {
     {"relocations", relocations_call, RELOCATIONS, 0, FAR, XMAS_ELF_NO_RECORD, SHORT},
     {"packed_relocations", packed_relocations_call, PACKED, 0, FAR, XMAS_ELF_NO_RECORD, SHORT},
     {"dynamics", dynamics_call, DYNAMIC, 0, FAR, XMAS_ELF_NO_RECORD, SHORT},
+    {"dynamic_entries", dynamic_entries_call, NONE, 0, FAR, XMAS_ELF_NO_RECORD, XMAS_ELF_LINK_NO_DYNAMIC},
+    {"dynamic_relocations", dynamic_relocations_call, NONE, 0, FAR, XMAS_ELF_NO_RECORD, XMAS_ELF_LINK_NO_DYNAMIC},
+    {"dynamic_packed_relocations", dynamic_packed_relocations_call, NONE, 0, FAR, XMAS_ELF_NO_RECORD, XMAS_ELF_LINK_NO_DYNAMIC},
     {"note", note_call, NOTES, 0, FAR, XMAS_ELF_DATA_RANGE, XMAS_ELF_DATA_RANGE},
     {"bytes_at", bytes_at_call, NONE, 0, FAR, XMAS_ELF_LINK_ADDRESS, XMAS_ELF_LINK_ADDRESS},
     {"dynamic_texts", dynamic_texts_call, NONE, 0, FAR, XMAS_ELF_NO_RECORD, XMAS_ELF_LINK_NO_DYNAMIC},
     {"dynamic_symbols_open", dynamic_symbols_open_call, NONE, 0, 0, XMAS_ELF_OK, XMAS_ELF_LINK_NO_DYNAMIC},
+    {"file_symbols_open", file_symbols_open_call, NONE, 0, 0, XMAS_ELF_OK, XMAS_ELF_LINK_NO_DYNAMIC},
     {"dynamic_symbol_versions", dynamic_symbol_versions_call, NONE, 1, FAR, XMAS_ELF_NO_RECORD, XMAS_ELF_LINK_NO_DYNAMIC},
     {"version_definitions", version_definitions_call, NONE, 1, FAR, XMAS_ELF_NO_RECORD, XMAS_ELF_LINK_NO_DYNAMIC},
     {"version_needs", version_needs_call, NONE, 0, FAR, XMAS_ELF_NO_RECORD, XMAS_ELF_LINK_NO_DYNAMIC},

@@ -818,6 +818,31 @@ XMAS_ELF_NODISCARD uint32_t xmas_elf_dynamics(const uint8_t *input, size_t input
     const xmas_elf_header_t *header, uint64_t section, uint64_t first, xmas_elf_dynamic_t *out, size_t out_count,
     uint64_t *count) XMAS_ELF_NOEXCEPT;
 
+/* The dynamic entries of the first segment of type PT_DYNAMIC from index `first` on, also those after the entry with
+ * tag 0. No section header is needed. Errors, in the order of the tests: XMAS_ELF_LINK_NO_DYNAMIC,
+ * XMAS_ELF_DATA_RANGE, XMAS_ELF_UNKNOWN_CLASS, XMAS_ELF_NOT_MULTIPLE, XMAS_ELF_NO_RECORD. */
+XMAS_ELF_NODISCARD uint32_t xmas_elf_dynamic_entries(const uint8_t *input, size_t input_size,
+    const xmas_elf_header_t *header, uint64_t first, xmas_elf_dynamic_t *out, size_t out_count, uint64_t *count)
+    XMAS_ELF_NOEXCEPT;
+
+/* The relocations of the dynamic segment from index `first` on: those of the table DT_RELA, then of DT_REL, then of
+ * DT_JMPREL. The index of a symbol is one of `xmas_elf_dynamic_symbols_open`. No section header is needed. Each call
+ * reads the relocations before `first` anew, so give much room. Errors, in the order of the tests:
+ * XMAS_ELF_LINK_NO_DYNAMIC, XMAS_ELF_DATA_RANGE, XMAS_ELF_NOT_MULTIPLE, XMAS_ELF_LINK_NO_ENTRY,
+ * XMAS_ELF_LINK_RELOCATION_KIND, XMAS_ELF_LINK_ADDRESS, XMAS_ELF_NO_RECORD. */
+XMAS_ELF_NODISCARD uint32_t xmas_elf_dynamic_relocations(const uint8_t *input, size_t input_size,
+    const xmas_elf_header_t *header, uint64_t first, xmas_elf_relocation_t *out, size_t out_count, uint64_t *count)
+    XMAS_ELF_NOEXCEPT;
+
+/* The addresses in the packed relative relocations of the dynamic segment (DT_RELR) from index `first` on;
+ * XMAS_ELF_NO_RECORD also if there are none. No section header is needed. Each call reads the words from the first
+ * on, so give much room. Errors, in the order of the tests: XMAS_ELF_LINK_NO_DYNAMIC, XMAS_ELF_DATA_RANGE,
+ * XMAS_ELF_NOT_MULTIPLE, XMAS_ELF_LINK_NO_ENTRY, XMAS_ELF_LINK_ADDRESS, XMAS_ELF_LINK_NOT_MULTIPLE,
+ * XMAS_ELF_NO_RECORD. */
+XMAS_ELF_NODISCARD uint32_t xmas_elf_dynamic_packed_relocations(const uint8_t *input, size_t input_size,
+    const xmas_elf_header_t *header, uint64_t first, uint64_t *out, size_t out_count, uint64_t *count)
+    XMAS_ELF_NOEXCEPT;
+
 /* The first note of a range, by the alignment of its section or segment (8, and else 4). XMAS_ELF_NO_RECORD is for an
  * empty range, XMAS_ELF_LINK_SHORT_NOTE for one that holds no whole note. The build id of a file is the description
  * of the first note of type 3 (NT_GNU_BUILD_ID) with name `GNU`, in the sections of type SHT_NOTE or the segments of
@@ -854,6 +879,16 @@ XMAS_ELF_NODISCARD uint32_t xmas_elf_dynamic_texts(const uint8_t *input, size_t 
  * XMAS_ELF_LINK_SHORT_TABLE, XMAS_ELF_LINK_BLOOM_COUNT, XMAS_ELF_LINK_CHAIN_INDEX, XMAS_ELF_LINK_CHAIN_DATA,
  * XMAS_ELF_LINK_SYMBOL_INDEX. */
 XMAS_ELF_NODISCARD uint32_t xmas_elf_dynamic_symbols_open(const uint8_t *input, size_t input_size,
+    const xmas_elf_header_t *header, xmas_elf_symbol_table_t *out) XMAS_ELF_NOEXCEPT;
+
+/* Finds the symbols of a file, once for many calls of `xmas_elf_symbols` and `xmas_elf_symbol_names`: those of the
+ * first section of type SHT_SYMTAB, as `xmas_elf_symbols_open` does, and of a file without such a section, as after
+ * `strip`, those of the dynamic segment, as `xmas_elf_dynamic_symbols_open` does. Errors, in the order of the tests:
+ * XMAS_ELF_SHORT_SECTION_HEADER, XMAS_ELF_UNKNOWN_CLASS, XMAS_ELF_SMALL_ENTRY, XMAS_ELF_INVALID_SH_TYPE,
+ * XMAS_ELF_DATA_RANGE, XMAS_ELF_NOT_MULTIPLE, XMAS_ELF_NOTE_32, XMAS_ELF_SHORT_DATA, XMAS_ELF_OTHER_DATA,
+ * XMAS_ELF_LINK_NO_DYNAMIC, XMAS_ELF_LINK_NO_ENTRY, XMAS_ELF_LINK_ADDRESS, XMAS_ELF_LINK_SHORT_TABLE,
+ * XMAS_ELF_LINK_BLOOM_COUNT, XMAS_ELF_LINK_CHAIN_INDEX, XMAS_ELF_LINK_CHAIN_DATA, XMAS_ELF_LINK_SYMBOL_INDEX. */
+XMAS_ELF_NODISCARD uint32_t xmas_elf_file_symbols_open(const uint8_t *input, size_t input_size,
     const xmas_elf_header_t *header, xmas_elf_symbol_table_t *out) XMAS_ELF_NOEXCEPT;
 
 /* The versions of the symbols of the dynamic segment (DT_VERSYM) from index `first` on, each with a status of its

@@ -22,7 +22,6 @@
 
 namespace xmas_elf {
 
-class numbers;
 class section;
 class segment;
 
@@ -143,10 +142,6 @@ private:
     friend class segment;
 
     static const std::uint8_t *raw(std::string_view text) noexcept { return reinterpret_cast<const std::uint8_t *>(text.data()); }
-
-    numbers numbers_of(bytes_view data, std::size_t count) const;
-    numbers table_of(std::uint64_t address_tag, std::uint64_t size_tag, std::size_t count) const;
-    void add_relocations(std::uint64_t address_tag, std::uint64_t size_tag, std::uint64_t kind, std::vector<xmas_elf_relocation_t> &found) const;
 
     /// All records of a call that begins anew each time; none if the file has no such list.
     template <class Record, class Call, class... Arguments> std::vector<Record> all(Call function, Arguments... arguments) const

@@ -4,6 +4,8 @@
 
 #include "xmas_elf.hpp"
 
+#include <algorithm>
+
 namespace xmas_elf {
 
 /// The symbol of an address.
@@ -53,6 +55,105 @@ inline std::vector<piece> pieces(const file &of)
     return stored_pieces(words.size() + 7, [&](std::vector<xmas_elf_piece_t> &out) { return ask(words, out); });
 }
 
+/// The symbols that name addresses: those of the section of type SHT_SYMTAB, or else of SHT_DYNSYM, or else of the dynamic
+/// segment; and the range of their section indices that need more than 16 bits. False if the file has no symbols.
+inline bool find_address_symbols(const file &owner, xmas_elf_symbol_table_t &table, xmas_elf_range_t &indices)
+{
+    for (const std::uint32_t type : {2U, 11U})
+        for (const section &one : owner.sections()) {
+            if (one->type != type) continue;
+            check(owner.call(xmas_elf_symbols_open, one.index(), &table));
+            for (const section &other : owner.sections())
+                if (other->type == 18 && other->link == one.index()) {
+                    indices = {other->offset, other->size};
+                    break;
+                }
+            return true;
+        }
+    const std::uint32_t status = owner.call(xmas_elf_dynamic_symbols_open, &table);
+    if (status != XMAS_ELF_LINK_NO_DYNAMIC) check(status);
+    return status == XMAS_ELF_OK;
+}
+
+/// The symbols of a file by section, for the pieces of many sections: a copy of their table in which those of each section lie
+/// one after the other, so that the pieces of a section take no pass over the symbols of others.
+class section_symbols {
+public:
+    explicit section_symbols(const file &owner)
+    {
+        xmas_elf_symbol_table_t table{};
+        xmas_elf_range_t indices{};
+        if (!find_address_symbols(owner, table, indices)) return;
+        const bytes_view bytes = owner.bytes();
+        if (indices.offset > bytes.size() || indices.size > bytes.size() - indices.offset) throw error(XMAS_ELF_DATA_RANGE);
+        if (indices.size % 4 != 0) throw error(XMAS_ELF_NOT_MULTIPLE);
+        index_.table = table;
+        index_.machine = owner.header().machine;
+        is_big_ = table.encoding == 2;
+        size_ = table.file_class == 1 ? 16 : 24;
+        copy(bytes.data() + table.symbols.offset, bytes.data() + indices.offset, static_cast<std::size_t>(indices.size));
+        const std::uint8_t *strings = bytes.data() + table.strings.offset;
+        index_.table.strings.offset = input_.size();
+        input_.insert(input_.end(), strings, strings + table.strings.size);
+    }
+
+    /// Which of the addresses `begin .. end` of a section belong to which symbol of the section, as in `symbol_map::pieces`.
+    std::vector<piece> pieces(std::uint32_t section, std::uint64_t begin, std::uint64_t end) const
+    {
+        const auto first = std::lower_bound(order_.begin(), order_.end(), std::make_pair(section, std::uint32_t{0}));
+        const auto last = std::upper_bound(first, order_.end(), std::make_pair(section, UINT32_MAX));
+        const auto place = static_cast<std::size_t>(first - order_.begin()), count = static_cast<std::size_t>(last - first);
+        xmas_elf_address_index_t index = index_;
+        index.table.symbols = {place * size_, count * size_};
+        index.table.count = count;
+        if (has_indices_) index.indices = {order_.size() * size_ + 4 * place, 4 * count};
+        index.within = section;
+        std::vector<std::uint32_t> words(3 * count);
+        auto found = stored_pieces(2 * count + 1, [&](std::vector<xmas_elf_piece_t> &out) {
+            std::uint64_t total = 0;
+            check(xmas_elf_symbol_pieces(input_.data(), input_.size(), &index, begin, end, 0, words.data(), words.size(), out.data(), out.size(), &total));
+            return total;
+        });
+        for (piece &one : found)
+            if (one.of == owner::symbol) one.index = order_[place + static_cast<std::size_t>(one.index)].second;
+        return found;
+    }
+
+private:
+    std::uint32_t number(const std::uint8_t *bytes, std::size_t width) const noexcept
+    {
+        std::uint32_t number = 0;
+        for (std::size_t i = 0; i < width; i++) number = number << 8U | bytes[is_big_ ? i : width - 1 - i];
+        return number;
+    }
+    /// Copies the symbols by section, in the order of the table, and then a word for each if there are words.
+    void copy(const std::uint8_t *symbols, const std::uint8_t *words, std::size_t words_size)
+    {
+        const auto count = static_cast<std::size_t>(index_.table.count);
+        for (std::size_t i = 0; i < count; i++) {
+            std::uint32_t section = number(symbols + i * size_ + (size_ == 16 ? 14 : 6), 2);
+            if (section == 0xffff) section = 4 * i < words_size ? number(words + 4 * i, 4) : 0;
+            order_.emplace_back(section, static_cast<std::uint32_t>(i));
+        }
+        std::sort(order_.begin(), order_.end());
+        for (const auto &one : order_) input_.insert(input_.end(), symbols + one.second * size_, symbols + (one.second + 1) * size_);
+        has_indices_ = words_size != 0;
+        for (const auto &one : order_) {
+            if (!has_indices_) break;
+            const std::uint8_t none[4] = {}, *word = 4 * std::size_t{one.second} < words_size ? words + 4 * std::size_t{one.second} : none;
+            input_.insert(input_.end(), word, word + 4);
+        }
+    }
+
+    std::vector<std::uint8_t> input_{};
+    /// The section and the index of each symbol of the copy.
+    std::vector<std::pair<std::uint32_t, std::uint32_t>> order_{};
+    xmas_elf_address_index_t index_{};
+    std::size_t size_ = 24;
+    bool is_big_ = false;
+    bool has_indices_ = false;
+};
+
 /// The symbols of a file by their addresses: an index that is built once for many addresses. It has those of the section of
 /// type SHT_SYMTAB, or else of SHT_DYNSYM, or else of the dynamic segment. In an object file, where values are offsets in
 /// sections, `within` is the index of the section that is asked for.
@@ -62,7 +163,7 @@ public:
     {
         xmas_elf_symbol_table_t table{};
         xmas_elf_range_t indices{};
-        if (!find_table(table, indices)) return;
+        if (!find_address_symbols(owner, table, indices)) return;
         check(owner.call(xmas_elf_address_index, &table, &indices, within, words_.data(), words_.size(), &index_));
         words_.resize(static_cast<std::size_t>(index_.words));
         check(owner.call(xmas_elf_address_index, &table, &indices, within, words_.data(), words_.size(), &index_));
@@ -98,26 +199,6 @@ public:
     }
 
 private:
-    /// The symbols, and the section indices that need more than 16 bits; false if the file has no symbols.
-    bool find_table(xmas_elf_symbol_table_t &table, xmas_elf_range_t &indices) const
-    {
-        for (const std::uint32_t type : {2U, 11U})
-            for (const section &one : file_->sections())
-                if (one->type == type) {
-                    check(file_->call(xmas_elf_symbols_open, one.index(), &table));
-                    indices = indices_of(one.index());
-                    return true;
-                }
-        const std::uint32_t status = file_->call(xmas_elf_dynamic_symbols_open, &table);
-        if (status != XMAS_ELF_LINK_NO_DYNAMIC) check(status);
-        return status == XMAS_ELF_OK;
-    }
-    xmas_elf_range_t indices_of(std::uint64_t symbols) const
-    {
-        for (const section &one : file_->sections())
-            if (one->type == 18 && one->link == symbols) return {one->offset, one->size};
-        return {};
-    }
     symbol_at named(const xmas_elf_symbol_at_t &found) const
     {
         symbol_at one;

@@ -22,7 +22,7 @@ from comparing import INDIRECT, UNIQUE, Finished, Tally, dynamic_symbols, parser
 
 LISTED = re.compile(r"^\t(?:.* => )?(/.*) \(0x[0-9a-f]+\)$", re.M)
 BOUND = re.compile(r"^ *\d+:\tbinding file (.*) \[\d+\] to (.*) \[\d+\]: \w+ symbol `(.*)'(?: \[(.*)\])?$", re.M)
-LINE = re.compile(r"^(.*?) (\S*) -> (?:(.*) 0x[0-9a-f]+|unresolved)$", re.M)
+LINE = re.compile(r"^(.*?) (\S*) -> (?:(.*) 0x[0-9a-f]+|unresolved(?: \(weak\))?)$", re.M)
 OWN_NAMES = {"calloc", "free", "malloc", "realloc"}
 TRACE = {"LD_TRACE_LOADED_OBJECTS": "1"}
 BINDINGS = {**TRACE, "LD_DEBUG": "bindings", "LD_BIND_NOW": "1", "LD_WARN": "1"}

@@ -228,10 +228,10 @@ Addresses are in hexadecimal; - reads them from standard input, one on a line.
 ADDR.fails({"a file without symbols": ("strtab.elf 0", "strtab.elf: No dynamic segment"), **damaged("0", NEEDS_REFUSALS[:-1])})
 
 BIND = Program(
-    "elfbind", "elfbind <binary_path>.. | elfbind --check <binary_path>..", [], WIDE_BOUND.split(), data("elfbind/stdout"),
+    "elfbind", "elfbind [--unresolved | --check] <binary_path>..", [], WIDE_BOUND.split(), data("elfbind/stdout"),
     data("elfbind/data/caller"))
 CHAINED = f"damaged-{0x128}.so"
-BIND.misused({"no file to check": "--check"})
+BIND.misused({"no file to check": "--check", "no file for what is unresolved": "--unresolved"})
 BIND.fails({
     "a missing second file": ("caller missing.so", "cannot read missing.so"),
     "a refused second file": ("caller zeros.elf", f"zeros.elf: {NO_MAGIC}"),
@@ -243,10 +243,19 @@ BIND.fails({
 BIND.prints({
     "the libraries in the other order": ("caller libsecond.so libfirst.so", data("elfbind/data/bound_other.txt")),
     "a program and two libraries of class 32": (NARROW_BOUND, data("elfbind/data/bound_32.txt")),
-    "good files to check": ("--check caller libfirst.so", "caller: ok\nlibfirst.so: ok\n")})
+    "files of which nothing is missing": (f"--unresolved {WIDE_BOUND}", ""),
+    "good files to check": ("--check caller libfirst.so", "caller: ok\nlibfirst.so: ok\n"),
+    "help": ("--help", f"""{BIND.usage}Prints the symbol that each reference of a program and its libraries gets, and its file. The files are
+in the order in which names are looked up.
+--unresolved  only the references that are missing their symbols
+--check       whether the hash table and the versions of each file pass their checks instead
+""")})
+# All but `absent`, which is weak, are missing in the library by itself.
 UNBOUND = "static_thread absent taken shared shared version taken per_thread".split()
 BIND.add("references that get no symbol", "libsecond.so", 1, "libsecond.so only -> libsecond.so 0x16d0\n" + "".join(
-    f"libsecond.so {name} -> unresolved\n" for name in UNBOUND))
+    f"libsecond.so {name} -> unresolved{' (weak)' * (name == 'absent')}\n" for name in UNBOUND))
+BIND.add("only those that are missing", "--unresolved libsecond.so", 1, "".join(
+    f"libsecond.so {name} -> unresolved\n" for name in UNBOUND if name != "absent"))
 BIND.add("such a table to check", f"--check {CHAINED} caller", 1, f"{CHAINED}: Chain index is out of range\ncaller: ok\n")
 BIND.add("such definitions to check", "--check cut.so", 1, "cut.so: Version record is cut off\n")
 
@@ -352,7 +361,9 @@ def unwritten_ends(program, built, room):
             yield f"{what}, where nothing can be said", [1, None, None], run(built, arguments[what], room, stdout=full, stderr=full)
     reader, writer = os.pipe()
     os.close(reader)
-    yield "a pipe that nobody reads", [1, None, program.no_write()], run(built, arguments["a good file"], room, stdout=writer)
+    # The status of a program that SIGPIPE ends, as a shell tells it.
+    wanted = [141, None, b""] if program is BIND else [1, None, program.no_write()]
+    yield "a pipe that nobody reads", wanted, run(built, arguments["a good file"], room, stdout=writer)
     os.close(writer)
 
 

@@ -8,6 +8,7 @@ import sys
 
 import beside
 import pydoc
+from itertools import islice
 import pytest
 from conftest import LIBRARIES, PYTHON
 from elftools.elf.gnuversions import GNUVerDefSection, GNUVerNeedSection
@@ -418,6 +419,16 @@ def test_symbols_of_sections(tmp_path):
                     assert (found.symbol if found and found.symbol.size else None) == piece.symbol
             text = {it.symbol.name: it.size for it in file.symbol_pieces(".text") if it.symbol}
             assert {"inner", "main"} <= set(text) and all(text[name] == size for name, _, size in sized(path) if name in ("inner", "main"))
+
+
+def test_symbols_of_many_sections(tmp_path):
+    """Each of 66,000 sections has its function, also where the index of the section needs more than 16 bits."""
+    path = tmp_path / "many.o"
+    subprocess.run([PYTHON.parent.parent / "bench/symbols.py", "each_section", "66000", path], check=True)
+    with ElfFile.load_from_path(path) as file:
+        for section in islice(file.sections(), 1, 66001, 97):
+            (piece,) = file.symbol_pieces(section)
+            assert (piece.begin, piece.end, piece.symbol.name) == (0, 1, f"function_number_{section.index - 1:07}")
 
 
 def test_the_largest_functions(tmp_path):

@@ -2,7 +2,7 @@
 from __future__ import annotations
 
 from array import array
-from ctypes import byref, c_uint64, create_string_buffer
+from ctypes import create_string_buffer
 from typing import Any, Dict, Iterable, List, NamedTuple, Optional, Tuple
 
 from . import _declarations as declared
@@ -62,14 +62,6 @@ class AddressIndex:
         numbers_at, _ = numbers.buffer_info()
         check(library.xmas_elf_symbols_at(*self._file._input[:2], self._index, self._words, words, numbers_at, count, found, count))
         return [self._of(fields) for fields in declared.SYMBOL_AT.iter_unpack(found.raw[: count * declared.SYMBOL_AT.size])]
-
-    def pieces(self, begin: int, end: int, pieces: Any, room: int) -> int:
-        """Stores the pieces of addresses by symbols, and returns the number of all."""
-        count, words = c_uint64(), self.sizes.words
-        new = create_string_buffer(4 * words)
-        arguments = self._index, begin, end, 0, new, words, pieces, room, byref(count)
-        check(library.xmas_elf_symbol_pieces(*self._file._input[:2], *arguments))
-        return count.value
 
     def symbol(self, index: int) -> Symbol:
         """The symbol at an index of the table."""

@@ -4,7 +4,6 @@ from __future__ import annotations
 import os
 from functools import cached_property
 from itertools import chain
-from struct import Struct
 from typing import Any, BinaryIO, Dict, Iterable, Iterator, List, Optional, Tuple, Union
 
 from . import _declarations as declared
@@ -16,15 +15,14 @@ from ._loading import Loader, LoadPlan, Verdict, load_plan_of, verdict_of
 from ._numbers import unsigned, utf_8
 from ._overview import Overview, overview_of
 from ._parts import Dynamic, Header, Note, Relocation, Section, Segment, Symbol
-from ._parts import section_of, segment_of, symbols_of
-from ._pieces import Piece, SymbolPiece, pieces_of, symbol_pieces_of
+from ._parts import entries_of_segment, packed_relocations_of_segment, relocations_of_segment, section_of, segment_of, symbols_of
+from ._pieces import Piece, SectionSymbols, SymbolPiece, pieces_of, symbol_pieces_of
 from ._process import load_image_of
 from ._reading import Reading
 from ._rows import Row, batches, one, rows
-from ._tables import packed_relocations_of, relocations_of
 from ._versions import Version, versions
 from .constants import DT, DT_NEEDED, DT_NULL, DT_RPATH, DT_RUNPATH, DT_SONAME, DT_SYMTAB, ELFOSABI, EM, ET
-from .constants import NT_GNU_BUILD_ID, PT_DYNAMIC, PT_LOAD, PT_NOTE
+from .constants import NT_GNU_BUILD_ID, PT_LOAD, PT_NOTE
 from .constants import SHT_DYNAMIC, SHT_DYNSYM, SHT_NOTE, SHT_REL, SHT_RELA, SHT_RELR, SHT_SYMTAB, SHT_SYMTAB_SHNDX
 
 # Where the type is in the row of a section header.
@@ -214,12 +212,12 @@ class ElfFile(Reading):
         that is the section `link` of the table: see `Section.relocations`. Without such sections, those of the dynamic
         segment, whose symbols are `dynamic_symbols`."""
         tables = self._sections_of(SHT_RELA, SHT_REL)
-        return chain.from_iterable(it.relocations() for it in tables) if tables else relocations_of(self)
+        return chain.from_iterable(it.relocations() for it in tables) if tables else relocations_of_segment(self)
 
     def packed_relocations(self) -> Iterator[int]:
         """The addresses in the packed relative relocations of sections of type SHT_RELR, or else of the dynamic segment."""
         tables = self._sections_of(SHT_RELR)
-        return chain.from_iterable(it.packed_relocations() for it in tables) if tables else packed_relocations_of(self)
+        return chain.from_iterable(it.packed_relocations() for it in tables) if tables else packed_relocations_of_segment(self)
 
     # Versions.
 
@@ -276,18 +274,10 @@ class ElfFile(Reading):
         """The dynamic entries up to that with tag 0 (DT_NULL), which is the last: those of the section of type SHT_DYNAMIC,
         or else of the segment of type PT_DYNAMIC. None if the file has neither."""
         table = next(iter(self._sections_of(SHT_DYNAMIC)), None)
-        for entry in table.dynamic() if table else self._entries_of_segment():
+        for entry in table.dynamic() if table else entries_of_segment(self):
             yield entry
             if entry.tag == DT_NULL:
                 return
-
-    def _entries_of_segment(self) -> Iterator[Dynamic]:
-        segment = next((it for it in self.segments() if it.type == PT_DYNAMIC), None)
-        data = segment.data() if segment else memoryview(b"")
-        layout = Struct(("<" if self.little_endian else ">") + ("QQ" if self.elfclass == 64 else "II"))
-        if len(data) % layout.size:
-            raise ElfError(Status.NOT_MULTIPLE)
-        return (Dynamic(DT(tag), value) for tag, value in layout.iter_unpack(bytes(data)))
 
     @property
     def needed(self) -> List[str]:
@@ -334,14 +324,25 @@ class ElfFile(Reading):
         return self._address_indexes[within]
 
     def _new_address_index(self, within: int) -> Optional[AddressIndex]:
+        # No section has an index of more than 32 bits.
+        if self._address_table is None or unsigned(within) >> 32:
+            return None
+        return AddressIndex(self, *self._address_table, within)
+
+    @cached_property
+    def _address_table(self) -> Optional[Tuple[Any, Tuple[int, int]]]:
+        """The symbols that name addresses, and the range of their section indices that need more than 16 bits."""
         sections = list(self.sections())
         symbols = next((it for type in (SHT_SYMTAB, SHT_DYNSYM) for it in sections if it.type == type), None)
         table = self._table("xmas_elf_symbols_open", symbols.index) if symbols else self._dynamic_table
-        # No section has an index of more than 32 bits.
-        if table is None or unsigned(within) >> 32:
+        if table is None:
             return None
         wide = next((it for it in sections if symbols and it.type == SHT_SYMTAB_SHNDX and it.link == symbols.index), None)
-        return AddressIndex(self, table, (wide.offset, wide.size) if wide else (0, 0), within)
+        return table, (wide.offset, wide.size) if wide else (0, 0)
+
+    @cached_property
+    def _section_symbols(self) -> Optional[SectionSymbols]:
+        return None if self._address_table is None else SectionSymbols(self, *self._address_table)
 
     @cached_property
     def _address_indexes(self) -> Dict[int, Optional[AddressIndex]]:
@@ -439,7 +440,7 @@ class ElfFile(Reading):
         except ElfError as error:
             if error.status == Status.LINK_NO_DYNAMIC:
                 return None
-            if error.status == Status.LINK_NO_ENTRY and all(it.tag != DT_SYMTAB for it in self._entries_of_segment()):
+            if error.status == Status.LINK_NO_ENTRY and all(it.tag != DT_SYMTAB for it in entries_of_segment(self)):
                 return None
             raise
 

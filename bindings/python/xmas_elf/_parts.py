@@ -10,7 +10,7 @@ from . import _declarations as declared
 from ._archive import check, library
 from ._declarations import _document
 from ._numbers import unsigned
-from ._rows import NUMBER, Row, batches, one, rows
+from ._rows import NUMBER, Row, batches, of_segment, one, rows
 from .constants import DT, EM_386, EM_AARCH64, EM_X86_64, PF, PF_R, PF_W, PF_X, PT, R_386, R_AARCH64, R_X86_64
 from .constants import SHF, SHN, SHN_LORESERVE, SHN_UNDEF, SHT, SHT_NOBITS, SHT_NULL, STB, STT, STV
 
@@ -154,10 +154,25 @@ _RELOCATIONS = {
 }
 
 
-def _records(kind: Type[_Record], export: str, layout: Struct, *arguments: Any) -> Iterator[_Record]:
-    """The records of a table as tuples of a kind, by calls in C alone."""
+def _as(kind: Type[_Record], records: Iterator[Row]) -> Iterator[_Record]:
+    """Records as tuples of a kind, by calls in C alone."""
     make: Callable[[Type[_Record], Row], _Record] = tuple.__new__
-    return map(make, repeat(kind), rows(export, layout, *arguments))
+    return map(make, repeat(kind), records)
+
+
+def entries_of_segment(file: Any) -> Iterator[Dynamic]:
+    """The dynamic entries of the segment of type PT_DYNAMIC, those after the entry with tag 0 too."""
+    return (Dynamic(DT(tag), value) for tag, value in of_segment(file, "xmas_elf_dynamic_entries", declared.DYNAMIC))
+
+
+def relocations_of_segment(file: Any) -> Iterator[Relocation]:
+    """Those of the tables DT_RELA, DT_REL and DT_JMPREL, in this order."""
+    return _as(relocation_kind(file), of_segment(file, "xmas_elf_dynamic_relocations", _RELOCATIONS[file.elfclass]))
+
+
+def packed_relocations_of_segment(file: Any) -> Iterator[int]:
+    """The addresses in the table DT_RELR."""
+    return (address for (address,) in of_segment(file, "xmas_elf_dynamic_packed_relocations", NUMBER))
 
 
 def _symbols_of_batch(view: memoryview, records: Iterator[Row], names: Iterator[Row]) -> List[Symbol]:
@@ -215,7 +230,7 @@ class Section(declared.SectionRecord):
     def relocations(self) -> Iterator[Relocation]:
         """The relocations. An error if the section has none by its type."""
         layout = _RELOCATIONS[self.file.elfclass]
-        return _records(relocation_kind(self.file), "xmas_elf_relocations", layout, *self.file._input, self.index)
+        return _as(relocation_kind(self.file), rows("xmas_elf_relocations", layout, *self.file._input, self.index))
 
     def packed_relocations(self) -> Iterator[int]:
         """The addresses in the packed relative relocations. An error if the section isn't of type SHT_RELR."""

@@ -8,7 +8,7 @@ from . import _declarations as declared
 from ._archive import ElfError, check, library
 from ._declarations import Status, _document
 from ._input import address_of, view_of
-from ._tables import relocations_of
+from ._parts import relocations_of_segment
 from ._versions import Version, VersionKind
 from .constants import EM_386, EM_X86_64, STB_LOCAL, STB_WEAK
 
@@ -82,7 +82,7 @@ def _unresolved(objects: Sequence[LoadObject], of: int) -> Optional[str]:
     """The first symbol of the relocations of an object that is in none of the objects, with its version."""
     file = objects[of].file
     symbols = list(file.versioned_symbols())
-    for index in dict.fromkeys(it.symbol for it in relocations_of(file)):
+    for index in dict.fromkeys(it.symbol for it in relocations_of_segment(file)):
         symbol, version = symbols[index] if index < len(symbols) else (None, None)
         if symbol is None or not symbol.name or symbol.binding in (STB_LOCAL, STB_WEAK):
             continue

@@ -6,7 +6,7 @@ from itertools import chain
 from struct import Struct
 from typing import Any, Iterator, Tuple
 
-from ._archive import check, library
+from ._archive import ElfError, check, library
 from ._declarations import Status
 
 Row = Tuple[Any, ...]
@@ -41,3 +41,13 @@ def one(export: str, layout: Struct, *arguments: Any) -> Row:
 def rows(export: str, layout: Struct, *arguments: Any, room: int = ROOM) -> Iterator[Row]:
     """The records of a table from index 0 on."""
     return chain.from_iterable(batches(export, layout, *arguments, room=room))
+
+
+def of_segment(file: Any, export: str, layout: Struct) -> Iterator[Row]:
+    """The records of a table of the dynamic segment; none if there is no such segment. Some calls read the records from the
+    first on, so they are given room for many."""
+    try:
+        yield from rows(export, layout, *file._input, room=min(1 << 16, 1 + len(file._view) // 8))
+    except ElfError as error:
+        if error.status != Status.LINK_NO_DYNAMIC:
+            raise

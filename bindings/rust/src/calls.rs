@@ -68,6 +68,12 @@ pub(crate) fn every(asked: &Asked<'_>, mut heard: impl FnMut(&str, Result<(), Er
     heard("packed_relocations", answer, &[Error::ShortSectionHeader, Error::UnknownClass, Error::SmallEntry, Error::OtherData, Error::DataRange, Error::LinkNotMultiple, Error::NoRecord]);
     let answer = ffi::dynamics(input, header, asked.section, asked.index, &mut [Dynamic::default(); 3]).map(|_| ());
     heard("dynamics", answer, &[Error::ShortSectionHeader, Error::UnknownClass, Error::SmallEntry, Error::InvalidShType, Error::DataRange, Error::NotMultiple, Error::Note32, Error::ShortData, Error::OtherData, Error::NoRecord]);
+    let answer = ffi::dynamic_entries(input, header, asked.index, &mut [Dynamic::default(); 3]).map(|_| ());
+    heard("dynamic_entries", answer, &[Error::LinkNoDynamic, Error::DataRange, Error::UnknownClass, Error::NotMultiple, Error::NoRecord]);
+    let answer = ffi::dynamic_relocations(input, header, asked.index, &mut [Relocation::default(); 3]).map(|_| ());
+    heard("dynamic_relocations", answer, &[Error::LinkNoDynamic, Error::DataRange, Error::NotMultiple, Error::LinkNoEntry, Error::LinkRelocationKind, Error::LinkAddress, Error::NoRecord]);
+    let answer = ffi::dynamic_packed_relocations(input, header, asked.index, &mut [u64::default(); 3]).map(|_| ());
+    heard("dynamic_packed_relocations", answer, &[Error::LinkNoDynamic, Error::DataRange, Error::NotMultiple, Error::LinkNoEntry, Error::LinkAddress, Error::LinkNotMultiple, Error::NoRecord]);
     let answer = ffi::note(input, header, part, asked.index).map(|_| ());
     heard("note", answer, &[Error::DataRange, Error::NoRecord, Error::LinkShortNote]);
     let answer = ffi::bytes_at(input, header, asked.index, asked.index).map(|_| ());
@@ -76,6 +82,8 @@ pub(crate) fn every(asked: &Asked<'_>, mut heard: impl FnMut(&str, Result<(), Er
     heard("dynamic_texts", answer, &[Error::LinkNoDynamic, Error::DataRange, Error::NotMultiple, Error::NoRecord]);
     let answer = ffi::dynamic_symbols_open(input, header).map(|_| ());
     heard("dynamic_symbols_open", answer, &[Error::LinkNoDynamic, Error::DataRange, Error::NotMultiple, Error::LinkNoEntry, Error::LinkAddress, Error::ShortData, Error::LinkShortTable, Error::LinkBloomCount, Error::LinkChainIndex, Error::LinkChainData, Error::LinkSymbolIndex]);
+    let answer = ffi::file_symbols_open(input, header).map(|_| ());
+    heard("file_symbols_open", answer, &[Error::ShortSectionHeader, Error::UnknownClass, Error::SmallEntry, Error::InvalidShType, Error::DataRange, Error::NotMultiple, Error::Note32, Error::ShortData, Error::OtherData, Error::LinkNoDynamic, Error::LinkNoEntry, Error::LinkAddress, Error::LinkShortTable, Error::LinkBloomCount, Error::LinkChainIndex, Error::LinkChainData, Error::LinkSymbolIndex]);
     let answer = ffi::dynamic_symbol_versions(input, header, asked.index, &mut [Version::default(); 3]).map(|_| ());
     heard("dynamic_symbol_versions", answer, &[Error::LinkNoDynamic, Error::DataRange, Error::NotMultiple, Error::LinkNoEntry, Error::LinkAddress, Error::ShortData, Error::LinkShortTable, Error::LinkBloomCount, Error::LinkChainIndex, Error::LinkChainData, Error::LinkSymbolIndex, Error::NotFound, Error::NoRecord]);
     let answer = ffi::version_definitions(input, header, asked.index, &mut [Version::default(); 3]).map(|_| ());

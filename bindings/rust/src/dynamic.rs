@@ -1,7 +1,7 @@
 //! What the dynamic segment says: needed libraries, symbols and versions. None of it needs section headers.
 
 use crate::batch::{one, Batch};
-use crate::constants::{DT_NEEDED, DT_NULL, DT_RPATH, DT_RUNPATH, DT_SONAME, PT_DYNAMIC, SHT_DYNAMIC};
+use crate::constants::{DT_NEEDED, DT_NULL, DT_RPATH, DT_RUNPATH, DT_SONAME, SHT_DYNAMIC};
 use crate::{ffi, Dynamic, ElfFile, Entry, Error, Name, SymbolTable, SymbolVersion, Version};
 use core::fmt;
 use core::ops::Deref;
@@ -47,22 +47,15 @@ impl<'a> ElfFile<'a> {
     }
 
     /// The dynamic entries up to that of tag 0 (DT_NULL), which is the last: those of the section of type SHT_DYNAMIC, or
-    /// else of the segment of type PT_DYNAMIC, which this crate reads itself. None if the file has neither.
+    /// else of the segment of type PT_DYNAMIC. None if the file has neither.
     pub fn dynamic(&self) -> Result<impl Iterator<Item = Dynamic> + '_, Error> {
         let section = self.sections()?.find(|section| section.type_ == SHT_DYNAMIC);
-        let segment = self.segments()?.find(|segment| section.is_none() && segment.type_ == PT_DYNAMIC);
-        let data = segment.map_or(Ok(&[][..]), |segment| segment.data())?;
-        let width = if self.is_64() { 8 } else { 4 };
-        if data.len() % (2 * width) != 0 {
-            return Err(Error::NotMultiple);
+        if section.is_none() {
+            begun(ffi::dynamic_entries(self.input, &self.header, 0, &mut []))?;
         }
+        let of_segment = section.is_none().then(|| Batch::<Dynamic, 64>::items(|first, out| ffi::dynamic_entries(self.input, &self.header, first, out)));
         let of_section = section.map(|section| section.dynamic()).transpose()?;
-        let big = self.header.encoding == 2;
-        let of_segment = data.chunks_exact(2 * width).map(move |entry| {
-            let (tag, value) = entry.split_at(width);
-            Dynamic { tag: number(tag, big), value: number(value, big) }
-        });
-        let mut entries = of_section.into_iter().flatten().chain(of_segment);
+        let mut entries = of_section.into_iter().flatten().chain(of_segment.into_iter().flatten());
         let mut is_last = false;
         Ok(core::iter::from_fn(move || {
             let entry = if is_last { None } else { entries.next() };

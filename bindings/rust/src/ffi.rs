@@ -53,6 +53,12 @@ extern "C" {
         first: u64, out: *mut u64, out_len: usize, count: *mut u64) -> u32;
     fn xmas_elf_dynamics(input: *const u8, input_len: usize, header: *const Header, section: u64, first: u64,
         out: *mut Dynamic, out_len: usize, count: *mut u64) -> u32;
+    fn xmas_elf_dynamic_entries(input: *const u8, input_len: usize, header: *const Header, first: u64,
+        out: *mut Dynamic, out_len: usize, count: *mut u64) -> u32;
+    fn xmas_elf_dynamic_relocations(input: *const u8, input_len: usize, header: *const Header, first: u64,
+        out: *mut Relocation, out_len: usize, count: *mut u64) -> u32;
+    fn xmas_elf_dynamic_packed_relocations(input: *const u8, input_len: usize, header: *const Header, first: u64,
+        out: *mut u64, out_len: usize, count: *mut u64) -> u32;
     fn xmas_elf_note(input: *const u8, input_len: usize, header: *const Header, part: *const Range, align: u64,
         out: *mut NoteRange) -> u32;
     fn xmas_elf_bytes_at(input: *const u8, input_len: usize, header: *const Header, address: u64, count: u64,
@@ -60,6 +66,8 @@ extern "C" {
     fn xmas_elf_dynamic_texts(input: *const u8, input_len: usize, header: *const Header, tag: u64, first: u64,
         out: *mut Name, out_len: usize, count: *mut u64) -> u32;
     fn xmas_elf_dynamic_symbols_open(input: *const u8, input_len: usize, header: *const Header,
+        out: *mut SymbolTable) -> u32;
+    fn xmas_elf_file_symbols_open(input: *const u8, input_len: usize, header: *const Header,
         out: *mut SymbolTable) -> u32;
     fn xmas_elf_dynamic_symbol_versions(input: *const u8, input_len: usize, header: *const Header, first: u64,
         out: *mut Version, out_len: usize, count: *mut u64) -> u32;
@@ -335,6 +343,43 @@ pub(crate) fn dynamics(input: &[u8], header: &Header, section: u64, first: u64,
     answered(status, count)
 }
 
+/// The dynamic entries of the first segment of type PT_DYNAMIC from index `first` on, also those after the entry with
+/// tag 0. No section header is needed. Errors, in the order of the tests: `LinkNoDynamic`, `DataRange`,
+/// `UnknownClass`, `NotMultiple`, `NoRecord`.
+pub(crate) fn dynamic_entries(input: &[u8], header: &Header, first: u64, out: &mut [Dynamic]) -> Result<u64, Error> {
+    let mut count = u64::default();
+    // SAFETY: see the head of this file.
+    let status = unsafe { xmas_elf_dynamic_entries(input.as_ptr(), input.len(), header, first, out.as_mut_ptr(),
+        out.len(), &mut count) };
+    answered(status, count)
+}
+
+/// The relocations of the dynamic segment from index `first` on: those of the table DT_RELA, then of DT_REL, then of
+/// DT_JMPREL. The index of a symbol is one of `dynamic_symbols_open`. No section header is needed. Each call reads
+/// the relocations before `first` anew, so give much room. Errors, in the order of the tests: `LinkNoDynamic`,
+/// `DataRange`, `NotMultiple`, `LinkNoEntry`, `LinkRelocationKind`, `LinkAddress`, `NoRecord`.
+pub(crate) fn dynamic_relocations(input: &[u8], header: &Header, first: u64,
+    out: &mut [Relocation]) -> Result<u64, Error> {
+    let mut count = u64::default();
+    // SAFETY: see the head of this file.
+    let status = unsafe { xmas_elf_dynamic_relocations(input.as_ptr(), input.len(), header, first, out.as_mut_ptr(),
+        out.len(), &mut count) };
+    answered(status, count)
+}
+
+/// The addresses in the packed relative relocations of the dynamic segment (DT_RELR) from index `first` on;
+/// `NoRecord` also if there are none. No section header is needed. Each call reads the words from the first on, so
+/// give much room. Errors, in the order of the tests: `LinkNoDynamic`, `DataRange`, `NotMultiple`, `LinkNoEntry`,
+/// `LinkAddress`, `LinkNotMultiple`, `NoRecord`.
+pub(crate) fn dynamic_packed_relocations(input: &[u8], header: &Header, first: u64,
+    out: &mut [u64]) -> Result<u64, Error> {
+    let mut count = u64::default();
+    // SAFETY: see the head of this file.
+    let status = unsafe { xmas_elf_dynamic_packed_relocations(input.as_ptr(), input.len(), header, first,
+        out.as_mut_ptr(), out.len(), &mut count) };
+    answered(status, count)
+}
+
 /// The first note of a range, by the alignment of its section or segment (8, and else 4). `NoRecord` is for an empty
 /// range, `LinkShortNote` for one that holds no whole note. The build id of a file is the description of the first
 /// note of type 3 (NT_GNU_BUILD_ID) with name `GNU`, in the sections of type SHT_NOTE or the segments of type
@@ -385,6 +430,19 @@ pub(crate) fn dynamic_symbols_open(input: &[u8], header: &Header) -> Result<Symb
     let mut out = SymbolTable::default();
     // SAFETY: see the head of this file.
     let status = unsafe { xmas_elf_dynamic_symbols_open(input.as_ptr(), input.len(), header, &mut out) };
+    answered(status, out)
+}
+
+/// Finds the symbols of a file, once for many calls of `symbols` and `symbol_names`: those of the first section of
+/// type SHT_SYMTAB, as `symbols_open` does, and of a file without such a section, as after `strip`, those of the
+/// dynamic segment, as `dynamic_symbols_open` does. Errors, in the order of the tests: `ShortSectionHeader`,
+/// `UnknownClass`, `SmallEntry`, `InvalidShType`, `DataRange`, `NotMultiple`, `Note32`, `ShortData`, `OtherData`,
+/// `LinkNoDynamic`, `LinkNoEntry`, `LinkAddress`, `LinkShortTable`, `LinkBloomCount`, `LinkChainIndex`,
+/// `LinkChainData`, `LinkSymbolIndex`.
+pub(crate) fn file_symbols_open(input: &[u8], header: &Header) -> Result<SymbolTable, Error> {
+    let mut out = SymbolTable::default();
+    // SAFETY: see the head of this file.
+    let status = unsafe { xmas_elf_file_symbols_open(input.as_ptr(), input.len(), header, &mut out) };
     answered(status, out)
 }
 

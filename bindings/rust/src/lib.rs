@@ -56,6 +56,8 @@ mod records;
 mod relocations;
 pub mod sections;
 #[cfg(feature = "alloc")]
+mod section_symbols;
+#[cfg(feature = "alloc")]
 mod symbol_map;
 pub mod symbol_table;
 mod symbols;
@@ -80,6 +82,8 @@ pub use ranges::LookUp;
 pub use records::{Answer, Dynamic, Entry, Header, LoadObject, Mapping, Name, ProgramHeader, Relocation, SectionHeader, Span, SymbolTable, TlsTemplate, Version};
 #[cfg(feature = "alloc")]
 pub use pieces::{Owner, Piece, SymbolPiece};
+#[cfg(feature = "alloc")]
+pub use section_symbols::SectionSymbols;
 #[cfg(feature = "alloc")]
 pub use symbol_map::{SymbolAt, SymbolMap};
 pub use dynamic::{DynamicSymbol, DynamicSymbols};
@@ -254,6 +258,13 @@ impl<'a> ElfFile<'a> {
     #[cfg(feature = "alloc")]
     pub fn symbol_map(&self) -> Result<SymbolMap<'_, 'a>, Error> {
         SymbolMap::new(self, 0)
+    }
+
+    /// The symbols of the file by section, for the pieces of many sections. It allocates the sizes of the symbol table and its
+    /// string table, and 8 bytes for each symbol.
+    #[cfg(feature = "alloc")]
+    pub fn section_symbols(&self) -> Result<SectionSymbols<'_, 'a>, Error> {
+        SectionSymbols::new(self)
     }
 
     /// The plan of a load: whether Linux and glibc load the file, and what they put where. Pages have 4096 bytes, and the

@@ -49,7 +49,7 @@ pub struct SymbolPiece<'a> {
 }
 
 // The number of a symbol among the owners of the archive.
-const SYMBOL: u32 = 7;
+pub(crate) const SYMBOL: u32 = 7;
 
 impl Piece {
     fn of(piece: records::Piece) -> Piece {
@@ -67,7 +67,7 @@ impl Piece {
 }
 
 // The pieces that a call stores, which returns their number: it is asked again if there was too little room.
-fn stored(room: usize, mut ask: impl FnMut(&mut [records::Piece]) -> Result<u64, Error>) -> Vec<records::Piece> {
+pub(crate) fn stored(room: usize, mut ask: impl FnMut(&mut [records::Piece]) -> Result<u64, Error>) -> Vec<records::Piece> {
     let mut pieces = vec![records::Piece::default(); room];
     // Of words that the archive has counted there are not too few.
     let mut count = ask(&mut pieces).unwrap_or(0) as usize;
@@ -95,7 +95,8 @@ impl<'a> ElfFile<'a> {
 impl<'f, 'a> Section<'f, 'a> {
     /// Which addresses of the section belong to which symbol: that of [`crate::SymbolMap::symbol_at`], of the symbols of the
     /// section, if its size is not 0. Every address is in exactly one piece. It allocates 8 bytes for each symbol of the
-    /// section, and 32 for each piece. An error if the symbols can't be read; of a file without symbols all is in none.
+    /// section, and 32 for each piece. An error if the symbols can't be read; of a file without symbols all is in none. It
+    /// passes over all symbols of the file: for many sections use [`ElfFile::section_symbols`].
     pub fn symbol_pieces(&self) -> Result<impl ExactSizeIterator<Item = SymbolPiece<'a>> + 'f, Error> {
         let file = self.file;
         let begin = if file.header.type_ == ET_REL { 0 } else { self.header.address };

@@ -70,14 +70,19 @@ fn indices_of(file: &ElfFile<'_>, section: Option<Section<'_, '_>>) -> ByteRange
     found.map_or(ByteRange::default(), |indices| ByteRange { offset: indices.offset, size: indices.size })
 }
 
+// The symbols of a file, and the range of their section indices that need more than 16 bits; none if the file has no symbols.
+pub(crate) fn address_symbols(file: &ElfFile<'_>) -> Result<Option<(SymbolTable, ByteRange)>, Error> {
+    let section = section_with_symbols(file)?;
+    Ok(table_of(file, section)?.map(|table| (table, indices_of(file, section))))
+}
+
 // The symbols of a file, or of one of its sections alone, and the number of words that an index of them takes; none if the file
 // has no symbols.
 pub(crate) fn asked_index(file: &ElfFile<'_>, within: u32) -> Result<AddressIndex, Error> {
-    let section = section_with_symbols(file)?;
-    let Some(table) = table_of(file, section)? else {
-        return Ok(AddressIndex::default());
-    };
-    ffi::address_index(file.input(), file.header(), &table, &indices_of(file, section), within, &mut [])
+    match address_symbols(file)? {
+        Some((table, indices)) => ffi::address_index(file.input(), file.header(), &table, &indices, within, &mut []),
+        None => Ok(AddressIndex::default()),
+    }
 }
 
 // The index of these symbols, with its words.

@@ -129,7 +129,12 @@ fn visit_pieces(file: &ElfFile<'_>) {
         end = piece.end;
     }
     assert_eq!(end, file.input().len() as u64);
+    let by_section = file.section_symbols();
     for section in file.readable_sections().take(100) {
+        if let (Ok(pieces), Ok(all)) = (section.symbol_pieces(), &by_section) {
+            let shown = |it: xmas_elf_proved::SymbolPiece<'_>| (it.begin, it.end, it.symbol.map(|symbol| (symbol.value, symbol.size)));
+            assert!(pieces.map(shown).eq(all.pieces(&section).into_iter().flatten().map(shown)));
+        }
         let mut end = None;
         for piece in section.symbol_pieces().into_iter().flatten() {
             assert!(end.map_or(true, |end| end == piece.begin) && piece.begin < piece.end);

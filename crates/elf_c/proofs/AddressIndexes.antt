@@ -22,8 +22,8 @@ use Rattle.elf_base.specs.declared.error.ElfError.{ElfError}
 use Rattle.elf_base.specs.declared.error.ElfError.TheVariants.{NotMultiple}
 use Rattle.xmas_elf.specs.Ranges.{range_of}
 use Rattle.xmas_elf.specs.Symbol.{SymbolFields, dyn_entry_32, dyn_entry_32_fields, dyn_entry_64, dyn_entry_64_fields}
-use Rattle.elf_c.specs.AddressIndex.{Addresses, AreAnswered, AreStored, IsAnswer, IsAnswerIn, IsIndexIn, IsIndexWith, addresses_by, addresses_of, claim_by, claim_in, claimed_at, open_number, range_in, sizes_of, sizes_with, symbol_at, symbols_by, symbols_in, told, within_of, words_by}
-use Rattle.elf_c.specs.Records.{found_in, taken_for}
+use Rattle.elf_c.specs.AddressIndex.{Addresses, AreAnswered, AreStored, IsAnswer, IsAnswerIn, IsIndexIn, IsIndexWith, addresses_by, addresses_of, claim_by, claim_in, claimed_at, range_in, sizes_of, sizes_with, symbol_at, symbols_by, symbols_in, told, within_of, words_by}
+use Rattle.elf_c.specs.Records.{flag_number, found_in, taken_for}
 use Rattle.elf_c.specs.Status.{and_so}
 use Rattle.elf_c.specs.SymbolTables.{AreSymbolsBy, AreSymbolsIn, symbol_among, symbol_by}
 use Rattle.elf_c.specs.Symbols.{symbol_record}
@@ -66,7 +66,7 @@ told_is fields symbols address (Some at) tells =
     let there : slice_get (map fields (symbol_items symbols)) at.index ≡ Some symbol = slice_get-map fields (symbol_items symbols) at.index ∙ ap (option_map fields) tells.stands in
     let sum = tells.offset in
     let offset : at.offset ≡ address - symbol.value = omega (arith, sum) in
-    let numbers : ℕ → Bool → SymbolAt = λ n b. record { symbol = symbol_record symbol; index = at.index; offset = n; found = 1; is_open = open_number b } in
+    let numbers : ℕ → Bool → SymbolAt = λ n b. record { symbol = symbol_record symbol; index = at.index; offset = n; found = 1; is_open = flag_number b } in
     ap (λ n. numbers n at.open) offset ∙ ap (λ b. numbers (address - symbol.value) b) tells.is_open ∙ ap (symbol_at address at.index) (sym there)
 
 -- sizes, indexes and answers by the library's table are those by its symbols

@@ -20,3 +20,5 @@ pub mod LoadPlans
 pub mod ListedPieces
 pub mod LoadObjects
 pub mod LoadImages
+pub mod DynamicRelocations
+pub mod OpenedFiles

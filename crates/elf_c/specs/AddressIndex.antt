@@ -19,6 +19,7 @@ use Rattle.elf_base.specs.declared.error.ElfError.TheVariants.{NotMultiple}
 use Rattle.xmas_elf.specs.Ranges.{range_of}
 use Rattle.xmas_elf.specs.Symbol.{SymbolFields, dyn_entry_32, dyn_entry_32_fields, dyn_entry_64, dyn_entry_64_fields}
 use Rattle.elf_c.specs.FoundSymbols.{no_symbol}
+use Rattle.elf_c.specs.Records.{flag_number}
 use Rattle.elf_c.specs.Status.{and_so}
 use Rattle.elf_c.specs.Symbols.{symbol_record}
 use Rattle.elf_c.specs.declared.address_index.AddressIndex.{AddressIndex}
@@ -146,10 +147,6 @@ abbrev pub IsIndexOf : List ℕ → AddressIndex → List ℕ → Type 0
 IsIndexOf input index words = IsOkAnd (addresses_by input index.table index.indices index.machine)
     (λ all. IsIndexIn all (within_of index.within) index.sized_count index.open_count words)
 
--- 1 for a symbol of size 0, otherwise 0
-abbrev pub open_number : Bool → ℕ
-open_number is_open = if is_open then 1 else 0
-
 -- the numbers of no symbol
 abbrev pub no_symbol_at : SymbolAt
 no_symbol_at = record { symbol = no_symbol; index = 0; offset = 0; found = 0; is_open = 0 }
@@ -162,7 +159,7 @@ symbol_at address index (Some symbol) = record {
   index = index;
   offset = address - symbol.value;
   found = 1;
-  is_open = open_number (symbol.size == 0);
+  is_open = flag_number (symbol.size == 0);
 }
 
 -- the numbers of the symbol of a claim that was found, if any
@@ -220,5 +217,5 @@ told fields (Some at) = record {
   index = at.index;
   offset = at.offset;
   found = 1;
-  is_open = open_number at.open;
+  is_open = flag_number at.open;
 }

@@ -1,6 +1,7 @@
 -- Many records in one call (this project's own).
 use Rattle.std.specs.Prelude.{◌≡◌, ◌<◌, ◌≤◌, ◌+◌, ◌⊎◌, ℕ, List, length, slice_get, Result, Ok, Err}
 use Rattle.elf_c.specs.Records.{found_in}
+use Rattle.elf_c.specs.Status.{GivesHere}
 use Rattle.elf_c.specs.declared.status.Refusal.{Refusal}
 use Rattle.elf_c.specs.declared.status.Refusal.TheVariants.{NoRecord}
 
@@ -23,3 +24,8 @@ FillsBy item first old _ _ new = ⊥
 -- the result of a call for many records
 abbrev pub Fills : {T : Type 0} → (ℕ → Result T Refusal) → ℕ → List T → Result ℕ Refusal → List T → Type 0
 Fills item first old answer new = FillsBy item first old (item first) answer new
+
+-- the result of an export for many records: a status, and their number, which is stored if the status is 0
+abbrev pub Stores : {T : Type 0} → (ℕ → Result T Refusal) → ℕ → List T → List T → ℕ → ℕ → ℕ → Type 0
+Stores item first old new count status stored = (answer : Result ℕ Refusal)
+    × Fills item first old answer new × GivesHere answer count status stored

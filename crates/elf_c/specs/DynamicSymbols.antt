@@ -1,7 +1,8 @@
--- The symbols of the dynamic segment, which is found without section headers (gABI, "Dynamic Section": DT_SYMTAB,
--- and "Symbol Table"; their number is that of a hash table: "Hash Table", nchain, and the convention of GNU
--- binutils and glibc).
-use Rattle.std.specs.Prelude.{◌≡◌, ℕ, ◌*◌, ◌==◌, List, Option, None, Some, Result, Ok, Err, if◌then◌else◌}
+-- The symbols of the dynamic segment, which is found without section headers, and those of a file (gABI, "Dynamic
+-- Section": DT_SYMTAB, and "Symbol Table"; their number is that of a hash table: "Hash Table", nchain, and the
+-- convention of GNU binutils and glibc).
+use Rattle.std.specs.Prelude.{◌≡◌, ℕ, ◌*◌, ◌==◌, List, MatchOption, Option, None, Some, Result, Ok, Err, if◌then◌else◌}
+use Rattle.elf_addresses.specs.Symtab.{IsSymtabSection}
 use Rattle.elf_base.specs.FileHeader.{encoding_number, file_class, file_order}
 use Rattle.elf_base.specs.Table.{records}
 use Rattle.elf_linking.specs.DynamicView.{AreSymbols, IsSymbolCount, dynamic_entries_of, number_with}
@@ -9,11 +10,14 @@ use Rattle.elf_linking.specs.declared.error.LinkError.{LinkError}
 use Rattle.elf_linking.specs.declared.error.LinkError.TheVariants.{NoEntry}
 use Rattle.elf_records.specs.declared.dynamic.Dynamic.{Dynamic}
 use Rattle.elf_linking.specs.declared.view.tags.TheConstants.{DT_SYMTAB}
+use Rattle.xmas_elf.specs.First.{FindsFirstAt}
+use Rattle.xmas_elf.specs.SectionHeader.{section_list}
 use Rattle.xmas_elf.specs.Symbol.{SymbolFields, dyn_entry_32, dyn_entry_32_fields, dyn_entry_64, dyn_entry_64_fields}
 use Rattle.xmas_elf.specs.declared.ElfFile.{ElfFile}
 use Rattle.elf_c.specs.Addresses.{range_at_address}
 use Rattle.elf_c.specs.DynamicTexts.{linked_name, range_in_strings, strings_range}
 use Rattle.elf_c.specs.Records.{found_in}
+use Rattle.elf_c.specs.SymbolTables.{table_of_section}
 use Rattle.elf_c.specs.declared.names.Name.{Name}
 use Rattle.elf_c.specs.declared.names.Range.{Range}
 use Rattle.elf_c.specs.declared.status.Refusal.{Refusal}
@@ -97,3 +101,9 @@ table_by file (Err error) count = Err (Link error)
 abbrev pub IsSegmentTable : ElfFile → Result SymbolTable Refusal → Type 0
 IsSegmentTable file answer = (count : Result ℕ LinkError)
     × IsDynamicCount file count × (answer ≡ table_by file (dynamic_entries_of file) count)
+
+-- the result is the record of the symbols of a file, or why there are none: those of the first section of type
+-- SHT_SYMTAB, or, if there is no such section, those of the dynamic segment
+abbrev pub IsFileTable : ElfFile → Result SymbolTable Refusal → Type 0
+IsFileTable file answer = (found : Option ℕ) × FindsFirstAt IsSymtabSection (section_list file) found
+    × MatchOption found (IsSegmentTable file answer) (λ index. answer ≡ table_of_section file index)

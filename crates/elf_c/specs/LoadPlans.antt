@@ -16,7 +16,7 @@ use Rattle.elf_loading.specs.declared.mapping.Mapping.{Mapping}
 use Rattle.elf_loading.specs.declared.span.Span as loading
 use Rattle.xmas_elf.specs.Types.{ElfFile}
 use Rattle.elf_linking.specs.declared.segments.Segment.{Segment}
-use Rattle.elf_c.specs.Records.{found_in, range_at}
+use Rattle.elf_c.specs.Records.{flag_number, found_in, range_at}
 use Rattle.elf_c.specs.declared.load_plans.LoadMapping.{LoadMapping}
 use Rattle.elf_c.specs.declared.load_plans.Plan.{Plan}
 use Rattle.elf_c.specs.declared.load_plans.Span.{Span}
@@ -66,13 +66,9 @@ abbrev pub path_range : List ℕ → Option Segment → Range
 path_range input None = range_at 0 0
 path_range input (Some segment) = range_at segment.offset (path_size (bytes_up_to_zero_of input segment.offset))
 
--- 1 for true, otherwise 0
-abbrev pub number_of : Bool → ℕ
-number_of is = if is then 1 else 0
-
 -- 1 if there is a segment of a kind, otherwise 0
 abbrev pub presence : Option Segment → ℕ
-presence segment = number_of (is_some segment)
+presence segment = flag_number (is_some segment)
 
 -- the numbers of the plan of a file with this size of a page
 abbrev pub plan_record : ElfFile → ℕ → Plan

@@ -1,19 +1,18 @@
 -- The pieces of a file and those of its symbols, as numbers: which bytes belong to what (this project's own).
-use Rattle.std.specs.Prelude.{◌≡◌, ◌<◌, ◌≤◌, ◌+◌, ◌-◌, ◌^◌, ℕ, ◌==◌, ◌&&◌, nat_le, nat_lt, max, Bool, List, [], ◌∷◌, length, map, slice_get, slice_set, Option, None, Some, Result, Ok, Err, MatchResult, if◌then◌else◌}
+use Rattle.std.specs.Prelude.{◌≡◌, ◌<◌, ◌≤◌, ◌+◌, ◌-◌, ℕ, ◌==◌, ◌&&◌, nat_le, nat_lt, max, Bool, List, [], ◌∷◌, length, map, slice_get, slice_set, Option, None, Some, Result, Ok, Err, MatchResult, if◌then◌else◌}
 use Rattle.std.specs.Bool.{MatchBool}
 use Rattle.elf_addresses.specs.FileClaims.{byte_count, piece_words}
-use Rattle.elf_addresses.specs.Index.{word_count}
 use Rattle.elf_addresses.specs.Pieces.{ArePieces, IsInPiece, piece_sizes}
 use Rattle.elf_addresses.specs.SymbolPieces.{IsSizedRun}
 use Rattle.elf_addresses.specs.declared.claim.Claim.{Claim}
-use Rattle.elf_addresses.specs.declared.error.IndexError.TheVariants.{FewWords, ManySymbols}
+use Rattle.elf_addresses.specs.declared.error.IndexError.TheVariants.{FewWords}
 use Rattle.elf_addresses.specs.declared.owner.Owner.{Owner}
 use Rattle.elf_addresses.specs.declared.owner.Owner.TheVariants.{ElfHeader, ProgramHeaders, SectionHeaders, Section, Segment, Between, Behind}
 use Rattle.elf_addresses.specs.declared.pieces.Piece as addresses
 use Rattle.elf_addresses.specs.declared.symbol_pieces.SymbolPiece.{SymbolPiece}
 use Rattle.elf_base.specs.Refusal.{and_then, unless}
 use Rattle.xmas_elf.specs.Types.{ElfFile}
-use Rattle.elf_c.specs.AddressIndex.{Addresses, addresses_by, claim_in, within_of}
+use Rattle.elf_c.specs.AddressIndex.{Addresses, addresses_by, claim_in, index_rows, within_of}
 use Rattle.elf_c.specs.declared.address_index.AddressIndex.{AddressIndex}
 use Rattle.elf_c.specs.declared.pieces.Piece.{Piece}
 use Rattle.elf_c.specs.declared.pieces.PieceSizes.{PieceSizes}
@@ -98,10 +97,7 @@ AreRuns claim_of limit begin (piece ∷ pieces) =
 
 -- why an index of symbols can't be built in words
 abbrev pub runs_refused : (ℕ → Option Claim) → ℕ → List ℕ → Result (Unit {0}) Refusal
-runs_refused claim_of count words = unless (
-    (nat_le (2 ^ 32) count, Index ManySymbols)
-    ∷ (nat_lt (length words) (word_count claim_of count), Index FewWords)
-    ∷ []) tt
+runs_refused claim_of count words = unless (index_rows claim_of count words) tt
 
 -- the result of a call for the pieces of a range of addresses by symbols
 abbrev pub AreListedIn : Addresses → Option ℕ → ℕ × ℕ → ℕ → List ℕ → List Piece → Result ℕ Refusal → List Piece → Type 0

@@ -1,11 +1,12 @@
 -- The records that the exports fill, by the values of the library (this project's own).
-use Rattle.std.specs.Prelude.{◌≡◌, ◌<◌, ◌≤◌, ℕ, ◌+◌, ◌-◌, ◌==◌, nat_lt, Bool, List, [], ◌∷◌, length, slice_get, Option, None, Some, Result, Ok, Err, if◌then◌else◌}
+use Rattle.std.specs.Prelude.{◌≡◌, ◌<◌, ◌≤◌, ℕ, ◌+◌, ◌-◌, ◌%◌, ◌==◌, nat_lt, Bool, List, [], ◌∷◌, length, slice_get, Option, None, Some, Result, Ok, Err, if◌then◌else◌}
 use Rattle.std.specs.Str.{is_utf8}
 use Rattle.elf_base.specs.Message.{error_number}
 use Rattle.elf_base.specs.Refusal.{and_then, unless}
+use Rattle.elf_base.specs.Table.{records}
 use Rattle.elf_base.specs.Text.{text_of}
 use Rattle.elf_base.specs.declared.error.ElfError.{ElfError}
-use Rattle.elf_base.specs.declared.error.ElfError.TheVariants.{ShortSectionOffset}
+use Rattle.elf_base.specs.declared.error.ElfError.TheVariants.{NotMultiple, ShortSectionOffset}
 use Rattle.elf_linking.specs.declared.sections.TheConstants.{SHT_RELR}
 use Rattle.elf_records.specs.ProgramNumbers.{ph_type_number}
 use Rattle.xmas_elf.specs.Checks.{section_check}
@@ -22,7 +23,7 @@ use Rattle.elf_c.specs.declared.names.Range.{Range}
 use Rattle.elf_c.specs.declared.sections.Section.{Section}
 use Rattle.elf_c.specs.declared.segments.Segment.{Segment}
 use Rattle.elf_c.specs.declared.status.Refusal.{Refusal}
-use Rattle.elf_c.specs.declared.status.Refusal.TheVariants.{NoRecord, NotFound}
+use Rattle.elf_c.specs.declared.status.Refusal.TheVariants.{Elf, NoRecord, NotFound}
 
 -- the record of an item, or that there is none
 abbrev pub taken_for : {A T : Type 0} → (A → T) → Option A → Result T Refusal
@@ -63,6 +64,15 @@ section_record section = let fields = section_fields section in record {
   link = fields.link;
   info = fields.info;
 }
+
+-- the value of the record at an index of bytes that are a whole number of records of a size, or why there is none
+abbrev pub record_among : {A T : Type 0} → (A → T) → ℕ → (List ℕ → A) → List ℕ → ℕ → Result T Refusal
+record_among value size decode bytes index =
+    if length bytes % size == 0 then found_in value (records size decode bytes) index else Err (Elf NotMultiple)
+
+-- 1 for true, otherwise 0
+abbrev pub flag_number : Bool → ℕ
+flag_number is = if is then 1 else 0
 
 -- the record of a section that was found
 abbrev pub section_found : Option SectionHeader → Result Section Refusal

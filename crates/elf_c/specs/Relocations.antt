@@ -1,15 +1,22 @@
--- The relocations of a section, as numbers (gABI, "Relocation").
-use Rattle.std.specs.Prelude.{ℕ, Result, Err}
+-- The relocations of a section and of the dynamic segment, as numbers (gABI, "Relocation" and "Dynamic Section").
+use Rattle.std.specs.Prelude.{ℕ, ◌++◌, ◌==◌, Bool, true, false, List, map, Option, None, Some, Result, Ok, Err}
 use Rattle.elf_base.specs.Table.{records}
+use Rattle.elf_linking.specs.DynamicView.{dynamic_entries_of, number_with}
+use Rattle.elf_linking.specs.References.{Tables, relocation_tables}
+use Rattle.elf_linking.specs.declared.error.LinkError.{LinkError}
+use Rattle.elf_linking.specs.declared.references.Reference.{Reference}
+use Rattle.elf_linking.specs.declared.view.tags.TheConstants.{DT_PLTREL, DT_RELA}
+use Rattle.elf_records.specs.declared.dynamic.Dynamic.{Dynamic}
 use Rattle.elf_records.specs.Relocations as relocation
 use Rattle.elf_records.specs.declared.sections.relocations.Rel.{Rel}
 use Rattle.elf_records.specs.declared.sections.relocations.Rela.{Rela}
 use Rattle.xmas_elf.specs.Content as kind
 use Rattle.xmas_elf.specs.Content.{Content, table_of}
-use Rattle.elf_c.specs.Records.{found_in}
+use Rattle.xmas_elf.specs.declared.ElfFile.{ElfFile}
+use Rattle.elf_c.specs.Records.{flag_number, found_in}
 use Rattle.elf_c.specs.declared.relocations.Relocation.{Relocation}
 use Rattle.elf_c.specs.declared.status.Refusal.{Refusal}
-use Rattle.elf_c.specs.declared.status.Refusal.TheVariants.{OtherData}
+use Rattle.elf_c.specs.declared.status.Refusal.TheVariants.{Link, OtherData}
 
 -- the numbers of a relocation with an addend, where `symbol` and `type_` decode its info
 abbrev pub rela_record : (ℕ → ℕ) → (ℕ → ℕ) → Rela ℕ → Relocation
@@ -42,3 +49,38 @@ relocation_in index (table_of kind.rel_32 order bytes) =
 relocation_in index (table_of kind.rel_64 order bytes) =
     found_in (rel_record relocation.symbol_in_64 relocation.type_in_64) (records 16 (relocation.rel_64 order) bytes) index
 relocation_in index _ = Err OtherData
+
+-- the numbers of a relocation of a table with addends or without
+abbrev pub reference_record : Bool → Reference → Relocation
+reference_record addends reference = record {
+  offset = reference.offset;
+  addend = reference.addend;
+  symbol = reference.symbol;
+  type_ = reference.kind;
+  has_addend = flag_number addends;
+}
+
+-- those of the table of DT_RELA, of that of DT_REL, and of that of DT_JMPREL, which has addends or not
+abbrev pub dynamic_records : Bool → Tables → List Relocation
+dynamic_records addends tables = map (reference_record true) tables.rela
+    ++ (map (reference_record false) tables.rel ++ map (reference_record addends) tables.plt)
+
+-- a table of this kind (DT_PLTREL) has addends
+abbrev pub is_rela : Option ℕ → Bool
+is_rela None = false
+is_rela (Some kind) = kind == DT_RELA
+
+-- the relocation at an index of the tables of the entries, or why there is none
+abbrev pub tables_relocation : List (Dynamic ℕ) → ℕ → Result Tables LinkError → Result Relocation Refusal
+tables_relocation entries index (Ok tables) =
+    found_in (λ one. one) (dynamic_records (is_rela (number_with DT_PLTREL entries)) tables) index
+tables_relocation entries index (Err error) = Err (Link error)
+
+-- the same by the entries, if these can be read
+abbrev pub entries_relocation : ElfFile → ℕ → Result (List (Dynamic ℕ)) LinkError → Result Relocation Refusal
+entries_relocation file index (Ok entries) = tables_relocation entries index (relocation_tables file entries)
+entries_relocation file index (Err error) = Err (Link error)
+
+-- the relocation at an index of a file's dynamic segment, or why there is none
+abbrev pub dynamic_relocation_at : ElfFile → ℕ → Result Relocation Refusal
+dynamic_relocation_at file index = entries_relocation file index (dynamic_entries_of file)

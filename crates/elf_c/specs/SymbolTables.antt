@@ -12,7 +12,7 @@ use Rattle.xmas_elf.specs.SectionHeader.{section_fields, section_of}
 use Rattle.xmas_elf.specs.Symbol.{SymbolFields, dyn_entry_32, dyn_entry_32_fields, dyn_entry_64, dyn_entry_64_fields, entry_32, entry_64}
 use Rattle.xmas_elf.specs.declared.ElfFile.{ElfFile}
 use Rattle.xmas_elf.specs.declared.sections.section_header.SectionHeader.{SectionHeader}
-use Rattle.elf_c.specs.Records.{LiesIn, found_in, name_answer, range_at, text_range}
+use Rattle.elf_c.specs.Records.{LiesIn, name_answer, range_at, record_among, text_range}
 use Rattle.elf_c.specs.Status.{and_so}
 use Rattle.elf_c.specs.Symbols.{linked_range}
 use Rattle.elf_c.specs.declared.names.Name.{Name}
@@ -54,12 +54,10 @@ table_of_section file section = and_so (section_of file section) (λ header.
 -- the value of the symbol at an index of bytes in the layout of class 32 or else of class 64, or why there is none:
 -- the bytes are a whole number of symbols
 abbrev pub symbol_among : {T : Type 0} → (SymbolFields → T) → Bool → Order → List ℕ → ℕ → Result T Refusal
-symbol_among value true order bytes index = if length bytes % 16 == 0
-    then found_in (λ e. value (dyn_entry_32_fields e)) (records 16 (dyn_entry_32 order) bytes) index
-    else Err (Elf NotMultiple)
-symbol_among value false order bytes index = if length bytes % 24 == 0
-    then found_in (λ e. value (dyn_entry_64_fields e)) (records 24 (dyn_entry_64 order) bytes) index
-    else Err (Elf NotMultiple)
+symbol_among value true order bytes index =
+    record_among (λ e. value (dyn_entry_32_fields e)) 16 (dyn_entry_32 order) bytes index
+symbol_among value false order bytes index =
+    record_among (λ e. value (dyn_entry_64_fields e)) 24 (dyn_entry_64 order) bytes index
 
 -- the value of the symbol at an index of the range in a record, or why there is none
 abbrev pub symbol_by : {T : Type 0} → (SymbolFields → T) → List ℕ → SymbolTable → ℕ → Result T Refusal

@@ -13,7 +13,7 @@ use Rattle.xmas_elf.specs.declared.ElfFile.{ElfFile}
 use Rattle.elf_c.specs.Batch.{Fills}
 use Rattle.elf_c.specs.DynamicSymbols.{IsDynamicCount, strings_by}
 use Rattle.elf_c.specs.DynamicTexts.{linked_name, range_in_strings}
-use Rattle.elf_c.specs.Records.{LiesIn, found_in, range_at}
+use Rattle.elf_c.specs.Records.{LiesIn, flag_number, found_in, range_at}
 use Rattle.elf_c.specs.Status.{refusal_number}
 use Rattle.elf_c.specs.declared.names.Name.{Name}
 use Rattle.elf_c.specs.declared.names.Range.{Range}
@@ -40,10 +40,6 @@ abbrev pub version_name : List ℕ → Result Range Refusal → Result ℕ LinkE
 version_name input strings (Ok offset) = linked_name (range_in_strings input strings offset)
 version_name input strings (Err error) = linked_name (Err (Link error))
 
--- 1 for a version that is hidden, otherwise 0
-abbrev pub hidden_number : Bool → ℕ
-hidden_number hidden = if hidden then 1 else 0
-
 -- a version whose number no definition and no need has
 abbrev pub unnamed : ℕ → Bool → Version
 unnamed number hidden = record {
@@ -54,7 +50,7 @@ unnamed number hidden = record {
   file_status = 0;
   kind = UNNAMED;
   number = number;
-  hidden = hidden_number hidden;
+  hidden = flag_number hidden;
   flags = 0;
   hash = 0;
 }
@@ -84,7 +80,7 @@ defined_as input strings number hidden d = let name = version_name input strings
   file_status = 0;
   kind = DEFINED;
   number = number;
-  hidden = hidden_number hidden;
+  hidden = flag_number hidden;
   flags = d.flags;
   hash = d.hash;
 }
@@ -101,7 +97,7 @@ needed_as input strings number hidden need =
       file_status = file.status;
       kind = NEEDED;
       number = number;
-      hidden = hidden_number hidden;
+      hidden = flag_number hidden;
       flags = need.flags;
       hash = need.hash;
     }

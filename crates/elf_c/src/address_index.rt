@@ -9,7 +9,7 @@ ghost use Rattle.elf_addresses.specs.SymbolClaims.{symbol_count, symbol_items};
 ghost use Rattle.elf_base.specs.Table.{table_items};
 ghost use Rattle.elf_c.specs.AddressIndex.{AreAnswered, AreStored, IsAnswer, IsAnswerIn, IsIndexIn};
 ghost use Rattle.elf_c.specs.AddressIndex.{IsIndexOf, IsIndexWith, addresses_by, addresses_in};
-ghost use Rattle.elf_c.specs.AddressIndex.{index_of, open_number, sizes_of, sizes_with, told};
+ghost use Rattle.elf_c.specs.AddressIndex.{index_of, sizes_of, sizes_with, told};
 ghost use Rattle.elf_c.specs.AddressIndex.{within_of, words_by};
 ghost use Rattle.elf_c.specs.Status.{GivesHere};
 ghost use Rattle.elf_c.specs.SymbolTables.{symbol_by};
@@ -87,14 +87,6 @@ pub(crate) fn within_of(section: u32) -> Option<u32>
     ensures { result ≡ within_of section }
 {
     if section == 0 { None } else { Some(section) }
-}
-
-// 1 for a symbol of size 0.
-#[inline(always)]
-fn open_number(is_open: bool) -> u32
-    ensures { result ≡ open_number is_open }
-{
-    if is_open { 1 } else { 0 }
 }
 
 // The words in a range.
@@ -268,7 +260,7 @@ impl SymbolAt {
                 index: at.index as u64,
                 offset: at.offset,
                 found: 1,
-                is_open: open_number(at.open),
+                is_open: u32::from(at.open),
             },
             None => SymbolAt {
                 symbol: NO_SYMBOL,

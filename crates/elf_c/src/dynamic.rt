@@ -1,20 +1,26 @@
-//! The dynamic entries of a section (gABI, "Dynamic Section").
+//! The dynamic entries of a section, and those of the dynamic segment, which needs no section headers
+//! (gABI, "Dynamic Section").
 
-ghost use Rattle.std.specs.Prelude.{◌≡◌, ℕ, Result};
+ghost use Rattle.std.specs.Prelude.{◌≡◌};
 ghost use Rattle.elf_base.specs.Refusal.{and_then};
-ghost use Rattle.elf_c.specs.Batch.{Fills};
-ghost use Rattle.elf_c.specs.Dynamics.{dynamic_entry_in, dynamic_record};
+ghost use Rattle.elf_c.specs.Batch.{Fills, Stores};
+ghost use Rattle.elf_c.specs.Dynamics.{dynamic_entry_at, dynamic_entry_in, dynamic_record};
+ghost use Rattle.elf_c.specs.Dynamics.{entry_among};
 ghost use Rattle.elf_c.specs.Parsed.{file_of};
-ghost use Rattle.elf_c.specs.Status.{GivesHere, and_so};
-ghost use Rattle.elf_c.specs.declared.status.Refusal.{Refusal};
+ghost use Rattle.elf_c.specs.Records.{record_among};
+ghost use Rattle.elf_c.specs.Status.{and_so};
 ghost use Rattle.xmas_elf.specs.SectionContent.{section_content_of};
 ghost use Rattle.xmas_elf.specs.SectionHeader.{section_of};
 
 use crate::batch::{Numbers, Rows, fill};
 use crate::file::Parsed;
 use crate::status::{Refusal, give};
-use elf_base::{P32, P64};
+use elf_base::bytes::Order;
+use elf_base::{ElfError, P32, P64};
+use elf_linking::LinkError;
+use elf_linking::view::dynamic_segment;
 use xmas_elf::ElfFile;
+use xmas_elf::bytes::Table;
 use xmas_elf::dynamic::Dynamic;
 use xmas_elf::sections::SectionData;
 
@@ -86,14 +92,82 @@ pub extern "C" fn xmas_elf_dynamics(
     out: &mut [DynamicEntry],
     count: &mut u64,
 ) -> u32
-    ensures { (answer : Result ℕ Refusal)
-        × Fills (λ index. and_so (and_then (section_of (file_of input.entry header.now) section)
+    ensures { Stores (λ index. and_so (and_then (section_of (file_of input.entry header.now) section)
         (section_content_of (file_of input.entry header.now))) (dynamic_entry_in index))
-        first out.old answer out.new
-        × GivesHere answer count.old result count.new }
+        first out.old out.new count.old result count.new }
 {
     give(
         fill_from_section(&header.file(input), section, first, out),
         count,
     )
+}
+
+// Stores the records in bytes from an index on in `out`, and returns their number.
+fn fill_from_bytes<T: Numbers>(
+    bytes: &[u8],
+    order: Order,
+    first: u64,
+    out: &mut [T::Stored],
+) -> Result<u64, Refusal>
+    ensures { Fills (record_among T.numbers_of T.SIZE (T.value order) bytes.now)
+        first out.old result out.new }
+{
+    let table = Table::<T>::new(bytes, order)?;
+    fill(Rows { table }, first, out)
+}
+
+// Stores the dynamic entries in bytes of a class from an index on in `out`, and returns their number.
+fn fill_by_class(
+    class: u8,
+    order: Order,
+    bytes: &[u8],
+    first: u64,
+    out: &mut [DynamicEntry],
+) -> Result<u64, Refusal>
+    ensures { Fills (entry_among class order bytes.now) first out.old result out.new }
+{
+    if class == 1 {
+        return fill_from_bytes::<Dynamic<P32>>(bytes, order, first, out);
+    }
+    if class == 2 {
+        return fill_from_bytes::<Dynamic<P64>>(bytes, order, first, out);
+    }
+    Err(Refusal::Elf(ElfError::UnknownClass))
+}
+
+// Stores the dynamic entries of the segment from an index on in `out`, and returns their number.
+fn fill_from_segment(
+    file: &ElfFile<'_>,
+    first: u64,
+    out: &mut [DynamicEntry],
+) -> Result<u64, Refusal>
+    ensures { Fills (dynamic_entry_at file.now) first out.old result out.new }
+{
+    let Some(segment) = dynamic_segment(file) else {
+        return Err(Refusal::Link(LinkError::NoDynamic));
+    };
+    let bytes = segment.bytes(file)?;
+    let class = file.header.pt1.class.raw();
+    fill_by_class(class, file.byte_order(), bytes, first, out)
+}
+
+/// The dynamic entries of the first segment of type Dynamic from index `first` on, whatever their
+/// tags, also those after the entry with tag 0 (DT_NULL): as many as fit in `out`, or all. `count` is
+/// set to their number; the rest of `out` is unchanged. It needs no section headers.
+///
+/// Errors: `NoDynamic` if there is no such segment; those of `Segment::bytes`; `UnknownClass` if the
+/// class is neither 1 nor 2; `NotMultiple` if the segment is not a whole number of entries; `NoRecord`
+/// if it has no more than `first`; `out` and `count` are then unchanged.
+#[unsafe(no_mangle)]
+pub extern "C" fn xmas_elf_dynamic_entries(
+    input: &[u8],
+    header: &Parsed,
+    first: u64,
+    out: &mut [DynamicEntry],
+    count: &mut u64,
+) -> u32
+    ensures { Stores (dynamic_entry_at (file_of input.entry header.now))
+        first out.old out.new count.old result count.new }
+{
+    give(fill_from_segment(&header.file(input), first, out), count)
 }

@@ -1,9 +1,11 @@
-//! The symbols of the dynamic segment, which is found without section headers
-//! (gABI, "Dynamic Section": DT_SYMTAB).
+//! The symbols of the dynamic segment, which is found without section headers, and those of a file:
+//! the ones of its symbol table, or else these (gABI, "Symbol Table", and "Dynamic Section":
+//! DT_SYMTAB).
 
 ghost use Rattle.std.specs.Prelude.{◌≡◌, ◌==◌, ◌<◌, ◌≤◌, ◌^◌, ◌*◌, ◌↔◌, ℕ, IsOk, List, Ok, Result};
 ghost use Rattle.elf_base.specs.FileHeader.{file_class};
-ghost use Rattle.elf_c.specs.DynamicSymbols.{AreDynamicSymbols, IsDynamicCount, IsSegmentTable};
+ghost use Rattle.elf_c.specs.DynamicSymbols.{AreDynamicSymbols, IsDynamicCount, IsFileTable};
+ghost use Rattle.elf_c.specs.DynamicSymbols.{IsSegmentTable};
 ghost use Rattle.elf_c.specs.DynamicSymbols.{dynamic_symbol_at, dynamic_symbol_name, symbol_size};
 ghost use Rattle.elf_c.specs.DynamicSymbols.{table_at_address};
 ghost use Rattle.elf_c.specs.DynamicTexts.{strings_range};
@@ -23,7 +25,8 @@ use crate::addresses::range_at;
 use crate::dynamic_texts::{name_of, strings_of};
 use crate::file::Parsed;
 use crate::status::{Refusal, give};
-use crate::symbol_tables::SymbolTable;
+use crate::symbol_tables::{SymbolTable, table_of_section};
+use elf_addresses::symtab_index;
 use elf_linking::LinkError;
 use elf_linking::view::{DT_SYMTAB, DynamicView};
 use xmas_elf::ElfFile;
@@ -122,4 +125,36 @@ pub extern "C" fn xmas_elf_dynamic_symbols_open(
         → IsOk (symbol_by symbol_record input.now out.new index) ↔ (index < out.new.count) }
 {
     give(table_of_segment(&header.file(input)), out)
+}
+
+// The symbols of a file, as numbers.
+fn table_of_file(file: &ElfFile<'_>) -> Result<SymbolTable, Refusal>
+    ensures { IsFileTable file.now result }
+{
+    match symtab_index(file) {
+        Some(index) => table_of_section(file, index as u64),
+        None => table_of_segment(file),
+    }
+}
+
+/// The symbols of a file and the string table of their names, found once, for `xmas_elf_symbols` and
+/// `xmas_elf_symbol_names`: those of the first section of type SHT_SYMTAB (`.symtab`), as in
+/// `xmas_elf_symbols_open`; of a file without such a section, as after `strip`, those of the dynamic
+/// segment, as in `xmas_elf_dynamic_symbols_open`. Both ranges lie in the input.
+///
+/// The errors are those of the call for these symbols.
+#[unsafe(no_mangle)]
+pub extern "C" fn xmas_elf_file_symbols_open(
+    input: &[u8],
+    header: &Parsed,
+    out: &mut SymbolTable,
+) -> u32
+    ensures exact { (answer : Result SymbolTable Refusal)
+        × IsFileTable (file_of input.entry header.now) answer
+        × GivesHere answer out.old result out.new }
+    ensures within { result ≡ 0 → LieWithin input.now out.new }
+    ensures counted { result ≡ 0 → (index : ℕ)
+        → IsOk (symbol_by symbol_record input.now out.new index) ↔ (index < out.new.count) }
+{
+    give(table_of_file(&header.file(input)), out)
 }

@@ -1,14 +1,12 @@
 //! Texts that entries of the dynamic segment name, such as the needed libraries
 //! (gABI, "Dynamic Section": DT_NEEDED, DT_SONAME and DT_RUNPATH).
 
-ghost use Rattle.std.specs.Prelude.{◌≡◌, ℕ, IfOk, Result};
-ghost use Rattle.elf_c.specs.Batch.{Fills};
+ghost use Rattle.std.specs.Prelude.{◌≡◌, IfOk};
+ghost use Rattle.elf_c.specs.Batch.{Fills, Stores};
 ghost use Rattle.elf_c.specs.DynamicTexts.{dynamic_text_at, linked_name, range_in_strings};
 ghost use Rattle.elf_c.specs.DynamicTexts.{strings_range, texts_with};
 ghost use Rattle.elf_c.specs.Parsed.{file_of};
 ghost use Rattle.elf_c.specs.Records.{AllLieIn};
-ghost use Rattle.elf_c.specs.Status.{GivesHere};
-ghost use Rattle.elf_c.specs.declared.status.Refusal.{Refusal};
 ghost use Rattle.elf_linking.specs.DynamicView.{entries_left, view_entries};
 
 use crate::addresses::range_at;
@@ -117,9 +115,8 @@ pub extern "C" fn xmas_elf_dynamic_texts(
     out: &mut [Name],
     count: &mut u64,
 ) -> u32
-    ensures exact { (answer : Result ℕ Refusal)
-        × Fills (dynamic_text_at (file_of input.entry header.now) tag) first out.old answer out.new
-        × GivesHere answer count.old result count.new }
+    ensures exact { Stores (dynamic_text_at (file_of input.entry header.now) tag)
+        first out.old out.new count.old result count.new }
     ensures within { result ≡ 0 → AllLieIn input.now count.new out.new }
 {
     give(fill_texts(&header.file(input), tag, first, out), count)

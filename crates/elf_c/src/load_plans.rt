@@ -3,7 +3,6 @@
 ghost use Rattle.std.specs.Prelude.{◌≡◌, ◌<◌, ℕ, IfOk, None, Result, map};
 ghost use Rattle.elf_c.specs.Batch.{Fills};
 ghost use Rattle.elf_c.specs.LoadPlans.{contents_number, contents_offset, limit_of, loader_of};
-ghost use Rattle.elf_c.specs.LoadPlans.{number_of};
 ghost use Rattle.elf_c.specs.LoadPlans.{mapping_at, mapping_record, page_of, plan_of, plan_record};
 ghost use Rattle.elf_c.specs.LoadPlans.{path_range, presence, span_record, stack_flags};
 ghost use Rattle.elf_c.specs.LoadPlans.{template_record};
@@ -200,14 +199,6 @@ fn stack_of(plan: &LoadPlan<'_>) -> (u32, u32)
     }
 }
 
-// 1 for true.
-#[inline(always)]
-fn presence(is: bool) -> u32
-    ensures { result ≡ number_of is }
-{
-    if is { 1 } else { 0 }
-}
-
 impl Plan {
     // The numbers of a plan.
     fn of(plan: &LoadPlan<'_>) -> Plan
@@ -224,8 +215,8 @@ impl Plan {
             entry: plan.entry(),
             stack_flags,
             has_stack,
-            has_relro: presence(relro.is_some()),
-            has_interpreter: presence(plan.interpreter_offset().is_some()),
+            has_relro: u32::from(relro.is_some()),
+            has_interpreter: u32::from(plan.interpreter_offset().is_some()),
         }
     }
 }

@@ -1,11 +1,10 @@
-//! The addresses in a section of packed relative relocations (gABI, "Relocation", SHT_RELR).
+//! The addresses in packed relative relocations, of a section and of the dynamic segment, which needs
+//! no section headers (gABI, "Relocation", SHT_RELR, and "Dynamic Section", DT_RELR).
 
-ghost use Rattle.std.specs.Prelude.{◌≡◌, ℕ, Result};
-ghost use Rattle.elf_c.specs.Batch.{Fills};
-ghost use Rattle.elf_c.specs.PackedRelocations.{packed_address};
+ghost use Rattle.std.specs.Prelude.{◌≡◌};
+ghost use Rattle.elf_c.specs.Batch.{Fills, Stores};
+ghost use Rattle.elf_c.specs.PackedRelocations.{dynamic_packed_address, packed_address};
 ghost use Rattle.elf_c.specs.Parsed.{file_of};
-ghost use Rattle.elf_c.specs.Status.{GivesHere};
-ghost use Rattle.elf_c.specs.declared.status.Refusal.{Refusal};
 ghost use Rattle.elf_linking.specs.Relr.{relr_rest};
 
 use crate::batch::{Sequence, fill_in_order};
@@ -13,6 +12,7 @@ use crate::file::Parsed;
 use crate::status::{Refusal, give};
 use elf_linking::relr::Relr;
 use elf_linking::sections::section_relr;
+use elf_linking::view::DynamicView;
 use xmas_elf::ElfFile;
 
 impl Sequence for Relr<'_> {
@@ -58,13 +58,42 @@ pub extern "C" fn xmas_elf_packed_relocations(
     out: &mut [u64],
     count: &mut u64,
 ) -> u32
-    ensures { (answer : Result ℕ Refusal)
-        × Fills (packed_address (file_of input.entry header.now) section)
-        first out.old answer out.new
-        × GivesHere answer count.old result count.new }
+    ensures { Stores (packed_address (file_of input.entry header.now) section)
+        first out.old out.new count.old result count.new }
 {
     give(
         fill_from_section(&header.file(input), section, first, out),
         count,
     )
+}
+
+// Stores the addresses of the dynamic segment from an index on in `out`, and returns their number.
+fn fill_from_segment(file: &ElfFile<'_>, first: u64, out: &mut [u64]) -> Result<u64, Refusal>
+    ensures { Fills (dynamic_packed_address file.now) first out.old result out.new }
+{
+    match DynamicView::read(file)?.relr(file) {
+        Some(Ok(packed)) => fill_in_order(packed, first, out),
+        Some(Err(error)) => Err(Refusal::Link(error)),
+        None => Err(Refusal::NoRecord),
+    }
+}
+
+/// The addresses in the packed relative relocations of the dynamic segment (DT_RELR), from index
+/// `first` on: as many as fit in `out`, or all. `count` is set to their number; the rest of `out` is
+/// unchanged. It needs no section headers, and reads the words before the address anew.
+///
+/// Errors: those of `DynamicView::read`; those of `DynamicView::relr`; `NoRecord` if there is no entry
+/// DT_RELR, or if there are no more than `first` addresses; `out` and `count` are then unchanged.
+#[unsafe(no_mangle)]
+pub extern "C" fn xmas_elf_dynamic_packed_relocations(
+    input: &[u8],
+    header: &Parsed,
+    first: u64,
+    out: &mut [u64],
+    count: &mut u64,
+) -> u32
+    ensures { Stores (dynamic_packed_address (file_of input.entry header.now))
+        first out.old out.new count.old result count.new }
+{
+    give(fill_from_segment(&header.file(input), first, out), count)
 }

@@ -2,7 +2,7 @@
 
 ghost use Rattle.std.specs.Prelude.{◌≡◌, ◌↔◌, ◌+◌, ◌≤◌, ℕ, IfOk, IsTrue, Ok, Result, length};
 ghost use Rattle.elf_base.specs.Refusal.{and_then};
-ghost use Rattle.elf_c.specs.Batch.{Fills};
+ghost use Rattle.elf_c.specs.Batch.{Stores};
 ghost use Rattle.elf_c.specs.Parsed.{file_of};
 ghost use Rattle.elf_c.specs.Records.{FindsIndex, found_in, found_section, section_range};
 ghost use Rattle.elf_c.specs.Records.{LiesIn, is_relr_type, range_at, section_checked, section_record};
@@ -162,10 +162,8 @@ pub extern "C" fn xmas_elf_sections(
     out: &mut [Section],
     count: &mut u64,
 ) -> u32
-    ensures { (answer : Result ℕ Refusal)
-        × Fills (found_in section_record (section_list (file_of input.entry header.now)))
-        first out.old answer out.new
-        × GivesHere answer count.old result count.new }
+    ensures { Stores (found_in section_record (section_list (file_of input.entry header.now)))
+        first out.old out.new count.old result count.new }
 {
     let file = header.file(input);
     give(fill(file.section_table(), first, out), count)

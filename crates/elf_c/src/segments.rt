@@ -1,12 +1,11 @@
 //! The segments of a file (gABI, "Program Header").
 
-ghost use Rattle.std.specs.Prelude.{◌≡◌, ℕ, Ok, Result};
+ghost use Rattle.std.specs.Prelude.{◌≡◌, Ok};
 ghost use Rattle.elf_base.specs.Refusal.{and_then};
-ghost use Rattle.elf_c.specs.Batch.{Fills};
+ghost use Rattle.elf_c.specs.Batch.{Stores};
 ghost use Rattle.elf_c.specs.Parsed.{file_of};
 ghost use Rattle.elf_c.specs.Records.{LiesIn, found_in, segment_range, segment_record};
-ghost use Rattle.elf_c.specs.Status.{Gives, GivesHere};
-ghost use Rattle.elf_c.specs.declared.status.Refusal.{Refusal};
+ghost use Rattle.elf_c.specs.Status.{Gives};
 ghost use Rattle.elf_records.specs.ProgramNumbers.{ph_type_number};
 ghost use Rattle.xmas_elf.specs.Checks.{program_check};
 ghost use Rattle.xmas_elf.specs.ProgramHeader.{program_fields, program_list, program_of};
@@ -150,10 +149,9 @@ pub extern "C" fn xmas_elf_segments(
     out: &mut [Segment],
     count: &mut u64,
 ) -> u32
-    ensures { (answer : Result ℕ Refusal)
-        × Fills (found_in (λ program. segment_record (program_fields program))
-        (program_list (file_of input.entry header.now))) first out.old answer out.new
-        × GivesHere answer count.old result count.new }
+    ensures { Stores (found_in (λ program. segment_record (program_fields program))
+        (program_list (file_of input.entry header.now)))
+        first out.old out.new count.old result count.new }
 {
     let file = header.file(input);
     give(fill(file.program_table(), first, out), count)

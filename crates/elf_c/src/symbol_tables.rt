@@ -1,17 +1,16 @@
 //! The symbols of a section, found once and then read by their index (gABI, "Symbol Table").
 
-ghost use Rattle.std.specs.Prelude.{◌≡◌, ◌<◌, ◌↔◌, ◌==◌, ℕ, IsOk, Ok, Result};
+ghost use Rattle.std.specs.Prelude.{◌≡◌, ◌<◌, ◌↔◌, ◌==◌, ℕ, IsOk, Ok};
 ghost use Rattle.elf_base.specs.FileHeader.{order_of};
 ghost use Rattle.elf_base.specs.Refusal.{and_then};
 ghost use Rattle.elf_base.specs.Table.{table_items};
-ghost use Rattle.elf_c.specs.Batch.{Fills};
+ghost use Rattle.elf_c.specs.Batch.{Fills, Stores};
 ghost use Rattle.elf_c.specs.Parsed.{file_of};
 ghost use Rattle.elf_c.specs.Records.{AllLieIn, found_in};
 ghost use Rattle.elf_c.specs.Status.{GivesHere, and_so};
 ghost use Rattle.elf_c.specs.SymbolTables.{AreSymbolsBy, AreSymbolsIn, LieWithin, count_in};
 ghost use Rattle.elf_c.specs.SymbolTables.{name_by, name_in, symbol_by, table_of_section};
 ghost use Rattle.elf_c.specs.Symbols.{symbol_in, symbol_name_at, symbol_record};
-ghost use Rattle.elf_c.specs.declared.status.Refusal.{Refusal};
 ghost use Rattle.xmas_elf.specs.SectionContent.{section_content, section_content_of};
 ghost use Rattle.xmas_elf.specs.SectionHeader.{section_of};
 
@@ -181,9 +180,8 @@ pub extern "C" fn xmas_elf_symbols(
     out: &mut [Symbol],
     count: &mut u64,
 ) -> u32
-    ensures { (answer : Result ℕ Refusal)
-        × Fills (symbol_by symbol_record input.now table.now) first out.old answer out.new
-        × GivesHere answer count.old result count.new }
+    ensures { Stores (symbol_by symbol_record input.now table.now)
+        first out.old out.new count.old result count.new }
 {
     give(fill_symbols(input, table, first, out), count)
 }
@@ -285,10 +283,8 @@ pub extern "C" fn xmas_elf_symbol_names(
     out: &mut [Name],
     count: &mut u64,
 ) -> u32
-    ensures exact { (answer : Result ℕ Refusal)
-        × Fills (symbol_by (name_by input.now table.now) input.now table.now)
-        first out.old answer out.new
-        × GivesHere answer count.old result count.new }
+    ensures exact { Stores (symbol_by (name_by input.now table.now) input.now table.now)
+        first out.old out.new count.old result count.new }
     ensures within { result ≡ 0 → AllLieIn input.now count.new out.new }
 {
     give(fill_names(input, table, first, out), count)

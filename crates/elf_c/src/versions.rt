@@ -4,7 +4,7 @@
 ghost use Rattle.std.specs.List.{range_with_len};
 ghost use Rattle.std.specs.Prelude.{◌≡◌, ◌<◌, ◌^◌, ℕ, IfOk, MatchResult, Result, Ok, Err};
 ghost use Rattle.std.specs.Prelude.{is_some, min};
-ghost use Rattle.elf_c.specs.Batch.{Fills};
+ghost use Rattle.elf_c.specs.Batch.{Fills, Stores};
 ghost use Rattle.elf_c.specs.Parsed.{file_of};
 ghost use Rattle.elf_c.specs.Status.{GivesHere};
 ghost use Rattle.elf_c.specs.Versions.{AllNamesLieIn, FillsVersions, defined_as, definition_at};
@@ -273,9 +273,8 @@ pub extern "C" fn xmas_elf_version_definitions(
     out: &mut [Version],
     count: &mut u64,
 ) -> u32
-    ensures exact { (answer : Result ℕ Refusal)
-        × Fills (definition_at (file_of input.entry header.now)) first out.old answer out.new
-        × GivesHere answer count.old result count.new }
+    ensures exact { Stores (definition_at (file_of input.entry header.now))
+        first out.old out.new count.old result count.new }
     ensures within { result ≡ 0 → AllNamesLieIn input.now count.new out.new }
 {
     give(fill_definitions(&header.file(input), first, out), count)
@@ -297,9 +296,8 @@ pub extern "C" fn xmas_elf_version_needs(
     out: &mut [Version],
     count: &mut u64,
 ) -> u32
-    ensures exact { (answer : Result ℕ Refusal)
-        × Fills (need_at (file_of input.entry header.now)) first out.old answer out.new
-        × GivesHere answer count.old result count.new }
+    ensures exact { Stores (need_at (file_of input.entry header.now))
+        first out.old out.new count.old result count.new }
     ensures within { result ≡ 0 → AllNamesLieIn input.now count.new out.new }
 {
     give(fill_needs(&header.file(input), first, out), count)

@@ -38,18 +38,18 @@ from_below : {E : Type 0} {r : _} (objects : List (DynamicObject E r)) (from cou
 from_below [] from count is = tt
 from_below (object ∷ rest) from count is = both_below count _ _ (with_below count from _ (omega (arith, is))) (from_below rest (from + 1) count (omega (arith, is)))
 
-module _ {E : Type 0} {r : _} (fields : E → SymbolFields) (inputs : List Input) (objects : List (DynamicObject E r)) where
+module _ {E : Type 0} {r : _} (fields : E → SymbolFields) (inputs : List Input) (objects : List (DynamicObject E r)) (only_missing : Bool) where
   -- with `left` still left of the references, which are of this scope, the lines of those before them are written
   pub record AreLinesSoFar (scope : List (DynamicObject E r)) (left : List (ℕ × Result Reference LinkError)) (missing : Bool) (old new : Option (List ℕ)) : Type 0 where
     pub same : scope ≡ objects
     pub below : AreBelow (length objects) left
-    pub lines : AppendsSome (AreWrittenSoFar (IsLine fields inputs objects) (references_from 0 objects) left missing) old new
+    pub lines : AppendsSome (AreWrittenSoFar (IsLine fields inputs objects only_missing) (references_from 0 objects) left missing) old new
 
   pub lines_begin : (scope : List (DynamicObject E r)) (left : List (ℕ × Result Reference LinkError)) (old : Option (List ℕ)) → scope ≡ objects → left ≡ references_from 0 objects → AreLinesSoFar scope left false old old
   lines_begin scope left old same is = record {
     same = same;
     below = subst (AreBelow (length objects)) (sym is) (from_below objects 0 (length objects) (omega arith));
-    lines = none_so_far (IsLine fields inputs objects) (references_from 0 objects) left old is;
+    lines = none_so_far (IsLine fields inputs objects only_missing) (references_from 0 objects) left old is;
   }
 
   module _ (scope : List (DynamicObject E r)) (left later : List (ℕ × Result Reference LinkError)) (item : Result (Binding E) (ℕ × LinkError)) (missing : Bool) (old before : Option (List ℕ)) (so_far : AreLinesSoFar scope left missing old before) (first : left ≡ reference_of_item item ∷ later) where
@@ -57,15 +57,15 @@ module _ {E : Type 0} {r : _} (fields : E → SymbolFields) (inputs : List Input
     item_below = (subst (AreBelow (length objects)) first so_far.below).0
 
     module _ (is : IsItemOf fields scope item) where
-      pub lines_more : (next : List (DynamicObject E r)) (own : Bool) (after : Option (List ℕ)) → next ≡ scope → AppendsSome (λ text. line_of fields inputs objects item ≡ Ok (own, text)) before after → AreLinesSoFar next later (missing || own) old after
+      pub lines_more : (next : List (DynamicObject E r)) (own : Bool) (after : Option (List ℕ)) → next ≡ scope → AppendsSome (λ text. line_of fields inputs objects only_missing item ≡ Ok (own, text)) before after → AreLinesSoFar next later (missing || own) old after
       lines_more next own after same (line, line_is, grown) = record {
         same = same ∙ so_far.same;
         below = (subst (AreBelow (length objects)) first so_far.below).1;
-        lines = next_more (IsLine fields inputs objects) (references_from 0 objects) left later (reference_of_item item) missing own old before after first so_far.lines
+        lines = next_more (IsLine fields inputs objects only_missing) (references_from 0 objects) left later (reference_of_item item) missing own old before after first so_far.lines
             (λ index. (line, (item, refl, subst (λ o. IsItemOf fields o item) so_far.same is, line_is), grown));
       }
 
-      at_item : (P : Result (Binding E) (ℕ × LinkError) → Type 0) → P item → IsAtItem fields inputs objects P
+      at_item : (P : Result (Binding E) (ℕ × LinkError) → Type 0) → P item → IsAtItem fields inputs objects only_missing P
       at_item P holds =
           let (text, earlier, grown) = so_far.lines in
           record {
@@ -79,12 +79,12 @@ module _ {E : Type 0} {r : _} (fields : E → SymbolFields) (inputs : List Input
             here = (item, refl, subst (λ o. IsItemOf fields o item) so_far.same is, holds);
           }
 
-      pub lines_stop : (stop : Stop (reasons.Refused LinkError)) → IsStop (IsErrorOf inputs (line_of fields inputs objects item)) (IsOk (line_of fields inputs objects item)) ⊥ stop → IsStop (AreBindingsRefused fields inputs objects) (AreBindingsBegun fields inputs objects) ⊥ stop
-      lines_stop stop why = stop_so _ _ _ _ _ _ stop (λ refused error. at_item (λ one. IsErrorOf inputs (line_of fields inputs objects one) refused) error)
-          (λ ok. at_item (λ one. IsOk (line_of fields inputs objects one)) ok) (λ never. never) why
+      pub lines_stop : (stop : Stop (reasons.Refused LinkError)) → IsStop (IsErrorOf inputs (line_of fields inputs objects only_missing item)) (IsOk (line_of fields inputs objects only_missing item)) ⊥ stop → IsStop (AreBindingsRefused fields inputs objects only_missing) (AreBindingsBegun fields inputs objects only_missing) ⊥ stop
+      lines_stop stop why = stop_so _ _ _ _ _ _ stop (λ refused error. at_item (λ one. IsErrorOf inputs (line_of fields inputs objects only_missing one) refused) error)
+          (λ ok. at_item (λ one. IsOk (line_of fields inputs objects only_missing one)) ok) (λ never. never) why
 
-  pub lines_end : (scope : List (DynamicObject E r)) (left : List (ℕ × Result Reference LinkError)) (missing : Bool) (old new : Option (List ℕ)) → left ≡ [] → AreLinesSoFar scope left missing old new → AppendsSome (AreBindingsWritten fields inputs objects missing) old new
+  pub lines_end : (scope : List (DynamicObject E r)) (left : List (ℕ × Result Reference LinkError)) (missing : Bool) (old new : Option (List ℕ)) → left ≡ [] → AreLinesSoFar scope left missing old new → AppendsSome (AreBindingsWritten fields inputs objects only_missing missing) old new
   lines_end scope left missing old new end so_far =
       let (text, earlier, grown) = so_far.lines in
       let all : earlier.earlier ≡ references_from 0 objects = sym (append-nil earlier.earlier) ∙ ap (λ rest. earlier.earlier ++ rest) (sym end) ∙ earlier.split in
-      (text, subst (λ (items : List (ℕ × Result Reference LinkError)). AreWritten (IsLine fields inputs objects) items missing text) all earlier.so_far, grown)
+      (text, subst (λ (items : List (ℕ × Result Reference LinkError)). AreWritten (IsLine fields inputs objects only_missing) items missing text) all earlier.so_far, grown)

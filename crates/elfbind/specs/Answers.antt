@@ -8,6 +8,7 @@ use Rattle.elfbind.specs.Checks.{IsCheckLine, IsCheckRefused}
 use Rattle.elfbind.specs.Files.{AreWritten}
 use Rattle.linking_programs.specs.Files.{AreObjectsOf, IsInputRefused, is_first_narrow, refused_fault_of}
 use Rattle.elfbind.specs.declared.Question as questions
+use Rattle.elfbind.specs.declared.TheConstants.{CLOSED}
 use Rattle.elfbind.specs.declared.Question.TheVariants.{Bindings, Checks}
 use Rattle.linking_programs.specs.declared.Input.{Input}
 use Rattle.linking_programs.specs.declared.Refused.{Refused}
@@ -18,25 +19,27 @@ use Rattle.program_ends.specs.declared.Stop as stops
 use Rattle.xmas_elf.specs.Symbol.{SymbolFields, dyn_entry_32_fields, dyn_entry_64_fields}
 use Rattle.xmas_elf.specs.Types.{DynEntry32, DynEntry64}
 
--- what is written of objects: the lines of their bindings, if the checks of all pass; or the lines of their
--- checks. What is wrong is that a reference is missing its symbol, or that a check fails.
+-- what is written of objects: the lines of their bindings, or of those that are missing their symbols, if the checks
+-- of all pass; or the lines of their checks. What is wrong is that a reference is missing its symbol, or that a check fails.
 pub data IsAnswer {E : Type 0} {r : _} (fields : E → SymbolFields) (inputs : List Input) (objects : List (DynamicObject E r)) (question : questions.Question) (wrong : Bool) (text : List ℕ) : Type 0 where
-  bindings : question ≡ Bindings → AreGood fields objects
-      → AreBindingsWritten fields inputs objects wrong text
+  bindings : (only_missing : Bool) → question ≡ Bindings only_missing → AreGood fields objects
+      → AreBindingsWritten fields inputs objects only_missing wrong text
       → IsAnswer fields inputs objects question wrong text
   checks : question ≡ Checks → AreWritten (IsCheckLine fields inputs) objects wrong text
       → IsAnswer fields inputs objects question wrong text
 
 -- why there is no output: a check fails, or an error of a reference; the lines of checks always have one
 pub data IsAnswerRefused {E : Type 0} {r : _} (fields : E → SymbolFields) (inputs : List Input) (objects : List (DynamicObject E r)) (question : questions.Question) (refused : Refused LinkError) : Type 0 where
-  by_check : question ≡ Bindings → IsCheckRefused fields inputs objects refused
+  by_check : (only_missing : Bool) → question ≡ Bindings only_missing → IsCheckRefused fields inputs objects refused
       → IsAnswerRefused fields inputs objects question refused
-  by_binding : question ≡ Bindings → AreGood fields objects → AreBindingsRefused fields inputs objects refused
+  by_binding : (only_missing : Bool) → question ≡ Bindings only_missing → AreGood fields objects
+      → AreBindingsRefused fields inputs objects only_missing refused
       → IsAnswerRefused fields inputs objects question refused
 
 -- how far the program has come when the first line is written
 pub data IsAnswerBegun {E : Type 0} {r : _} (fields : E → SymbolFields) (inputs : List Input) (objects : List (DynamicObject E r)) (question : questions.Question) : Type 0 where
-  bindings_begun : question ≡ Bindings → AreGood fields objects → AreBindingsBegun fields inputs objects
+  bindings_begun : (only_missing : Bool) → question ≡ Bindings only_missing → AreGood fields objects
+      → AreBindingsBegun fields inputs objects only_missing
       → IsAnswerBegun fields inputs objects question
   checks_begun : question ≡ Checks → IsAnswerBegun fields inputs objects question
 
@@ -86,7 +89,8 @@ pub data IsEnd (narrow_record wide_record : _) (inputs : List Input) (question :
       → IsEndOf {E = DynEntry64} wide_record dyn_entry_64_fields 2 24 inputs question end
       → IsEnd narrow_record wide_record inputs question end
 
--- the exit status: 0 if nothing is wrong, otherwise 1
-abbrev pub status_of : Result Bool (Fault LinkError) → ℕ
-status_of (Ok wrong) = cond wrong 1 0
-status_of (Err fault) = 1
+-- the exit status: 0 if nothing is wrong; if there is a fault, and nobody reads the output, that of a closed pipe; and
+-- otherwise 1
+abbrev pub status_of : Result Bool (Fault LinkError) → Bool → ℕ
+status_of (Ok wrong) closed = cond wrong 1 0
+status_of (Err fault) closed = cond closed CLOSED 1

@@ -1,6 +1,6 @@
 -- What the program writes of the references of some files (this project's own): a line for each that is looked up,
 -- with the file in which its symbol is found, and the symbol's value.
-use Rattle.std.specs.Prelude.{◌≡◌, ℕ, ◌++◌, ◌/◌, ◌==◌, not, Bool, false, List, [], ◌∷◌, Option, Some, None, option_and_then, option_map, Result, Ok, Err, codes, slice_get, IsErrAnd, IsOk}
+use Rattle.std.specs.Prelude.{◌≡◌, ℕ, ◌++◌, ◌/◌, ◌==◌, ◌&&◌, if◌then◌else◌, not, Bool, false, List, [], ◌∷◌, Option, Some, None, option_and_then, option_map, Result, Ok, Err, codes, slice_get, IsErrAnd, IsOk}
 use Rattle.std.specs.Borrow.{Bor}
 use Rattle.std.specs.Fmt.{digits}
 use Rattle.elf_base.specs.Table.{table_items}
@@ -29,15 +29,19 @@ version_text (Version name _ _) = codes "@" ++ name.now
 version_text Unversioned = []
 version_text Newest = []
 
--- a file and a value in hexadecimal, or that there is none
-abbrev pub target_text : Option (Bor (List ℕ) × ℕ) → List ℕ
-target_text (Some target) = target.0.now ++ (codes " 0x" ++ digits 16 false target.1)
-target_text None = codes "unresolved"
+-- a file and a value in hexadecimal, or that there is none, and whether the reference is weak
+abbrev pub target_text : Bool → Option (Bor (List ℕ) × ℕ) → List ℕ
+target_text weak (Some target) = target.0.now ++ (codes " 0x" ++ digits 16 false target.1)
+target_text weak None = if weak then codes "unresolved (weak)" else codes "unresolved"
 
 -- the line of a reference: its file, the name and the version, and what it gets
-abbrev pub line_text : List ℕ → List ℕ → Wanted → Option (Bor (List ℕ) × ℕ) → List ℕ
-line_text file name wanted target =
-    file ++ (codes " " ++ (name ++ (version_text wanted ++ (codes " -> " ++ (target_text target ++ codes "\n")))))
+abbrev pub line_text : List ℕ → List ℕ → Wanted → Bool → Option (Bor (List ℕ) × ℕ) → List ℕ
+line_text file name wanted weak target =
+    file ++ (codes " " ++ (name ++ (version_text wanted ++ (codes " -> " ++ (target_text weak target ++ codes "\n")))))
+
+-- a line, if it is asked for
+abbrev pub shown_text : Bool → List ℕ → List ℕ
+shown_text shown line = if shown then line else []
 
 -- The line of an item of `Scope::bindings`.
 
@@ -62,28 +66,29 @@ abbrev pub is_weak : {E : Type 0} → (E → SymbolFields) → Option E → Bool
 is_weak fields None = false
 is_weak fields (Some symbol) = (fields symbol).info / 16 == 2
 
--- a reference to a symbol is missing its symbol: it gets none, and isn't weak
-abbrev pub is_missing : {E : Type 0} → (E → SymbolFields) → Option E → Option (Bound E) → Bool
-is_missing fields symbol None = not (is_weak fields symbol)
-is_missing fields symbol (Some bound) = false
+-- a reference is missing its symbol: it gets none, and isn't weak
+abbrev pub is_missing : {E : Type 0} → Bool → Option (Bound E) → Bool
+is_missing weak None = not weak
+is_missing weak (Some bound) = false
 
--- of a reference of the object at index `from`, by the symbol that it names, what it gets and what it asks for: whether
--- it is missing its symbol, and its line, which is empty if it gets the symbol that it names without a look-up; or the
--- index of the object, and the error
-abbrev pub line_by : {E : Type 0} → (E → SymbolFields) → List Input → ℕ → Option E → Result (Option (Bound E)) LinkError → Result (Asked E) LinkError → Result (Bool × List ℕ) (ℕ × LinkError)
-line_by fields inputs from symbol (Err error) asked = Err (from, error)
-line_by fields inputs from symbol (Ok bound) (Err error) = Err (from, error)
-line_by fields inputs from symbol (Ok bound) (Ok (Own own)) = Ok (false, [])
-line_by fields inputs from symbol (Ok bound) (Ok (Look name wanted purpose own)) = Ok (
-  is_missing fields symbol bound,
-  line_text (path_in (slice_get inputs from)) name.now wanted (target_of fields inputs bound),
+-- of a reference of the object at index `from`, which may be weak, by what it gets and what it asks for: whether it is
+-- missing its symbol, and its line; or the index of the object, and the error. The line is empty if the reference gets
+-- the symbol that it names without a look-up, or if only those are asked for that are missing their symbols
+abbrev pub line_by : {E : Type 0} → (E → SymbolFields) → List Input → Bool → ℕ → Bool → Result (Option (Bound E)) LinkError → Result (Asked E) LinkError → Result (Bool × List ℕ) (ℕ × LinkError)
+line_by fields inputs only_missing from weak (Err error) asked = Err (from, error)
+line_by fields inputs only_missing from weak (Ok bound) (Err error) = Err (from, error)
+line_by fields inputs only_missing from weak (Ok bound) (Ok (Own own)) = Ok (false, [])
+line_by fields inputs only_missing from weak (Ok bound) (Ok (Look name wanted purpose own)) = Ok (
+  is_missing weak bound,
+  shown_text (not (only_missing && not (is_missing weak bound)))
+      (line_text (path_in (slice_get inputs from)) name.now wanted weak (target_of fields inputs bound)),
 )
 
 -- the same of an item
-abbrev pub line_of : {E : Type 0} → {r : _} → (E → SymbolFields) → List Input → List (DynamicObject E r) → Result (Binding E) (ℕ × LinkError) → Result (Bool × List ℕ) (ℕ × LinkError)
-line_of fields inputs objects (Err refused) = Err refused
-line_of fields inputs objects (Ok binding) = line_by fields inputs binding.from
-    (symbol_of objects binding.from binding.reference.symbol) binding.bound binding.asked
+abbrev pub line_of : {E : Type 0} → {r : _} → (E → SymbolFields) → List Input → List (DynamicObject E r) → Bool → Result (Binding E) (ℕ × LinkError) → Result (Bool × List ℕ) (ℕ × LinkError)
+line_of fields inputs objects only_missing (Err refused) = Err refused
+line_of fields inputs objects only_missing (Ok binding) = line_by fields inputs only_missing binding.from
+    (is_weak fields (symbol_of objects binding.from binding.reference.symbol)) binding.bound binding.asked
 
 -- an error is that of an item, with the path of the file that asks
 abbrev pub IsErrorOf : List Input → Result (Bool × List ℕ) (ℕ × LinkError) → Refused LinkError → Type 0
@@ -97,30 +102,31 @@ HasItem {E} fields objects P reference = (item : Result (Binding E) (ℕ × Link
     × (reference_of_item item ≡ reference) × IsItemOf fields objects item × P item
 
 -- the line of the item of a reference, and whether it is missing its symbol
-abbrev pub IsLine : {E : Type 0} → {r : _} → (E → SymbolFields) → List Input → List (DynamicObject E r) → ℕ → ℕ × Result Reference LinkError → Bool → List ℕ → Type 0
-IsLine fields inputs objects _ reference missing line =
-    HasItem fields objects (λ item. line_of fields inputs objects item ≡ Ok (missing, line)) reference
+abbrev pub IsLine : {E : Type 0} → {r : _} → (E → SymbolFields) → List Input → List (DynamicObject E r) → Bool → ℕ → ℕ × Result Reference LinkError → Bool → List ℕ → Type 0
+IsLine fields inputs objects only_missing _ reference missing line =
+    HasItem fields objects (λ item. line_of fields inputs objects only_missing item ≡ Ok (missing, line)) reference
 
 -- what is written of all objects: the lines of the items, in order
-abbrev pub AreBindingsWritten : {E : Type 0} → {r : _} → (E → SymbolFields) → List Input → List (DynamicObject E r) → Bool → List ℕ → Type 0
-AreBindingsWritten fields inputs objects = AreWritten (IsLine fields inputs objects) (references_from 0 objects)
+abbrev pub AreBindingsWritten : {E : Type 0} → {r : _} → (E → SymbolFields) → List Input → List (DynamicObject E r) → Bool → Bool → List ℕ → Type 0
+AreBindingsWritten fields inputs objects only_missing = AreWritten (IsLine fields inputs objects only_missing) (references_from 0 objects)
 
 -- an item has a property, and those before it have their lines
-pub record IsAtItem {E : Type 0} {r : _} (fields : E → SymbolFields) (inputs : List Input) (objects : List (DynamicObject E r)) (P : Result (Binding E) (ℕ × LinkError) → Type 0) : Type 0 where
+pub record IsAtItem {E : Type 0} {r : _} (fields : E → SymbolFields) (inputs : List Input) (objects : List (DynamicObject E r)) (only_missing : Bool) (P : Result (Binding E) (ℕ × LinkError) → Type 0) : Type 0 where
   pub earlier : List (ℕ × Result Reference LinkError)
   pub reference : ℕ × Result Reference LinkError
   pub later : List (ℕ × Result Reference LinkError)
   pub references_are : references_from 0 objects ≡ earlier ++ (reference ∷ later)
   pub missing : Bool
   pub text : List ℕ
-  pub lines : AreWritten (IsLine fields inputs objects) earlier missing text
+  pub lines : AreWritten (IsLine fields inputs objects only_missing) earlier missing text
   pub here : HasItem fields objects P reference
 
 -- why the lines end before the last: the first item that has an error
-abbrev pub AreBindingsRefused : {E : Type 0} → {r : _} → (E → SymbolFields) → List Input → List (DynamicObject E r) → Refused LinkError → Type 0
-AreBindingsRefused fields inputs objects refused =
-    IsAtItem fields inputs objects (λ item. IsErrorOf inputs (line_of fields inputs objects item) refused)
+abbrev pub AreBindingsRefused : {E : Type 0} → {r : _} → (E → SymbolFields) → List Input → List (DynamicObject E r) → Bool → Refused LinkError → Type 0
+AreBindingsRefused fields inputs objects only_missing refused =
+    IsAtItem fields inputs objects only_missing (λ item. IsErrorOf inputs (line_of fields inputs objects only_missing item) refused)
 
 -- an item has its line, as those before it have
-abbrev pub AreBindingsBegun : {E : Type 0} → {r : _} → (E → SymbolFields) → List Input → List (DynamicObject E r) → Type 0
-AreBindingsBegun fields inputs objects = IsAtItem fields inputs objects (λ item. IsOk (line_of fields inputs objects item))
+abbrev pub AreBindingsBegun : {E : Type 0} → {r : _} → (E → SymbolFields) → List Input → List (DynamicObject E r) → Bool → Type 0
+AreBindingsBegun fields inputs objects only_missing =
+    IsAtItem fields inputs objects only_missing (λ item. IsOk (line_of fields inputs objects only_missing item))

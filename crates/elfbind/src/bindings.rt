@@ -1,10 +1,13 @@
-//! A line for each reference that is looked up: the file and the value that it gets.
+//! A line for each reference that is looked up, or for each that is missing its symbol: the file and
+//! the value that it gets.
 
-ghost use Rattle.std.specs.Prelude.{◌≡◌, ◌<◌, Bool, IsOk, MatchResult, Ok, Option, Some, length};
+ghost use Rattle.std.specs.Prelude.{◌≡◌, ◌<◌, ◌&&◌, Bool, IfOk, IsOk, MatchResult, Ok, Option};
+ghost use Rattle.std.specs.Prelude.{Some, length, not};
 ghost use Rattle.elf_linking.specs.Bindings.{reference_of_item};
 ghost use Rattle.elfbind.specs.Bindings.{AreBindingsBegun, AreBindingsRefused, AreBindingsWritten};
 ghost use Rattle.elfbind.specs.Bindings.{IsErrorOf, is_missing, is_weak, line_of, line_text};
-ghost use Rattle.elfbind.specs.Bindings.{symbol_of, target_of, target_text, version_text};
+ghost use Rattle.elfbind.specs.Bindings.{shown_text, symbol_of, target_of, target_text};
+ghost use Rattle.elfbind.specs.Bindings.{version_text};
 ghost use Rattle.program_ends.specs.Appended.{AppendsSome};
 ghost use Rattle.program_ends.specs.Stops.{IsStop};
 
@@ -15,27 +18,29 @@ use elf_linking::view::LinkedSymbol;
 use elf_linking::{DynamicObject, LinkError};
 use linking_programs::{Input, Refused, refusal_at};
 use program_ends::Stop;
-use std::fmt;
 use std::fmt::Display;
 use std::io::Write;
+use std::{fmt, io};
 use xmas_elf::symbol_table::Entry;
 
-// A line for each reference of all files that is looked up, and whether one is missing its symbol.
+// A line for each reference of all files that is looked up, or, if only these are asked for, for each
+// that is missing its symbol; and whether one is.
 pub(crate) fn write_bindings<'s, E: LinkedSymbol, W: Write>(
     inputs: &'s [Input<'_>],
     objects: &[DynamicObject<'_, E>],
+    only_missing: bool,
     out: &mut W,
 ) -> Result<bool, Stop<Refused<'s, LinkError>>>
     requires same { length objects.now ≡ length inputs.now }
     ensures { MatchResult result (λ missing. AppendsSome
-        (AreBindingsWritten E.fields inputs.now objects.now missing)
+        (AreBindingsWritten E.fields inputs.now objects.now only_missing missing)
         (W.contents out.old) (W.contents out.new))
-        (IsStop (AreBindingsRefused E.fields inputs.now objects.now)
-        (AreBindingsBegun E.fields inputs.now objects.now) ⊥) }
+        (IsStop (AreBindingsRefused E.fields inputs.now objects.now only_missing)
+        (AreBindingsBegun E.fields inputs.now objects.now only_missing) ⊥) }
 {
     let mut missing = false;
     for item in Scope::new(objects).bindings() {
-        match write_item(inputs, objects, item, out) {
+        match write_item(inputs, objects, item, only_missing, out) {
             Ok(own) => missing = either(missing, own),
             Err(stop) => return Err(stop),
         }
@@ -43,19 +48,19 @@ pub(crate) fn write_bindings<'s, E: LinkedSymbol, W: Write>(
     Ok(missing)
 }
 
-// The line of a reference, if it is looked up, and whether it is missing its symbol.
+// The line of a reference, if it is looked up and asked for, and whether it is missing its symbol.
 fn write_item<'s, E: LinkedSymbol, W: Write>(
     inputs: &'s [Input<'_>],
     objects: &[DynamicObject<'_, E>],
     item: Result<Binding<'_, E>, (usize, LinkError)>,
+    only_missing: bool,
     out: &mut W,
 ) -> Result<bool, Stop<Refused<'s, LinkError>>>
     requires { (reference_of_item item).0 < length inputs.now }
-    ensures { MatchResult result (λ missing. AppendsSome
-        (λ text. line_of E.fields inputs.now objects.now item.entry ≡ Ok (missing, text))
+    ensures { let line = line_of E.fields inputs.now objects.now only_missing item.entry in
+        MatchResult result (λ missing. AppendsSome (λ text. line ≡ Ok (missing, text))
         (W.contents out.old) (W.contents out.new))
-        (IsStop (IsErrorOf inputs.now (line_of E.fields inputs.now objects.now item.entry))
-        (IsOk (line_of E.fields inputs.now objects.now item.entry)) ⊥) }
+        (IsStop (IsErrorOf inputs.now line) (IsOk line) ⊥) }
 {
     let binding = match item {
         Ok(binding) => binding,
@@ -74,18 +79,42 @@ fn write_item<'s, E: LinkedSymbol, W: Write>(
     match asked {
         Ok(Asked::Own(_)) => Ok(false),
         Ok(Asked::Look { name, wanted, .. }) => {
+            let weak = is_weak(&symbol_of(objects, from, reference.symbol));
+            let missing = is_missing(weak, &bound);
             let line = Line {
                 file: inputs[from].path,
                 name,
                 version: Version(wanted),
-                target: Target(target_of(inputs, &bound)),
+                target: Target {
+                    found: target_of(inputs, &bound),
+                    weak,
+                },
             };
-            write!(out, "{}", line)?;
-            let symbol = symbol_of(objects, from, reference.symbol);
-            Ok(is_missing(&symbol, &bound))
+            write_if(line, is_shown(only_missing, missing), out)?;
+            Ok(missing)
         }
         Err(error) => Err(refusal_at(inputs, from, error)),
     }
+}
+
+// Whether a line is asked for: all are, or only that of a reference that is missing its symbol.
+fn is_shown(only_missing: bool, missing: bool) -> bool
+    ensures { result ≡ not (only_missing && not missing) }
+{
+    !only_missing || missing
+}
+
+// A line, if it is asked for.
+fn write_if<W: Write>(line: Line<'_, '_>, shown: bool, out: &mut W) -> io::Result<()>
+    ensures { IfOk result (λ _. AppendsSome
+        (λ text. text ≡ shown_text shown (line_text line.entry.file.now line.entry.name.now
+        line.entry.version.0 line.entry.target.weak line.entry.target.found))
+        (W.contents out.old) (W.contents out.new)) }
+{
+    if shown {
+        write!(out, "{}", line)?;
+    }
+    Ok(())
 }
 
 // The path of the file that has a symbol, and the symbol's value.
@@ -111,11 +140,11 @@ fn symbol_of<E: LinkedSymbol>(
     objects.get(from)?.symbol(index)
 }
 
-// Whether a reference to a symbol is missing its symbol: it gets none, and isn't weak.
-fn is_missing<E: Entry>(symbol: &Option<E>, bound: &Option<Bound<E>>) -> bool
-    ensures { result ≡ is_missing E.fields symbol.now bound.now }
+// Whether a reference is missing its symbol: it gets none, and isn't weak.
+fn is_missing<E: Entry>(weak: bool, bound: &Option<Bound<E>>) -> bool
+    ensures { result ≡ is_missing weak bound.now }
 {
-    bound.is_none() && !is_weak(symbol)
+    bound.is_none() && !weak
 }
 
 // Whether a symbol is weak, if there is one.
@@ -143,16 +172,20 @@ impl Display for Version<'_> {
     }
 }
 
-// A file and a value, or that there is none.
+// A file and a value, or that there is none, and whether the reference is weak.
 #[derive(Clone, Copy)]
-struct Target<'a>(Option<(&'a str, u64)>);
+struct Target<'a> {
+    found: Option<(&'a str, u64)>,
+    weak: bool,
+}
 
 impl Display for Target<'_> {
-    ghost output = { λ target. Some (target_text target.0) };
+    ghost output = { λ target. Some (target_text target.weak target.found) };
 
     fn fmt<W: fmt::Write>(&self, f: &mut fmt::Formatter<W>) -> fmt::Result {
-        match self.0 {
+        match self.found {
             Some((file, value)) => write!(f, "{} 0x{:x}", file, value),
+            None if self.weak => write!(f, "unresolved (weak)"),
             None => write!(f, "unresolved"),
         }
     }
@@ -169,7 +202,7 @@ struct Line<'i, 'n> {
 
 impl Display for Line<'_, '_> {
     ghost output = { λ line. Some (line_text line.file.now line.name.now line.version.0
-        line.target.0) };
+        line.target.weak line.target.found) };
 
     fn fmt<W: fmt::Write>(&self, f: &mut fmt::Formatter<W>) -> fmt::Result {
         writeln!(

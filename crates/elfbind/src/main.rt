@@ -2,11 +2,13 @@
 //!
 //! `elfbind FILE..` takes a program and its libraries, in the order in which names are looked up. It
 //! writes a line for each reference that is looked up, `FILE NAME@VERSION -> FILE 0xVALUE`, or `FILE
-//! NAME@VERSION -> unresolved`; a name without a version is written without `@VERSION`. `elfbind --check FILE..`
-//! writes a line for each file, whether its hash table and its versions pass their checks.
+//! NAME@VERSION -> unresolved`, of a weak reference `unresolved (weak)`; a name without a version is
+//! written without `@VERSION`. `elfbind --unresolved FILE..` writes only the lines of references that
+//! are missing their symbols: those that get none and aren't weak. `elfbind --check FILE..` writes a
+//! line for each file, whether its hash table and its versions pass their checks.
 #![tactic(auto)]
 
-ghost use Rattle.std.specs.Prelude.{◌≡◌, ◌≤◌, [], Bool, Err, IfErr, IfOk, List, MatchResult, Ok};
+ghost use Rattle.std.specs.Prelude.{◌≡◌, ◌≢◌, ◌≤◌, [], Bool, Err, IfErr, IfOk, List, MatchResult, Ok};
 ghost use Rattle.std.specs.Prelude.{OnOk, Result, length, ⊤};
 ghost use Rattle.std.specs.Io.Buffered.{writer_buffer, writer_inner};
 ghost use Rattle.elf_linking.specs.declared.error.LinkError.{LinkError};
@@ -14,6 +16,7 @@ ghost use Rattle.elf_linking.specs.declared.object.DynamicObject.{DynamicObject}
 ghost use Rattle.elfbind.specs.Answers.{AreFilesRefused, AreFilesWritten, IsAnswer, IsAnswerBegun};
 ghost use Rattle.elfbind.specs.Answers.{IsAnswerRefused, IsAnswerWritten, IsEnd, status_of};
 ghost use Rattle.elfbind.specs.Files.{AreAccepted};
+ghost use Rattle.elfbind.specs.declared.TheConstants.{CLOSED};
 ghost use Rattle.linking_programs.specs.Files.{AreObjectsOf, refused_fault_of};
 ghost use Rattle.program_ends.specs.Appended.{AppendsSome};
 ghost use Rattle.program_ends.specs.Stops.{IsStop};
@@ -22,13 +25,14 @@ ghost use Rattle.program_ends.specs.declared.Fault.{Fault};
 use crate::bindings::write_bindings;
 use crate::checks::write_checks;
 use crate::files::check_objects;
+use crate::watched::Watched;
 use elf_base::bytes::Record;
 use elf_linking::view::LinkedSymbol;
 use elf_linking::{DynamicObject, LinkError};
 use linking_programs::{
     Input, Refused, is_first_narrow, read_inputs, read_objects, refused_fault_of,
 };
-use program_ends::{Fault, Stop, arguments, exit_code, say};
+use program_ends::{Fault, Stop, arguments, exit_code, say, write_about};
 use std::alloc::Global;
 use std::convert::AsStr;
 use std::io;
@@ -39,16 +43,27 @@ use xmas_elf::symbol_table::{DynEntry32, DynEntry64};
 mod bindings;
 mod checks;
 mod files;
+mod watched;
 
 const NAME: &str = "elfbind";
 
-const USAGE: &str = "elfbind <binary_path>.. | elfbind --check <binary_path>..";
+const USAGE: &str = "elfbind [--unresolved | --check] <binary_path>..";
+
+const HELP: &str =
+    "Prints the symbol that each reference of a program and its libraries gets, and its file. The files are
+in the order in which names are looked up.
+--unresolved  only the references that are missing their symbols
+--check       whether the hash table and the versions of each file pass their checks instead";
+
+/// The status if nobody reads the output to its end: that of a program which the signal SIGPIPE ends,
+/// as a shell tells it.
+pub const CLOSED: u8 = 141;
 
 /// What is asked of the files.
 #[derive(Clone, Copy, Drop)]
 pub enum Question {
-    /// What each reference gets.
-    Bindings,
+    /// What each reference gets, or, if `only_missing`, which references are missing their symbols.
+    Bindings { only_missing: bool },
     /// Whether the checks of each file pass.
     Checks,
 }
@@ -57,7 +72,8 @@ pub enum Question {
 /// exit status.
 ///
 /// The status is 0 once all is written and flushed, no reference is missing its symbol and no check
-/// fails, and 1 otherwise. The contract says what can be the case then: a reference is missing its
+/// fails. It is `CLOSED`, and nothing is said, if a write failed since nobody reads the output, and 1
+/// otherwise. The contract says what can be the case then: a reference is missing its
 /// symbol, or a check fails; a file has an error, which file and which error; a write failed, if no
 /// error comes before the first line; or memory is short. It says nothing of what `out` and `err`
 /// hold.
@@ -65,18 +81,19 @@ pub fn run<W: Write, E: Write>(
     alloc: Global,
     question: Question,
     inputs: &[Input<'_>],
-    out: &mut W,
+    out: &mut Watched<W>,
     err: &mut E,
 ) -> u8
-    ensures bound { result ≤ 1 }
+    ensures bound { result ≢ CLOSED → result ≤ 1 }
     ensures accepted { result ≡ 0 → AreAccepted inputs.now }
     ensures ends { (end : Result Bool (Fault LinkError))
         × IsEnd ⟦<DynEntry32 as Record>⟧ ⟦<DynEntry64 as Record>⟧ inputs.now question end
-        × (result ≡ status_of end) }
+        × (result ≡ status_of end out.new.closed) }
 {
-    match answer(alloc, question, inputs, out) {
+    match answer(alloc, question, inputs, &mut *out) {
         Ok(false) => 0,
         Ok(true) => 1,
+        Err(_) if out.is_closed() => CLOSED,
         Err(fault) => say(NAME, &fault, err),
     }
 }
@@ -204,8 +221,8 @@ fn write_answer<'s, E: LinkedSymbol, W: Write>(
         (IsAnswerBegun E.fields inputs.now objects.now question) ⊥) }
 {
     match question {
-        Question::Bindings => match check_objects(inputs, objects) {
-            Ok(()) => write_bindings(inputs, objects, out),
+        Question::Bindings { only_missing } => match check_objects(inputs, objects) {
+            Ok(()) => write_bindings(inputs, objects, only_missing, out),
             Err(stop) => Err(stop),
         },
         Question::Checks => write_checks(inputs, objects, out),
@@ -219,7 +236,10 @@ fn main(rt: HostRuntime) -> ExitCode {
 // The status, or why the arguments can't be read: for want of memory, or since one is not UTF-8.
 fn run_on_arguments(rt: &HostRuntime) -> io::Result<u8> {
     let words = arguments(rt)?;
-    let (mut out, mut err) = (rt.stdout(), rt.stderr());
+    let (mut out, mut err) = (Watched::new(rt.stdout()), rt.stderr());
+    if write_about(NAME, USAGE, HELP, &words, &mut out)? {
+        return Ok(0);
+    }
     let Some((question, paths)) = asked(&words) else {
         return Ok(say("usage", &USAGE, &mut out));
     };
@@ -232,11 +252,18 @@ fn run_on_arguments(rt: &HostRuntime) -> io::Result<u8> {
 // What the arguments ask, and of which files, if they are as they should be.
 fn asked<S: AsStr>(arguments: &[S]) -> Option<(Question, &[S])> {
     let (first, others) = arguments.split_first()?;
-    if first.as_str() != "--check" {
-        return Some((Question::Bindings, arguments));
-    }
+    let question = match first.as_str() {
+        "--check" => Question::Checks,
+        "--unresolved" => Question::Bindings { only_missing: true },
+        _ => {
+            let question = Question::Bindings {
+                only_missing: false,
+            };
+            return Some((question, arguments));
+        }
+    };
     if others.is_empty() {
         return None;
     }
-    Some((Question::Checks, others))
+    Some((question, others))
 }

@@ -2,4 +2,4 @@ pub mod Ends
 pub mod Flushed
 pub mod LineLists
 mod Names
-mod Unbuffered
+pub mod Unbuffered
