@@ -34,12 +34,6 @@ python() { PYTHONPATH=tools python3 -c "$@"; }
 # versions behind an `@`, which a few names have too.
 printed() { awk 'NF == 3 { sub(/@.*/, "", $3); print $3 }' "$1" | sort; }
 names() { readelf --wide --symbols "$1" | awk '$1 ~ /^[0-9]+:$/ && $4 != "SECTION" && $8 != "" { sub(/@.*/, "", $8); print $8 }' | sort; }
-# Those of .symtab alone, or of .dynsym of a file without it.
-own_names() {
-    readelf --wide --symbols "$1" | awk '/^Symbol table/ { table = $3 }
-        $1 ~ /^[0-9]+:$/ && $4 != "SECTION" && $8 != "" { sub(/@.*/, "", $8); names[table] = names[table] $8 "\n" }
-        END { printf "%s", "\047.symtab\047" in names ? names["\047.symtab\047"] : names["\047.dynsym\047"] }' | sort
-}
 
 # What the header says of the archive: it has the exports of the list, needs `memcpy`, `memmove` and `memset` alone, keeps nothing (no section is
 # writable), has no unwind tables, and no absolute addresses in code.
@@ -146,7 +140,7 @@ for file in "$room/nm_c" /lib/x86_64-linux-gnu/libc.so.6; do
     for compiler in "${cxx[@]}"; do "$room/nm_$compiler" "$file" | cmp - "$room/of_c"; done
     diff <(printed "$room/of_c") <(names "$file") > "$room/difference" || { head "$room/difference"; exit 1; }
     "$room/names_c" < "$file" > "$room/of_page"
-    diff <(sed 's/@.*//' "$room/of_page" | grep . | sort) <(own_names "$file") > "$room/difference" || { head "$room/difference"; exit 1; }
+    diff <(sed 's/@.*//' "$room/of_page" | grep . | sort) <(names "$file") > "$room/difference" || { head "$room/difference"; exit 1; }
     "$room/find_c" "$file" malloc qsort no_such_name > "$room/of_c"
     "$CARGO_TARGET_DIR/release/examples/find" "$file" malloc qsort no_such_name | cmp - "$room/of_c"
 done
