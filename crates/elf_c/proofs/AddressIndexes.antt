@@ -22,8 +22,8 @@ use Rattle.elf_base.specs.declared.error.ElfError.{ElfError}
 use Rattle.elf_base.specs.declared.error.ElfError.TheVariants.{NotMultiple}
 use Rattle.xmas_elf.specs.Ranges.{range_of}
 use Rattle.xmas_elf.specs.Symbol.{SymbolFields, dyn_entry_32, dyn_entry_32_fields, dyn_entry_64, dyn_entry_64_fields}
-use Rattle.elf_c.specs.AddressIndex.{Addresses, AreAnswered, AreStored, IsAnswer, IsAnswerIn, IsIndexIn, IsIndexWith, addresses_by, addresses_of, claim_by, claim_in, claimed_at, range_in, sizes_of, sizes_with, symbol_at, symbols_by, symbols_in, told, within_of, words_by}
-use Rattle.elf_c.specs.Records.{flag_number, found_in, taken_for}
+use Rattle.elf_c.specs.AddressIndex.{Addresses, AreAnswered, AreStored, IsAnswer, IsAnswerIn, IsIndexIn, IsIndexWith, addresses_by, addresses_of_table, claim_by, claim_in_section, claimed_at, range_in, index_sizes_of, sizes_with, symbol_at_address, symbols_by, symbol_records_in, told, within_of, words_by}
+use Rattle.elf_c.specs.Records.{flag_number, record_in, record_or_none}
 use Rattle.elf_c.specs.Status.{and_so}
 use Rattle.elf_c.specs.SymbolTables.{AreSymbolsBy, AreSymbolsIn, symbol_among, symbol_by}
 use Rattle.elf_c.specs.Symbols.{symbol_record}
@@ -38,24 +38,24 @@ use Rattle.elf_c.specs.declared.symbol_tables.AnySymbols.TheVariants.{Narrow, Wi
 use Rattle.elf_c.specs.declared.symbol_tables.SymbolTable.{SymbolTable}
 
 -- a claim by the library's table is one by its symbols
-same_claim : {E : Type 0} {r : _} (fields : E → SymbolFields) (symbols : AddressSymbols E r) (within : Option ℕ) (i : ℕ) (found : Option E) → option_and_then (claim_if fields symbols within i) found ≡ option_and_then (claim_by (addresses_of fields symbols) within i) (option_map fields found)
+same_claim : {E : Type 0} {r : _} (fields : E → SymbolFields) (symbols : AddressSymbols E r) (within : Option ℕ) (i : ℕ) (found : Option E) → option_and_then (claim_if fields symbols within i) found ≡ option_and_then (claim_by (addresses_of_table fields symbols) within i) (option_map fields found)
 unfolding has_claim
 same_claim fields symbols within i None = refl
 same_claim fields symbols within i (Some e) = refl
 
-pub same_claims : {E : Type 0} {r : _} (fields : E → SymbolFields) (symbols : AddressSymbols E r) (within : Option ℕ) → claim_of_symbols fields symbols within ≡ claim_in (addresses_of fields symbols) within
+pub same_claims : {E : Type 0} {r : _} (fields : E → SymbolFields) (symbols : AddressSymbols E r) (within : Option ℕ) → claim_of_symbols fields symbols within ≡ claim_in_section (addresses_of_table fields symbols) within
 same_claims fields symbols within = fun_ext (λ i. same_claim fields symbols within i (slice_get (symbol_items symbols) i)
-    ∙ ap (option_and_then (claim_by (addresses_of fields symbols) within i)) (sym (slice_get-map fields (symbol_items symbols) i)))
+    ∙ ap (option_and_then (claim_by (addresses_of_table fields symbols) within i)) (sym (slice_get-map fields (symbol_items symbols) i)))
 
 same_range : {E : Type 0} (fields : E → SymbolFields) (found : Option E) → symbol_range fields found ≡ symbol_range (λ symbol. symbol) (option_map fields found)
 same_range fields None = refl
 same_range fields (Some e) = refl
 
-pub same_ranges : {E : Type 0} {r : _} (fields : E → SymbolFields) (symbols : AddressSymbols E r) → range_of_symbols fields symbols ≡ range_in (addresses_of fields symbols)
+pub same_ranges : {E : Type 0} {r : _} (fields : E → SymbolFields) (symbols : AddressSymbols E r) → range_of_symbols fields symbols ≡ range_in (addresses_of_table fields symbols)
 same_ranges fields symbols = fun_ext (λ i. same_range fields (slice_get (symbol_items symbols) i)
     ∙ ap (symbol_range (λ symbol. symbol)) (sym (slice_get-map fields (symbol_items symbols) i)))
 
-pub same_count : {E : Type 0} {r : _} (fields : E → SymbolFields) (symbols : AddressSymbols E r) → symbol_count symbols ≡ length (addresses_of fields symbols).items
+pub same_count : {E : Type 0} {r : _} (fields : E → SymbolFields) (symbols : AddressSymbols E r) → symbol_count symbols ≡ length (addresses_of_table fields symbols).items
 same_count fields symbols = sym (length-map (symbol_items symbols) fields)
 
 -- the numbers of a symbol that was found are those of the symbol at its index
@@ -67,31 +67,31 @@ told_is fields symbols address (Some at) tells =
     let sum = tells.offset in
     let offset : at.offset ≡ address - symbol.value = omega (arith, sum) in
     let numbers : ℕ → Bool → SymbolAt = λ n b. record { symbol = symbol_record symbol; index = at.index; offset = n; found = 1; is_open = flag_number b } in
-    ap (λ n. numbers n at.open) offset ∙ ap (λ b. numbers (address - symbol.value) b) tells.is_open ∙ ap (symbol_at address at.index) (sym there)
+    ap (λ n. numbers n at.open) offset ∙ ap (λ b. numbers (address - symbol.value) b) tells.is_open ∙ ap (symbol_at_address address at.index) (sym there)
 
 -- sizes, indexes and answers by the library's table are those by its symbols
-pub same_sizes : {E : Type 0} {r : _} (fields : E → SymbolFields) (symbols : AddressSymbols E r) (within : Option ℕ) (words : List ℕ) → sizes_with (claim_of_symbols fields symbols within) (symbol_count symbols) words ≡ sizes_of (addresses_of fields symbols) within words
+pub same_sizes : {E : Type 0} {r : _} (fields : E → SymbolFields) (symbols : AddressSymbols E r) (within : Option ℕ) (words : List ℕ) → sizes_with (claim_of_symbols fields symbols within) (symbol_count symbols) words ≡ index_sizes_of (addresses_of_table fields symbols) within words
 same_sizes fields symbols within words =
     ap (λ c. sizes_with c (symbol_count symbols) words) (same_claims fields symbols within)
-    ∙ ap (λ n. sizes_with (claim_in (addresses_of fields symbols) within) n words) (same_count fields symbols)
+    ∙ ap (λ n. sizes_with (claim_in_section (addresses_of_table fields symbols) within) n words) (same_count fields symbols)
 
-pub same_index : {E : Type 0} {r : _} (fields : E → SymbolFields) (symbols : AddressSymbols E r) (within : Option ℕ) (sized opens : ℕ) (words : List ℕ) → IsIndexWith (claim_of_symbols fields symbols within) (range_of_symbols fields symbols) sized opens words → IsIndexIn (addresses_of fields symbols) within sized opens words
+pub same_index : {E : Type 0} {r : _} (fields : E → SymbolFields) (symbols : AddressSymbols E r) (within : Option ℕ) (sized opens : ℕ) (words : List ℕ) → IsIndexWith (claim_of_symbols fields symbols within) (range_of_symbols fields symbols) sized opens words → IsIndexIn (addresses_of_table fields symbols) within sized opens words
 same_index fields symbols within sized opens words is =
-    subst (λ c. IsIndexWith c (range_in (addresses_of fields symbols)) sized opens words) (same_claims fields symbols within)
+    subst (λ c. IsIndexWith c (range_in (addresses_of_table fields symbols)) sized opens words) (same_claims fields symbols within)
     (subst (λ r. IsIndexWith (claim_of_symbols fields symbols within) r sized opens words) (same_ranges fields symbols) is)
 
-pub same_built : {E : Type 0} {r : _} (fields : E → SymbolFields) (symbols : AddressSymbols E r) (within : Option ℕ) (size : ℕ) (words : List ℕ) (answer : Result Sizes Refusal) → IfOk answer (λ s. s.words ≤ size → IsIndexWith (claim_of_symbols fields symbols within) (range_of_symbols fields symbols) s.sized_count s.open_count words) → IfOk answer (λ s. s.words ≤ size → IsIndexIn (addresses_of fields symbols) within s.sized_count s.open_count words)
+pub same_built : {E : Type 0} {r : _} (fields : E → SymbolFields) (symbols : AddressSymbols E r) (within : Option ℕ) (size : ℕ) (words : List ℕ) (answer : Result Sizes Refusal) → IfOk answer (λ s. s.words ≤ size → IsIndexWith (claim_of_symbols fields symbols within) (range_of_symbols fields symbols) s.sized_count s.open_count words) → IfOk answer (λ s. s.words ≤ size → IsIndexIn (addresses_of_table fields symbols) within s.sized_count s.open_count words)
 same_built fields symbols within size words (Ok s) built = λ fits. same_index fields symbols within s.sized_count s.open_count words (built fits)
 same_built fields symbols within size words (Err why) built = tt
 
 pub same_answers : {E : Type 0} {r : _} (fields : E → SymbolFields) (symbols : AddressSymbols E r) (index : AddressIndex) (words addresses : List ℕ) (old new : List SymbolAt)
     → AreStored (IsAnswer (claim_of_symbols fields symbols (within_of index.within)) (map fields (symbol_items symbols)) (IsIndexWith (claim_of_symbols fields symbols (within_of index.within)) (range_of_symbols fields symbols) index.sized_count index.open_count words)) addresses old new
-    → AreStored (IsAnswerIn (addresses_of fields symbols) index words) addresses old new
+    → AreStored (IsAnswerIn (addresses_of_table fields symbols) index words) addresses old new
 same_answers fields symbols index words addresses old new are =
     let items = map fields (symbol_items symbols) in
     let P : (ℕ → Option Claim) → (ℕ → ℕ × ℕ) → Type 0 =
     λ c r. AreStored (IsAnswer c items (IsIndexWith c r index.sized_count index.open_count words)) addresses old new in
-    subst (λ c. P c (range_in (addresses_of fields symbols))) (same_claims fields symbols (within_of index.within))
+    subst (λ c. P c (range_in (addresses_of_table fields symbols))) (same_claims fields symbols (within_of index.within))
     (subst (λ r. P (claim_of_symbols fields symbols (within_of index.within)) r) (same_ranges fields symbols) are)
 
 -- the symbols of a table of either class
@@ -99,7 +99,7 @@ abbrev pub items_in : AnySymbols → List SymbolFields
 items_in (Narrow table) = map dyn_entry_32_fields (table_items table)
 items_in (Wide table) = map dyn_entry_64_fields (table_items table)
 
-items_among : (narrow : Bool) (order : Order) (bytes : List ℕ) (answer : Result AnySymbols Refusal) → AreSymbolsIn narrow order bytes answer → MatchResult answer (λ symbols. symbols_in narrow order bytes ≡ Ok (items_in symbols)) (λ why. symbols_in narrow order bytes ≡ Err why)
+items_among : (narrow : Bool) (order : Order) (bytes : List ℕ) (answer : Result AnySymbols Refusal) → AreSymbolsIn narrow order bytes answer → MatchResult answer (λ symbols. symbol_records_in narrow order bytes ≡ Ok (items_in symbols)) (λ why. symbol_records_in narrow order bytes ≡ Err why)
 items_among true order bytes (Ok (Narrow table)) is = rw is.0 (ap (λ xs. Ok (map dyn_entry_32_fields xs)) (sym is.1))
 items_among true order bytes (Ok (Wide table)) is = absurd is
 items_among true order bytes (Err why) is = rw is.0 (ap (λ x. Err x) (sym is.1))
@@ -117,7 +117,7 @@ items_read input table answer = by_range (range_of input table.symbols.offset ta
     refused error (Ok symbols) same = absurd (cc)
     refused error (Err why) same = cc
 
-    by_range : (found : Result (List ℕ) ElfError) → range_of input table.symbols.offset table.symbols.size ≡ found → MatchResult found (λ bytes. AreSymbolsIn (table.class == 1) (order_of table.encoding) bytes answer) (λ error. answer ≡ Err (Elf error)) → Is (and_so found (symbols_in (table.class == 1) (order_of table.encoding)))
+    by_range : (found : Result (List ℕ) ElfError) → range_of input table.symbols.offset table.symbols.size ≡ found → MatchResult found (λ bytes. AreSymbolsIn (table.class == 1) (order_of table.encoding) bytes answer) (λ error. answer ≡ Err (Elf error)) → Is (and_so found (symbol_records_in (table.class == 1) (order_of table.encoding)))
     by_range (Ok bytes) is are = items_among (table.class == 1) (order_of table.encoding) bytes answer are
     by_range (Err error) is are = refused error answer are
 
@@ -142,22 +142,22 @@ ok_same xs ys is = cc
 some_same : (a b : SymbolFields) → Some a ≡ Some b → a ≡ b
 some_same a b is = cc
 
-value_in : {E : Type 0} (fields : E → SymbolFields) (all : List E) (items : List SymbolFields) (index : ℕ) (symbol : SymbolFields) → map fields all ≡ items → slice_get items index ≡ Some symbol → found_in (λ e. symbol_record (fields e)) all index ≡ Ok (symbol_record symbol)
+value_in : {E : Type 0} (fields : E → SymbolFields) (all : List E) (items : List SymbolFields) (index : ℕ) (symbol : SymbolFields) → map fields all ≡ items → slice_get items index ≡ Some symbol → record_in (λ e. symbol_record (fields e)) all index ≡ Ok (symbol_record symbol)
 value_in {E} fields all items index symbol is there = by_item (slice_get all index) (sym (slice_get-map fields all index) ∙ ap (λ xs. slice_get xs index) is ∙ there)
   where
-    by_item : (found : Option E) → option_map fields found ≡ Some symbol → taken_for (λ e. symbol_record (fields e)) found ≡ Ok (symbol_record symbol)
+    by_item : (found : Option E) → option_map fields found ≡ Some symbol → record_or_none (λ e. symbol_record (fields e)) found ≡ Ok (symbol_record symbol)
     by_item None none = absurd (cc)
     by_item (Some e) one = ap (λ s. Ok (symbol_record s)) (some_same (fields e) symbol one)
 
-value_among : (narrow : Bool) (order : Order) (bytes : List ℕ) (items : List SymbolFields) → symbols_in narrow order bytes ≡ Ok items → (index : ℕ) (symbol : SymbolFields) → slice_get items index ≡ Some symbol → symbol_among symbol_record narrow order bytes index ≡ Ok (symbol_record symbol)
+value_among : (narrow : Bool) (order : Order) (bytes : List ℕ) (items : List SymbolFields) → symbol_records_in narrow order bytes ≡ Ok items → (index : ℕ) (symbol : SymbolFields) → slice_get items index ≡ Some symbol → symbol_among symbol_record narrow order bytes index ≡ Ok (symbol_record symbol)
 value_among true order bytes items is index symbol there = by_size (length bytes % 16 == 0) is
   where
-    by_size : (whole : Bool) → (if whole then Ok (map dyn_entry_32_fields (records 16 (dyn_entry_32 order) bytes)) else Err (Elf NotMultiple)) ≡ Ok items → (if whole then found_in (λ e. symbol_record (dyn_entry_32_fields e)) (records 16 (dyn_entry_32 order) bytes) index else Err (Elf NotMultiple)) ≡ Ok (symbol_record symbol)
+    by_size : (whole : Bool) → (if whole then Ok (map dyn_entry_32_fields (records 16 (dyn_entry_32 order) bytes)) else Err (Elf NotMultiple)) ≡ Ok items → (if whole then record_in (λ e. symbol_record (dyn_entry_32_fields e)) (records 16 (dyn_entry_32 order) bytes) index else Err (Elf NotMultiple)) ≡ Ok (symbol_record symbol)
     by_size true same = value_in dyn_entry_32_fields (records 16 (dyn_entry_32 order) bytes) items index symbol (ok_same _ _ same) there
     by_size false same = absurd (cc)
 value_among false order bytes items is index symbol there = by_size (length bytes % 24 == 0) is
   where
-    by_size : (whole : Bool) → (if whole then Ok (map dyn_entry_64_fields (records 24 (dyn_entry_64 order) bytes)) else Err (Elf NotMultiple)) ≡ Ok items → (if whole then found_in (λ e. symbol_record (dyn_entry_64_fields e)) (records 24 (dyn_entry_64 order) bytes) index else Err (Elf NotMultiple)) ≡ Ok (symbol_record symbol)
+    by_size : (whole : Bool) → (if whole then Ok (map dyn_entry_64_fields (records 24 (dyn_entry_64 order) bytes)) else Err (Elf NotMultiple)) ≡ Ok items → (if whole then record_in (λ e. symbol_record (dyn_entry_64_fields e)) (records 24 (dyn_entry_64 order) bytes) index else Err (Elf NotMultiple)) ≡ Ok (symbol_record symbol)
     by_size true same = value_in dyn_entry_64_fields (records 24 (dyn_entry_64 order) bytes) items index symbol (ok_same _ _ same) there
     by_size false same = absurd (cc)
 
@@ -176,7 +176,7 @@ none_found is = cc
 value_by : (input : List ℕ) (table : SymbolTable) (items : List SymbolFields) (index : ℕ) (symbol : SymbolFields) → symbols_by input table ≡ Ok items → slice_get items index ≡ Some symbol → symbol_by symbol_record input table index ≡ Ok (symbol_record symbol)
 value_by input table items index symbol is there = by_range (range_of input table.symbols.offset table.symbols.size) is
   where
-    by_range : (found : Result (List ℕ) ElfError) → and_so found (symbols_in (table.class == 1) (order_of table.encoding)) ≡ Ok items → and_so found (λ bytes. symbol_among symbol_record (table.class == 1) (order_of table.encoding) bytes index) ≡ Ok (symbol_record symbol)
+    by_range : (found : Result (List ℕ) ElfError) → and_so found (symbol_records_in (table.class == 1) (order_of table.encoding)) ≡ Ok items → and_so found (λ bytes. symbol_among symbol_record (table.class == 1) (order_of table.encoding) bytes index) ≡ Ok (symbol_record symbol)
     by_range (Ok bytes) read = value_among (table.class == 1) (order_of table.encoding) bytes items read index symbol there
     by_range (Err error) read = absurd (cc)
 
@@ -192,9 +192,9 @@ answer_has all input table address None said is numbers one = absurd (none_found
 answer_has all input table address (Some claim) said is numbers one = by_item (slice_get all.items claim.index) refl
   where
     by_item : (item : Option SymbolFields) → slice_get all.items claim.index ≡ item → symbol_by symbol_record input table said.index ≡ Ok said.symbol
-    by_item None there = absurd (none_found (sym (ap (λ s. s.found) (numbers ∙ ap (symbol_at address claim.index) there)) ∙ one))
+    by_item None there = absurd (none_found (sym (ap (λ s. s.found) (numbers ∙ ap (symbol_at_address address claim.index) there)) ∙ one))
     by_item (Some symbol) there =
-        let same : said ≡ symbol_at address claim.index (Some symbol) = numbers ∙ ap (symbol_at address claim.index) there in
+        let same : said ≡ symbol_at_address address claim.index (Some symbol) = numbers ∙ ap (symbol_at_address address claim.index) there in
         subst (λ (s : SymbolAt). symbol_by symbol_record input table s.index ≡ Ok s.symbol) (sym same) (value_by input table all.items claim.index symbol is there)
 
 -- each symbol that is found is the one at its index

@@ -8,7 +8,7 @@ use Rattle.std.specs.Prelude.{slice_get, slice_set}
 use Rattle.elf_base.specs.declared.error.ElfError.{ElfError}
 use Rattle.elf_base.specs.declared.error.ElfError.TheVariants.{TextUtf8}
 use Rattle.xmas_elf.specs.Ranges.{range_of}
-use Rattle.elf_c.specs.LookUps.{AreAnswered, IfUtf8, IsForRange, IsNamed, answered}
+use Rattle.elf_c.specs.LookUps.{AreAnswered, IfUtf8, IsForRange, IsNameFound, answered}
 use Rattle.elf_c.specs.declared.look_ups.LookUp.{LookUp}
 use Rattle.elf_c.specs.declared.look_ups.Answer.{Answer}
 use Rattle.elf_c.specs.declared.names.Range.{Range}
@@ -27,18 +27,18 @@ again : {A B : Type 0} (one other : Refusal) (found : Result A Refusal) (answer 
 again one other found answer is also says = says ∙ ap (λ r. Err r) (same_refusal one other found is also)
 
 -- if a name was found, the result satisfies P for it; otherwise the result is the error
-named_by : {A : Type 0} (P : List ℕ → Result A Refusal → Type 0) (name : List ℕ) (found : Result (Bor (List ℕ)) Refusal) (answer : Result A Refusal) → IfUtf8 IsNamed name found → MatchResult found (λ text. P text.now answer) (λ why. answer ≡ Err why) → IfUtf8 P name answer
+named_by : {A : Type 0} (P : List ℕ → Result A Refusal → Type 0) (name : List ℕ) (found : Result (Bor (List ℕ)) Refusal) (answer : Result A Refusal) → IfUtf8 IsNameFound name found → MatchResult found (λ text. P text.now answer) (λ why. answer ≡ Err why) → IfUtf8 P name answer
 named_by P name (Ok text) answer is says = (λ utf8. subst (λ n. P n answer) (is.0 utf8) says, λ not. absurd (ok_is_no_error text (Elf TextUtf8) (is.1 not)))
 named_by P name (Err why) answer is says = (λ utf8. elim (is.0 utf8) [ ], λ not. again why (Elf TextUtf8) (Err why) answer refl (is.1 not) says)
 
-pub named : {A : Type 0} (P : List ℕ → Result A Refusal → Type 0) (names : List ℕ) (range : Range) (found : Result (Bor (List ℕ)) Refusal) (answer : Result A Refusal) → IsForRange (IfUtf8 IsNamed) names range found → MatchResult found (λ text. P text.now answer) (λ why. answer ≡ Err why) → IsForRange (IfUtf8 P) names range answer
+pub named : {A : Type 0} (P : List ℕ → Result A Refusal → Type 0) (names : List ℕ) (range : Range) (found : Result (Bor (List ℕ)) Refusal) (answer : Result A Refusal) → IsForRange (IfUtf8 IsNameFound) names range found → MatchResult found (λ text. P text.now answer) (λ why. answer ≡ Err why) → IsForRange (IfUtf8 P) names range answer
 named {A} P names range found answer = by_range (range_of names range.offset range.size)
   where
     refused : (error : ElfError) (result : Result (Bor (List ℕ)) Refusal) → result ≡ Err (Elf error) → MatchResult result (λ text. P text.now answer) (λ why. answer ≡ Err why) → answer ≡ Err (Elf error)
     refused error (Ok text) same says = absurd (ok_is_no_error text (Elf error) same)
     refused error (Err why) same says = again why (Elf error) (Err why) answer refl same says
 
-    by_range : (bytes : Result (List ℕ) ElfError) → MatchResult bytes (λ name. IfUtf8 IsNamed name found) (λ error. found ≡ Err (Elf error)) → MatchResult found (λ text. P text.now answer) (λ why. answer ≡ Err why) → MatchResult bytes (λ name. IfUtf8 P name answer) (λ error. answer ≡ Err (Elf error))
+    by_range : (bytes : Result (List ℕ) ElfError) → MatchResult bytes (λ name. IfUtf8 IsNameFound name found) (λ error. found ≡ Err (Elf error)) → MatchResult found (λ text. P text.now answer) (λ why. answer ≡ Err why) → MatchResult bytes (λ name. IfUtf8 P name answer) (λ error. answer ≡ Err (Elf error))
     by_range (Ok name) is says = named_by P name found answer is says
     by_range (Err error) is says = refused error found is says
 

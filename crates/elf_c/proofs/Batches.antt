@@ -5,7 +5,7 @@ use Rattle.std.proofs.lemmas.List.{length-set}
 use Rattle.std.proofs.lemmas.Option.{slice_get_past}
 use Rattle.std.specs.Prelude.{min, slice_get, slice_set}
 use Rattle.elf_c.specs.Batch.{IsBatch}
-use Rattle.elf_c.specs.Records.{found_in, taken_for}
+use Rattle.elf_c.specs.Records.{record_in, record_or_none}
 use Rattle.elf_c.specs.declared.status.Refusal.{Refusal}
 use Rattle.elf_c.specs.declared.status.Refusal.TheVariants.{NoRecord}
 
@@ -25,7 +25,7 @@ put_elsewhere (y ∷ xs) (suc i) (suc j) x other = put_elsewhere xs i j x (λ sa
 -- the records below `place` are stored, and the other items are unchanged
 abbrev pub IsFilled : {T : Type 0} → (ℕ → Result T Refusal) → ℕ → List T → ℕ → List T → Type 0
 IsFilled item first old place new = (length new ≡ length old)
-    × ((k : ℕ) → k < place → found_in (λ x. x) new k ≡ item (first + k))
+    × ((k : ℕ) → k < place → record_in (λ x. x) new k ≡ item (first + k))
     × ((k : ℕ) → place ≤ k → slice_get new k ≡ slice_get old k)
 
 pub filled_none : {T : Type 0} (item : ℕ → Result T Refusal) (first : ℕ) (old : List T) → IsFilled item first old 0 old
@@ -35,21 +35,21 @@ filled_none item first old = (refl, λ k below. absurd (omega (arith, below)), �
 pub filled_more : {T : Type 0} (item : ℕ → Result T Refusal) (first : ℕ) (old : List T) (place : ℕ) (new : List T) (x : T) → place < length new → item (first + place) ≡ Ok x → IsFilled item first old place new → IsFilled item first old (place + 1) (slice_set new place x)
 filled_more {T} item first old place new x below is filled = (length-set new place x ∙ filled.0, each, rest)
   where
-    at : (k : ℕ) → k < place + 1 → ((k < place) ⊎ (k ≡ place)) → found_in (λ y. y) (slice_set new place x) k ≡ item (first + k)
-    at k here (inl before) = ap (taken_for (λ y. y)) (put_elsewhere new place k x (λ same. absurd (omega (arith, before, same)))) ∙ filled.1 k before
-    at k here (inr same) = ap (λ i. found_in (λ y. y) (slice_set new place x) i) same ∙ ap (taken_for (λ y. y)) (put_there new place x below) ∙ sym is ∙ ap (λ i. item (first + i)) (sym same)
+    at : (k : ℕ) → k < place + 1 → ((k < place) ⊎ (k ≡ place)) → record_in (λ y. y) (slice_set new place x) k ≡ item (first + k)
+    at k here (inl before) = ap (record_or_none (λ y. y)) (put_elsewhere new place k x (λ same. absurd (omega (arith, before, same)))) ∙ filled.1 k before
+    at k here (inr same) = ap (λ i. record_in (λ y. y) (slice_set new place x) i) same ∙ ap (record_or_none (λ y. y)) (put_there new place x below) ∙ sym is ∙ ap (λ i. item (first + i)) (sym same)
 
     order : (k : ℕ) → k < place + 1 → (k < place) ⊎ (k ≡ place)
     order k here = ⊎_elim (λ same. inr same) (λ apart. ⊎_elim (λ before. inl before) (λ behind. absurd (omega (arith, here, behind))) apart) (cases_order k place)
 
-    each : (k : ℕ) → k < place + 1 → found_in (λ y. y) (slice_set new place x) k ≡ item (first + k)
+    each : (k : ℕ) → k < place + 1 → record_in (λ y. y) (slice_set new place x) k ≡ item (first + k)
     each k here = at k here (order k here)
 
     rest : (k : ℕ) → place + 1 ≤ k → slice_get (slice_set new place x) k ≡ slice_get old k
     rest k above = put_elsewhere new place k x (λ same. absurd (omega (arith, above, same))) ∙ filled.2 k (omega (arith, above))
 
 -- the number of records is that of all, or of those that have room
-pub filled_all : {A T : Type 0} (value : A → T) (items : List A) (first : ℕ) (old : List T) (count : ℕ) (new : List T) → first < length items → count ≡ min (length items - first) (length old) → IsFilled (found_in value items) first old count new → IsBatch (found_in value items) first old count new
+pub filled_all : {A T : Type 0} (value : A → T) (items : List A) (first : ℕ) (old : List T) (count : ℕ) (new : List T) → first < length items → count ≡ min (length items - first) (length old) → IsFilled (record_in value items) first old count new → IsBatch (record_in value items) first old count new
 filled_all {A} {T} value items first old count new more is filled = record {
   long = filled.0;
   fits = omega (arith, is);
@@ -58,7 +58,7 @@ filled_all {A} {T} value items first old count new more is filled = record {
   full = ends (cases_order (length items - first) (length old));
 }
   where
-    ends : ((length items - first ≡ length old) ⊎ ((length items - first < length old) ⊎ (length old < length items - first))) → (count ≡ length old) ⊎ (found_in value items (first + count) ≡ Err NoRecord)
+    ends : ((length items - first ≡ length old) ⊎ ((length items - first < length old) ⊎ (length old < length items - first))) → (count ≡ length old) ⊎ (record_in value items (first + count) ≡ Err NoRecord)
     ends (inl same) = inl (omega (arith, is, same))
-    ends (inr (inl all)) = inr (ap (taken_for value) (slice_get_past items (first + count) (omega (arith, is, all, more))))
+    ends (inr (inl all)) = inr (ap (record_or_none value) (slice_get_past items (first + count) (omega (arith, is, all, more))))
     ends (inr (inr room)) = inl (omega (arith, is, room))

@@ -14,7 +14,7 @@ use Rattle.xmas_elf.specs.Types.{ElfFile, ProgramHeader64}
 use Rattle.elf_linking.specs.Segments.{segment_bytes}
 use Rattle.elf_linking.specs.declared.segments.Segment.{Segment}
 use Rattle.elf_c.specs.Addresses.{bytes_range, range_at_address, range_in_segment}
-use Rattle.elf_c.specs.Records.{LiesIn, range_at, segment_range}
+use Rattle.elf_c.specs.Records.{LiesIn, range_at, segment_data_range}
 use Rattle.elf_base.specs.Message.{error_number}
 use Rattle.elf_c.specs.Status.{Gives, GivesBy, GivesHere, and_so, refusal_number}
 use Rattle.elf_c.proofs.Statuses.{error_above, refusal_above}
@@ -65,7 +65,7 @@ part_lies file offset size part bytes read own = by_size (size == 0) refl read o
         let there : range_at offset size ≡ part = subst (λ b. range_at (if b then 0 else offset) size ≡ part) some own in
         subst (λ r. LiesIn file.input.now r × (r.size ≡ size)) there (fits, refl)
 
-segment_lies : (file : ElfFile) (segment : ProgramHeader64) (part : Range) → segment_range file segment ≡ Ok part → LiesIn file.input.now part × (part.size ≡ segment.file_size)
+segment_lies : (file : ElfFile) (segment : ProgramHeader64) (part : Range) → segment_data_range file segment ≡ Ok part → LiesIn file.input.now part × (part.size ≡ segment.file_size)
 unfolding segment_data_of
 segment_lies file segment part is =
     let (bytes, read, answered) = went_on (segment_data_of file segment) _ part is in
@@ -87,8 +87,8 @@ found_lies {A} file (Ok a) next has = by_next (next a) refl
     by_next (Ok part) is = has a part is
     by_next (Err error) is = tt
 
-pub segment_data_lies : (file : ElfFile) (index : ℕ) → IfOk (and_then (program_of file index) (λ program. segment_range file (program_fields program))) (LiesIn file.input.now)
-segment_data_lies file index = found_lies file (program_of file index) (λ program. segment_range file (program_fields program))
+pub segment_data_lies : (file : ElfFile) (index : ℕ) → IfOk (and_then (program_of file index) (λ program. segment_data_range file (program_fields program))) (LiesIn file.input.now)
+segment_data_lies file index = found_lies file (program_of file index) (λ program. segment_data_range file (program_fields program))
     (λ program part is. (segment_lies file (program_fields program) part is).0)
 
 -- the bytes at an address lie in the data of their segment

@@ -3,7 +3,7 @@ use Rattle.std.proofs.Common.{◌≡◌, ◌<◌, ◌≤◌, ◌+◌, ℕ, zero,
 use Rattle.std.proofs.lemmas.Option.{slice_get_past}
 use Rattle.std.specs.Prelude.{drop, slice_get, slice_set}
 use Rattle.elf_c.specs.Batch.{Fills, FillsBy, IsBatch}
-use Rattle.elf_c.specs.Records.{found_in, taken_for}
+use Rattle.elf_c.specs.Records.{record_in, record_or_none}
 use Rattle.elf_c.specs.declared.status.Refusal.TheVariants.{NoRecord}
 use Rattle.elf_c.proofs.Batches.{IsFilled, filled_more, filled_none}
 
@@ -54,7 +54,7 @@ pub record IsStored {T : Type 0} (items : List T) (first : ℕ) (old : List T) (
   pub item : T
   pub begins : slice_get items first ≡ Some item
   pub others : drop (first + place) items ≡ with_next next rest
-  pub filled : IsFilled (found_in (λ x. x) items) first old place new
+  pub filled : IsFilled (record_in (λ x. x) items) first old place new
 
 module _ {T : Type 0} (items : List T) (first : ℕ) (old : List T) where
   -- nothing is stored yet
@@ -63,7 +63,7 @@ module _ {T : Type 0} (items : List T) (first : ℕ) (old : List T) where
     item = x;
     begins = here items rest first x (sym skipped ∙ is);
     others = ap (λ k. drop k items) at ∙ sym skipped ∙ is;
-    filled = filled_none (found_in (λ y. y) items) first old;
+    filled = filled_none (record_in (λ y. y) items) first old;
   }
     where
       at : first + 0 ≡ first
@@ -75,18 +75,18 @@ module _ {T : Type 0} (items : List T) (first : ℕ) (old : List T) where
     item = stored.item;
     begins = stored.begins;
     others = ap (λ k. drop k items) on ∙ skipped_more items left (first + place) x stored.others ∙ is;
-    filled = filled_more (found_in (λ y. y) items) first old place new x below (ap (taken_for (λ y. y)) (here items left (first + place) x stored.others)) stored.filled;
+    filled = filled_more (record_in (λ y. y) items) first old place new x below (ap (record_or_none (λ y. y)) (here items left (first + place) x stored.others)) stored.filled;
   }
     where
       on : first + (place + 1) ≡ first + place + 1
       on = omega arith
 
   -- a batch from an item on is the result of the call
-  fills : (x : T) (count : ℕ) (new : List T) → slice_get items first ≡ Some x → IsBatch (found_in (λ y. y) items) first old count new → Fills (found_in (λ y. y) items) first old (Ok count) new
-  fills x count new begins batch = subst (λ found. FillsBy (found_in (λ y. y) items) first old (taken_for (λ y. y) found) (Ok count) new) (sym begins) batch
+  fills : (x : T) (count : ℕ) (new : List T) → slice_get items first ≡ Some x → IsBatch (record_in (λ y. y) items) first old count new → Fills (record_in (λ y. y) items) first old (Ok count) new
+  fills x count new begins batch = subst (λ found. FillsBy (record_in (λ y. y) items) first old (record_or_none (λ y. y) found) (Ok count) new) (sym begins) batch
 
   -- there is no room for more
-  pub stored_full : (next : Option T) (rest new : List T) (count : ℕ) → count ≡ length old → IsStored items first old count next rest new → Fills (found_in (λ y. y) items) first old (Ok count) new
+  pub stored_full : (next : Option T) (rest new : List T) (count : ℕ) → count ≡ length old → IsStored items first old count next rest new → Fills (record_in (λ y. y) items) first old (Ok count) new
   stored_full next rest new count full stored = fills stored.item count new stored.begins (record {
     long = stored.filled.0;
     fits = omega (arith, full);
@@ -96,15 +96,15 @@ module _ {T : Type 0} (items : List T) (first : ℕ) (old : List T) where
   })
 
   -- there are no more
-  pub stored_all : (rest new : List T) (count : ℕ) → count ≤ length old → IsStored items first old count None rest new → Fills (found_in (λ y. y) items) first old (Ok count) new
+  pub stored_all : (rest new : List T) (count : ℕ) → count ≤ length old → IsStored items first old count None rest new → Fills (record_in (λ y. y) items) first old (Ok count) new
   stored_all rest new count fits stored = fills stored.item count new stored.begins (record {
     long = stored.filled.0;
     fits = fits;
     each = stored.filled.1;
     rest = stored.filled.2;
-    full = inr (ap (taken_for (λ y. y)) (slice_get_past items (first + count) (past_end items (first + count) stored.others)));
+    full = inr (ap (record_or_none (λ y. y)) (slice_get_past items (first + count) (past_end items (first + count) stored.others)));
   })
 
   -- there is none
-  pub none_stored : (left : List T) → left ≡ drop first items → left ≡ [] → Fills (found_in (λ y. y) items) first old (Err NoRecord) old
-  none_stored left skipped is = subst (λ found. FillsBy (found_in (λ y. y) items) first old (taken_for (λ y. y) found) (Err NoRecord) old) (sym (slice_get_past items first (past_end items first (sym skipped ∙ is)))) (refl, refl)
+  pub none_stored : (left : List T) → left ≡ drop first items → left ≡ [] → Fills (record_in (λ y. y) items) first old (Err NoRecord) old
+  none_stored left skipped is = subst (λ found. FillsBy (record_in (λ y. y) items) first old (record_or_none (λ y. y) found) (Err NoRecord) old) (sym (slice_get_past items first (past_end items first (sym skipped ∙ is)))) (refl, refl)

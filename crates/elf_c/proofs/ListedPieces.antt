@@ -20,7 +20,7 @@ use Rattle.elf_addresses.specs.declared.symbols.AddressSymbols.{AddressSymbols}
 use Rattle.elf_base.specs.Refusal.{unless}
 use Rattle.xmas_elf.specs.Symbol.{SymbolFields}
 use Rattle.xmas_elf.specs.Types.{ElfFile}
-use Rattle.elf_c.specs.AddressIndex.{addresses_of, claim_in}
+use Rattle.elf_c.specs.AddressIndex.{addresses_of_table, claim_in_section}
 use Rattle.elf_c.specs.Pieces.{AreListedIn, AreRuns, IsRows, IsWhole, Lists, few_words, put_from, run_record, runs_refused}
 use Rattle.elf_c.specs.declared.pieces.Piece.{Piece}
 use Rattle.elf_c.specs.declared.status.Refusal.{Refusal}
@@ -182,8 +182,8 @@ module _ {P S : Type 0} (AreAll : List P → Type 0) (numbers : P → Piece) (wo
 -- what is listed by the library's table is listed by its symbols
 pub same_listed : {E : Type 0} {r : _} (fields : E → SymbolFields) (symbols : AddressSymbols E r) (within : Option ℕ) (range : ℕ × ℕ) (first : ℕ) (words : List ℕ) (old new : List Piece) (answer : Result ℕ Refusal)
     → Lists (runs_refused (claim_of_symbols fields symbols within) (symbol_count symbols) words) (AreRuns (claim_of_symbols fields symbols within) (max range.0 range.1) range.0) run_record first old answer new
-    → AreListedIn (addresses_of fields symbols) within range first words old answer new
+    → AreListedIn (addresses_of_table fields symbols) within range first words old answer new
 same_listed fields symbols within range first words old new answer listed =
-    let claims = claim_in (addresses_of fields symbols) within in
+    let claims = claim_in_section (addresses_of_table fields symbols) within in
     subst (λ n. Lists (runs_refused claims n words) (AreRuns claims (max range.0 range.1) range.0) run_record first old answer new) (same_count fields symbols)
     (subst (λ c. Lists (runs_refused c (symbol_count symbols) words) (AreRuns c (max range.0 range.1) range.0) run_record first old answer new) (same_claims fields symbols within) listed)

@@ -13,7 +13,7 @@ use Rattle.elf_linking.specs.declared.object.DynamicObject.{DynamicObject}
 use Rattle.elf_loading.specs.declared.relocate.Place.{Place}
 use Rattle.xmas_elf.specs.declared.ElfFile.{ElfFile}
 use Rattle.elf_c.proofs.Batches.{put_elsewhere, put_there}
-use Rattle.elf_c.specs.LoadObjects.{AreFirstMade, AreImagesOf, AreMade, ArePadded, ArePlacesOf, IsFirstUnmade, IsObjectOfBytes, IsRefusedAsObject, no_object, place_of}
+use Rattle.elf_c.specs.LoadObjects.{AreFirstMade, AreImagesOf, AreMade, ArePadded, ArePlacesOf, IsFirstUnmade, IsObjectOfBytes, IsRefusedAsObject, no_object, load_place}
 use Rattle.elf_c.specs.declared.load_objects.LoadObject.{LoadObject}
 use Rattle.elf_c.specs.declared.load_objects.TheConstants.{MOST_OBJECTS}
 
@@ -136,10 +136,10 @@ module _ (loads all : List LoadObject) (fit : length loads ≤ MOST_OBJECTS) (pa
   counted : {T : Type 0} (results : List T) → length results ≡ MOST_OBJECTS → length (take (length loads) results) ≡ length loads
   counted results long = length-take-le (length loads) results (omega (arith, fit, long))
 
-  places_are : (places : List Place) → length places ≡ MOST_OBJECTS → ((i : ℕ) (d : LoadObject) (e : Place) → i < MOST_OBJECTS → get_or places i e ≡ place_of (get_or all i d)) → ArePlacesOf loads (take (length loads) places)
+  places_are : (places : List Place) → length places ≡ MOST_OBJECTS → ((i : ℕ) (d : LoadObject) (e : Place) → i < MOST_OBJECTS → get_or places i e ≡ load_place (get_or all i d)) → ArePlacesOf loads (take (length loads) places)
   places_are places long at = record {
     same_count = counted places long;
-    each = λ index load is. some_is (slice_get (take (length loads) places) index) (place_of load) (made (λ one place. place ≡ place_of one) places long at index load is);
+    each = λ index load is. some_is (slice_get (take (length loads) places) index) (load_place load) (made (λ one place. place ≡ load_place one) places long at index load is);
   }
 
   images_are : (images : List (Bor (List ℕ))) → length images ≡ MOST_OBJECTS → ((i : ℕ) (d : LoadObject) (e : Bor (List ℕ)) → i < MOST_OBJECTS → get_or images i e ≡ (get_or all i d).image) → AreImagesOf loads (take (length loads) images)
@@ -150,7 +150,7 @@ module _ (loads all : List LoadObject) (fit : length loads ≤ MOST_OBJECTS) (pa
 
   pub places_by : {F : Type 0} (g : Mut F (LoadObject × Unit {0}) Place) (places : List Place) → length places ≡ MOST_OBJECTS
       → ((i : ℕ) (d : LoadObject) (e : Place) → i < MOST_OBJECTS → (f : F) × (f' : F) × Called g f (get_or all i d, tt) (get_or places i e) f')
-      → ((a : LoadObject × Unit {0}) (place : Place) (f f' : F) → Called g f a place f' → place ≡ place_of a.0)
+      → ((a : LoadObject × Unit {0}) (place : Place) (f f' : F) → Called g f a place f' → place ≡ load_place a.0)
       → ArePlacesOf loads (take (length loads) places)
   places_by g places long at each = places_are places long
       (λ i d e below. let call = at i d e below in each (get_or all i d, tt) (get_or places i e) call.0 call.1 call.2)

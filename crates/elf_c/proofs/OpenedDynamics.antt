@@ -24,11 +24,11 @@ use Rattle.xmas_elf.specs.Ranges.{IsRange, range_of}
 use Rattle.xmas_elf.specs.Symbol.{SymbolFields, dyn_entry_32, dyn_entry_32_fields, dyn_entry_64, dyn_entry_64_fields}
 use Rattle.xmas_elf.specs.Types.{ElfFile}
 use Rattle.elf_c.specs.Addresses.{range_at_address, range_in_segment}
-use Rattle.elf_c.specs.DynamicSymbols.{AreDynamicSymbols, AreSymbolsBy, IsCountBy, IsDynamicCount, IsSegmentTable, dynamic_symbol_at, dynamic_symbol_name, linked_symbol_in, segment_table, strings_by, symbol_size, table_at_address, table_by, table_in_range}
-use Rattle.elf_c.specs.DynamicTexts.{linked_name, range_in_strings, strings_range, table_range}
-use Rattle.elf_c.specs.Records.{LiesIn, found_in, name_answer, range_at, text_range}
+use Rattle.elf_c.specs.DynamicSymbols.{AreDynamicSymbols, AreSymbolsBy, IsCountBy, IsDynamicCount, IsSegmentTable, dynamic_symbol_at, dynamic_symbol_name, linked_symbol_in, segment_table, strings_range_by, symbol_size, table_at_address, symbol_table_by, table_in_range}
+use Rattle.elf_c.specs.DynamicTexts.{linked_name, range_in_strings, strings_range, string_table_range}
+use Rattle.elf_c.specs.Records.{LiesIn, record_in, name_answer, range_at, text_range}
 use Rattle.elf_c.specs.Status.{and_so, refusal_number}
-use Rattle.elf_c.specs.SymbolTables.{LieWithin, name_by, symbol_among, symbol_by}
+use Rattle.elf_c.specs.SymbolTables.{LieWithin, symbol_name_range, symbol_among, symbol_by}
 use Rattle.elf_c.specs.Symbols.{symbol_record}
 use Rattle.elf_c.specs.declared.names.Range.{Range}
 use Rattle.elf_c.specs.declared.status.Refusal.{Refusal}
@@ -103,22 +103,22 @@ are_at file address count range is = by_segment (segment_at_of file address coun
 
 -- the symbol at an index of bytes that are a number of symbols
 as_whole : {T : Type 0} (value : SymbolFields → T) (order : Order) (bytes : List ℕ) (count index : ℕ) (narrow : Bool) → length bytes ≡ count * (if narrow then 16 else 24) → symbol_among value narrow order bytes index
-    ≡ (if narrow then found_in (λ e. value (dyn_entry_32_fields e)) (records 16 (dyn_entry_32 order) bytes) index
-    else found_in (λ e. value (dyn_entry_64_fields e)) (records 24 (dyn_entry_64 order) bytes) index)
+    ≡ (if narrow then record_in (λ e. value (dyn_entry_32_fields e)) (records 16 (dyn_entry_32 order) bytes) index
+    else record_in (λ e. value (dyn_entry_64_fields e)) (records 24 (dyn_entry_64 order) bytes) index)
 as_whole value order bytes count index true long =
-    ap (λ (b : Bool). if b then found_in (λ e. value (dyn_entry_32_fields e)) (records 16 (dyn_entry_32 order) bytes) index else Err (Elf NotMultiple)) (eq-eqb _ _ (ap (λ n. n % 16) long ∙ mul-mod_left count 16))
+    ap (λ (b : Bool). if b then record_in (λ e. value (dyn_entry_32_fields e)) (records 16 (dyn_entry_32 order) bytes) index else Err (Elf NotMultiple)) (eq-eqb _ _ (ap (λ n. n % 16) long ∙ mul-mod_left count 16))
 as_whole value order bytes count index false long =
-    ap (λ (b : Bool). if b then found_in (λ e. value (dyn_entry_64_fields e)) (records 24 (dyn_entry_64 order) bytes) index else Err (Elf NotMultiple)) (eq-eqb _ _ (ap (λ n. n % 24) long ∙ mul-mod_left count 24))
+    ap (λ (b : Bool). if b then record_in (λ e. value (dyn_entry_64_fields e)) (records 24 (dyn_entry_64 order) bytes) index else Err (Elf NotMultiple)) (eq-eqb _ _ (ap (λ n. n % 24) long ∙ mul-mod_left count 24))
 
 -- there are as many symbols as the bytes are long
-counted_in : (order : Order) (bytes : List ℕ) (count index : ℕ) (narrow : Bool) → length bytes ≡ count * (if narrow then 16 else 24) → IsOk (if narrow then found_in (λ e. symbol_record (dyn_entry_32_fields e)) (records 16 (dyn_entry_32 order) bytes) index
-    else found_in (λ e. symbol_record (dyn_entry_64_fields e)) (records 24 (dyn_entry_64 order) bytes) index) ↔ (index < count)
+counted_in : (order : Order) (bytes : List ℕ) (count index : ℕ) (narrow : Bool) → length bytes ≡ count * (if narrow then 16 else 24) → IsOk (if narrow then record_in (λ e. symbol_record (dyn_entry_32_fields e)) (records 16 (dyn_entry_32 order) bytes) index
+    else record_in (λ e. symbol_record (dyn_entry_64_fields e)) (records 24 (dyn_entry_64 order) bytes) index) ↔ (index < count)
 counted_in order bytes count index true long =
     let number : length (records 16 (dyn_entry_32 order) bytes) ≡ count = length-records 16 (dyn_entry_32 order) bytes ∙ ap (λ n. n / 16) long ∙ mul-div_cancel count (lit< tt) in
-    subst (λ n. IsOk (found_in (λ e. symbol_record (dyn_entry_32_fields e)) (records 16 (dyn_entry_32 order) bytes) index) ↔ (index < n)) number (found_below (λ e. symbol_record (dyn_entry_32_fields e)) (records 16 (dyn_entry_32 order) bytes) index)
+    subst (λ n. IsOk (record_in (λ e. symbol_record (dyn_entry_32_fields e)) (records 16 (dyn_entry_32 order) bytes) index) ↔ (index < n)) number (found_below (λ e. symbol_record (dyn_entry_32_fields e)) (records 16 (dyn_entry_32 order) bytes) index)
 counted_in order bytes count index false long =
     let number : length (records 24 (dyn_entry_64 order) bytes) ≡ count = length-records 24 (dyn_entry_64 order) bytes ∙ ap (λ n. n / 24) long ∙ mul-div_cancel count (lit< tt) in
-    subst (λ n. IsOk (found_in (λ e. symbol_record (dyn_entry_64_fields e)) (records 24 (dyn_entry_64 order) bytes) index) ↔ (index < n)) number (found_below (λ e. symbol_record (dyn_entry_64_fields e)) (records 24 (dyn_entry_64 order) bytes) index)
+    subst (λ n. IsOk (record_in (λ e. symbol_record (dyn_entry_64_fields e)) (records 24 (dyn_entry_64 order) bytes) index) ↔ (index < n)) number (found_below (λ e. symbol_record (dyn_entry_64_fields e)) (records 24 (dyn_entry_64 order) bytes) index)
 
 -- the string table of a record has the names that the dynamic segment has
 same_name : (input : List ℕ) (strings : Result Range Refusal) (place : ℕ) → (if (linked_name strings).status == 0 then name_answer (text_range input (linked_name strings).range place) else record { range = range_at 0 0; status = (linked_name strings).status }) ≡ linked_name (range_in_strings input strings place)
@@ -182,7 +182,7 @@ are_opened file table is = by_entries (dynamic_entries_of file) refl is.0 is.1 i
     by_count entries (Err error) at counted made = absurd (cc)
     by_count entries (Ok count) at counted made = by_address entries count (number_with DT_SYMTAB entries) at counted refl made
 
-    by_entries : (found : Result (List (Dynamic ℕ)) LinkError) → dynamic_entries_of file ≡ found → (count : Result ℕ LinkError) → IsCountBy file found count → Ok table ≡ table_by file found count → AreOpened file table
+    by_entries : (found : Result (List (Dynamic ℕ)) LinkError) → dynamic_entries_of file ≡ found → (count : Result ℕ LinkError) → IsCountBy file found count → Ok table ≡ symbol_table_by file found count → AreOpened file table
     by_entries (Err error) at count counted made = absurd (cc)
     by_entries (Ok entries) at count counted made = by_count entries count at counted made
 
@@ -202,12 +202,12 @@ opened_symbols file table is bytes are index =
     opened_value file table (λ t. symbol_record) symbol_record opened index (λ fields. refl)
     ∙ sym (ap (λ found. dynamic_symbol_at symbol_record file found index) (opened.only bytes are))
 
-pub opened_names : (file : ElfFile) (table : SymbolTable) → IsSegmentTable file (Ok table) → (bytes : Result (List ℕ) LinkError) → AreDynamicSymbols file bytes → (index : ℕ) → symbol_by (name_by file.input.now table) file.input.now table index ≡ dynamic_symbol_at (dynamic_symbol_name file) file bytes index
+pub opened_names : (file : ElfFile) (table : SymbolTable) → IsSegmentTable file (Ok table) → (bytes : Result (List ℕ) LinkError) → AreDynamicSymbols file bytes → (index : ℕ) → symbol_by (symbol_name_range file.input.now table) file.input.now table index ≡ dynamic_symbol_at (dynamic_symbol_name file) file bytes index
 opened_names file table is bytes are index =
     let opened = are_opened file table is in
-    opened_value file table (name_by file.input.now) (dynamic_symbol_name file) opened index
+    opened_value file table (symbol_name_range file.input.now) (dynamic_symbol_name file) opened index
     (λ fields. same_name file.input.now (strings_range file opened.entries) fields.name
-    ∙ ap (λ found. linked_name (range_in_strings file.input.now (strings_by file found) fields.name)) (sym opened.entries_are))
+    ∙ ap (λ found. linked_name (range_in_strings file.input.now (strings_range_by file found) fields.name)) (sym opened.entries_are))
     ∙ sym (ap (λ found. dynamic_symbol_at (dynamic_symbol_name file) file found index) (opened.only bytes are))
 
 pub opened_number : (file : ElfFile) (table : SymbolTable) → IsSegmentTable file (Ok table) → IsDynamicCount file (Ok table.count)
@@ -236,14 +236,14 @@ segment_within file table is =
       linked_lies file.input.now (strings_range file opened.entries) (strings_lie _ _),
     )
   where
-    strings_lie : (address size : Option ℕ) → IfOk (table_range file address size) (LiesIn file.input.now)
+    strings_lie : (address size : Option ℕ) → IfOk (string_table_range file address size) (LiesIn file.input.now)
     strings_lie (Some address) (Some size) = address_lies file address size
     strings_lie (Some address) None = tt
     strings_lie None size = tt
 
 -- the result by the entries of the file
 pub no_entries : (file : ElfFile) (error : LinkError) → dynamic_entries_of file ≡ Err error → IsSegmentTable file (Err (Link error))
-no_entries file error is = subst (λ found. (count : Result ℕ LinkError) × IsCountBy file found count × (Err (Link error) ≡ table_by file found count)) (sym is) (Err error, refl, refl)
+no_entries file error is = subst (λ found. (count : Result ℕ LinkError) × IsCountBy file found count × (Err (Link error) ≡ symbol_table_by file found count)) (sym is) (Err error, refl, refl)
 
 pub of_entries : (file : ElfFile) (entries : List (Dynamic ℕ)) (count : Result ℕ LinkError) (answer : Result SymbolTable Refusal) → dynamic_entries_of file ≡ Ok entries → IsSymbolCount file entries count → answer ≡ table_at_address file (strings_range file entries) count (number_with DT_SYMTAB entries) → IsSegmentTable file answer
-of_entries file entries count answer is counted made = subst (λ found. (other : Result ℕ LinkError) × IsCountBy file found other × (answer ≡ table_by file found other)) (sym is) (count, counted, made)
+of_entries file entries count answer is counted made = subst (λ found. (other : Result ℕ LinkError) × IsCountBy file found other × (answer ≡ symbol_table_by file found other)) (sym is) (count, counted, made)

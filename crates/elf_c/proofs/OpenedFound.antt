@@ -22,10 +22,10 @@ use Rattle.xmas_elf.specs.HashTable as gabi
 use Rattle.xmas_elf.specs.Symbol.{dyn_entry_32, dyn_entry_32_fields, dyn_entry_64, dyn_entry_64_fields}
 use Rattle.xmas_elf.specs.Types.{ElfError, ElfFile, HashTable}
 use Rattle.elf_c.specs.DynamicSymbols.{AreDynamicSymbols, AreSymbolsBy, IsSegmentTable}
-use Rattle.elf_c.specs.FoundSymbols.{IsByClass, IsFoundBy, IsFoundSymbol, IsSearched, found_answer, found_symbol, none_found, refused, searched, serving_symbol}
+use Rattle.elf_c.specs.FoundSymbols.{IsByClass, IsFoundBy, IsFoundSymbol, IsSearched, found_answer, found_symbol, no_symbol_record, refused, searched, serving_symbol}
 use Rattle.elf_c.specs.LookUps.{IfUtf8}
 use Rattle.elf_linking.specs.Serves.{serves_others}
-use Rattle.elf_c.specs.Records.{found_in, taken_for}
+use Rattle.elf_c.specs.Records.{record_in, record_or_none}
 use Rattle.elf_c.specs.SymbolTables.{symbol_by}
 use Rattle.elf_c.specs.Symbols.{symbol_record}
 use Rattle.elf_c.specs.declared.found_symbols.FoundSymbol.{FoundSymbol}
@@ -93,16 +93,16 @@ module _ {E : Type 0} (file : DynamicSymbols E) (name : List ℕ) (at : ℕ × E
   found_stands wanted _ (otherwise found seeks default) same = default_stands wanted found default (cc)
 
 -- the numbers of what was found are those of the symbol at its index
-found_there : {E : Type 0} (all : DynamicSymbols E) (name version : List ℕ) (said : FoundSymbol) → IsSearched all name version (Ok said) → said.found ≡ 1 → found_in (λ e. symbol_record (all.symbols.fields e)) all.symbols.items said.index ≡ Ok said.symbol
+found_there : {E : Type 0} (all : DynamicSymbols E) (name version : List ℕ) (said : FoundSymbol) → IsSearched all name version (Ok said) → said.found ≡ 1 → record_in (λ e. symbol_record (all.symbols.fields e)) all.symbols.items said.index ≡ Ok said.symbol
 found_there {E} all name version said is one = by_found is.found is.is_found is.numbers
   where
-    by_serving : (at : ℕ × E) → slice_get all.symbols.items at.0 ≡ Some at.1 → (serves : Bool) → said ≡ (if serves then record { symbol = symbol_record (all.symbols.fields at.1); found = 1; index = at.0 } else none_found) → found_in (λ e. symbol_record (all.symbols.fields e)) all.symbols.items said.index ≡ Ok said.symbol
+    by_serving : (at : ℕ × E) → slice_get all.symbols.items at.0 ≡ Some at.1 → (serves : Bool) → said ≡ (if serves then record { symbol = symbol_record (all.symbols.fields at.1); found = 1; index = at.0 } else no_symbol_record) → record_in (λ e. symbol_record (all.symbols.fields e)) all.symbols.items said.index ≡ Ok said.symbol
     by_serving at stands true same =
-        subst (λ s. found_in (λ e. symbol_record (all.symbols.fields e)) all.symbols.items s.index ≡ Ok s.symbol) (sym same)
-        (ap (taken_for (λ e. symbol_record (all.symbols.fields e))) stands)
+        subst (λ s. record_in (λ e. symbol_record (all.symbols.fields e)) all.symbols.items s.index ≡ Ok s.symbol) (sym same)
+        (ap (record_or_none (λ e. symbol_record (all.symbols.fields e))) stands)
     by_serving at stands false same = absurd (let none : said.found ≡ 0 = ap (λ s. s.found) same in cc)
 
-    by_found : (found : Result (Option (ℕ × E)) LinkError) → IsFound all name is.wanted Any found → Ok said ≡ found_answer all.symbols.fields found → found_in (λ e. symbol_record (all.symbols.fields e)) all.symbols.items said.index ≡ Ok said.symbol
+    by_found : (found : Result (Option (ℕ × E)) LinkError) → IsFound all name is.wanted Any found → Ok said ≡ found_answer all.symbols.fields found → record_in (λ e. symbol_record (all.symbols.fields e)) all.symbols.items said.index ≡ Ok said.symbol
     by_found (Err error) finds numbers = absurd (cc)
     by_found (Ok None) finds numbers = absurd (let same : said ≡ found_symbol all.symbols.fields None = cc in let none : said.found ≡ 0 = ap (λ s. s.found) same in cc)
     by_found (Ok (Some at)) finds numbers =
@@ -113,26 +113,26 @@ found_there {E} all name version said is one = by_found is.found is.is_found is.
 module _ (file : ElfFile) (table : SymbolTable) (made : IsSegmentTable file (Ok table)) (said : FoundSymbol) (one : said.found ≡ 1) where
   -- by the bytes of the symbols
   by_bytes : (entries : List (Dynamic ℕ)) (bytes : List ℕ) (narrow : Bool) → (file_class file.header == 1) ≡ narrow → dynamic_entries_of file ≡ Ok entries → AreSymbols file entries (if narrow then 16 else 24) (Ok bytes)
-      → (if narrow then found_in (λ e. symbol_record (dyn_entry_32_fields e)) (records 16 (dyn_entry_32 (file_order file.header)) bytes) said.index
-      else found_in (λ e. symbol_record (dyn_entry_64_fields e)) (records 24 (dyn_entry_64 (file_order file.header)) bytes) said.index) ≡ Ok said.symbol
+      → (if narrow then record_in (λ e. symbol_record (dyn_entry_32_fields e)) (records 16 (dyn_entry_32 (file_order file.header)) bytes) said.index
+      else record_in (λ e. symbol_record (dyn_entry_64_fields e)) (records 24 (dyn_entry_64 (file_order file.header)) bytes) said.index) ≡ Ok said.symbol
       → symbol_by symbol_record file.input.now table said.index ≡ Ok said.symbol
   by_bytes entries bytes narrow class at are found =
       let here : AreDynamicSymbols file (Ok bytes) = subst (λ r. AreSymbolsBy file r (Ok bytes)) (sym at) (subst (λ (b : Bool). AreSymbols file entries (if b then 16 else 24) (Ok bytes)) (sym class) are) in
       opened_symbols file table made (Ok bytes) here said.index
-      ∙ subst (λ (b : Bool). (if b then found_in (λ e. symbol_record (dyn_entry_32_fields e)) (records 16 (dyn_entry_32 (file_order file.header)) bytes) said.index
-      else found_in (λ e. symbol_record (dyn_entry_64_fields e)) (records 24 (dyn_entry_64 (file_order file.header)) bytes) said.index) ≡ Ok said.symbol) (sym class) found
+      ∙ subst (λ (b : Bool). (if b then record_in (λ e. symbol_record (dyn_entry_32_fields e)) (records 16 (dyn_entry_32 (file_order file.header)) bytes) said.index
+      else record_in (λ e. symbol_record (dyn_entry_64_fields e)) (records 24 (dyn_entry_64 (file_order file.header)) bytes) said.index) ≡ Ok said.symbol) (sym class) found
 
   by_class : (name version : List ℕ) (narrow : Bool) → (file_class file.header == 1) ≡ narrow → (answer : Result FoundSymbol Refusal) → answer ≡ Ok said → IsByClass narrow file name version answer → symbol_by symbol_record file.input.now table said.index ≡ Ok said.symbol
   by_class name version true class _ is (refused error why) = absurd (cc)
   by_class name version true class _ is (searched all answer are finds) =
       let found = found_there all name version said (subst (IsSearched all name version) is finds) one in
       by_bytes are.symbols.entries are.symbols.bytes true class are.symbols.entries_are (class_symbols _ _ file are.symbols.entries are.symbols.bytes are.symbols.bytes_are)
-      (subst (λ symbols. found_in (λ e. symbol_record (symbols.fields e)) symbols.items said.index ≡ Ok said.symbol) are.symbols.symbols_are found)
+      (subst (λ symbols. record_in (λ e. symbol_record (symbols.fields e)) symbols.items said.index ≡ Ok said.symbol) are.symbols.symbols_are found)
   by_class name version false class _ is (refused error why) = absurd (cc)
   by_class name version false class _ is (searched all answer are finds) =
       let found = found_there all name version said (subst (IsSearched all name version) is finds) one in
       by_bytes are.symbols.entries are.symbols.bytes false class are.symbols.entries_are (class_symbols _ _ file are.symbols.entries are.symbols.bytes are.symbols.bytes_are)
-      (subst (λ symbols. found_in (λ e. symbol_record (symbols.fields e)) symbols.items said.index ≡ Ok said.symbol) are.symbols.symbols_are found)
+      (subst (λ symbols. record_in (λ e. symbol_record (symbols.fields e)) symbols.items said.index ≡ Ok said.symbol) are.symbols.symbols_are found)
 
 -- a name that is no text finds nothing
 pub if_text : {A : Type 0} (P : List ℕ → Result A Refusal → Type 0) (name : List ℕ) (value : A) → IfUtf8 P name (Ok value) → P name (Ok value)

@@ -21,10 +21,10 @@ use Rattle.xmas_elf.specs.SectionHeader.{section_fields, section_of, section_typ
 use Rattle.xmas_elf.specs.Symbol.{SymbolFields, dyn_entry_32, dyn_entry_32_fields, dyn_entry_64, dyn_entry_64_fields, entry_32, entry_32_fields, entry_64, entry_64_fields}
 use Rattle.xmas_elf.specs.declared.ElfFile.{ElfFile}
 use Rattle.xmas_elf.specs.declared.sections.section_header.SectionHeader.{SectionHeader}
-use Rattle.elf_c.specs.Records.{found_in, name_answer, range_at, text_range}
+use Rattle.elf_c.specs.Records.{record_in, name_answer, range_at, text_range}
 use Rattle.elf_c.specs.Status.{and_so}
-use Rattle.elf_c.specs.SymbolTables.{AreSymbolsBy, AreSymbolsIn, LieWithin, count_in, name_by, symbol_among, symbol_by, table_if, table_of_section, table_with}
-use Rattle.elf_c.specs.Symbols.{linked_range, symbol_at, symbol_in, symbol_name, symbol_name_at, symbol_record}
+use Rattle.elf_c.specs.SymbolTables.{AreSymbolsBy, AreSymbolsIn, LieWithin, symbol_count_in, symbol_name_range, symbol_among, symbol_by, table_if, table_of_section, table_with}
+use Rattle.elf_c.specs.Symbols.{linked_range, symbol_record_at, symbol_record_in, table_name_range, symbol_name_at, symbol_record}
 use Rattle.elf_c.specs.declared.names.Range.{Range}
 use Rattle.elf_c.specs.declared.status.Refusal.{Refusal}
 use Rattle.elf_c.specs.declared.status.Refusal.TheVariants.{Elf}
@@ -36,18 +36,18 @@ use Rattle.elf_c.proofs.StoredNames.{answer_lies, found_lies, part_within}
 
 -- records that are decoded to the same values
 module _ {A B T : Type 0} (size : ℕ) (f : List ℕ → A) (h : List ℕ → B) (v : A → T) (w : B → T) (same : (part : List ℕ) → v (f part) ≡ w (h part)) where
-  first_as : (n : ℕ) (bytes : List ℕ) (index : ℕ) → found_in v (first_records size f n bytes) index ≡ found_in w (first_records size h n bytes) index
+  first_as : (n : ℕ) (bytes : List ℕ) (index : ℕ) → record_in v (first_records size f n bytes) index ≡ record_in w (first_records size h n bytes) index
   unfolding first_records
   first_as zero bytes index = refl
   first_as (suc n) bytes zero = ap (λ x. Ok x) (same (take size bytes))
   first_as (suc n) bytes (suc i) = first_as n (drop size bytes) i
 
-  pub found_as : (bytes : List ℕ) (index : ℕ) → found_in v (records size f bytes) index ≡ found_in w (records size h bytes) index
+  pub found_as : (bytes : List ℕ) (index : ℕ) → record_in v (records size f bytes) index ≡ record_in w (records size h bytes) index
   unfolding records
   found_as bytes index = first_as (length bytes / size) bytes index
 
 -- there is a record at each index below their number
-pub found_below : {A T : Type 0} (value : A → T) (items : List A) (index : ℕ) → IsOk (found_in value items index) ↔ (index < length items)
+pub found_below : {A T : Type 0} (value : A → T) (items : List A) (index : ℕ) → IsOk (record_in value items index) ↔ (index < length items)
 found_below value [] index = (λ ok. absurd (let no : false ≡ true = ok in cc), λ below. absurd (omega (arith, below)))
 found_below value (item ∷ items) zero = (λ ok. omega arith, λ below. refl)
 found_below value (item ∷ items) (suc i) =
@@ -142,14 +142,14 @@ content_read file header content filled is =
           are_read = by_content bytes (content_of_section kind (file_class file.header) (file_order file.header) bytes) (read_by_type kind (file_class file.header) (file_order file.header) bytes) read;
         }
 
-pub section_read : (file : ElfFile) (header : SectionHeader) (content : Content) (count : ℕ) → section_content_of file header ≡ Ok content → count_in content ≡ Ok count → AreReadIn file header content
+pub section_read : (file : ElfFile) (header : SectionHeader) (content : Content) (count : ℕ) → section_content_of file header ≡ Ok content → symbol_count_in content ≡ Ok count → AreReadIn file header content
 section_read file header content count is counted = content_read file header content filled is
   where
-    no_count : count_in empty ≡ Ok count → ⊥
+    no_count : symbol_count_in empty ≡ Ok count → ⊥
     no_count same = cc
 
     filled : empty ≡ content → ⊥
-    filled none = no_count (subst (λ c. count_in c ≡ Ok count) (sym none) counted)
+    filled none = no_count (subst (λ c. symbol_count_in c ≡ Ok count) (sym none) counted)
 
 -- what a record of a section was read from
 pub record AreOpened (file : ElfFile) (section : ℕ) (table : SymbolTable) : Type 0 where
@@ -158,14 +158,14 @@ pub record AreOpened (file : ElfFile) (section : ℕ) (table : SymbolTable) : Ty
   pub count : ℕ
   pub at : section_of file section ≡ Ok header
   pub holds : section_content_of file header ≡ Ok content
-  pub counted : count_in content ≡ Ok count
+  pub counted : symbol_count_in content ≡ Ok count
   pub made : table_with file header count ≡ table
   pub read : AreReadIn file header content
 
 pub are_opened : (file : ElfFile) (section : ℕ) (table : SymbolTable) → table_of_section file section ≡ Ok table → AreOpened file section table
 are_opened file section table made = by_section (section_of file section) refl made
   where
-    by_count : (header : SectionHeader) (content : Content) (count : Result ℕ Refusal) → section_of file section ≡ Ok header → section_content_of file header ≡ Ok content → count_in content ≡ count → table_if file header count ≡ Ok table → AreOpened file section table
+    by_count : (header : SectionHeader) (content : Content) (count : Result ℕ Refusal) → section_of file section ≡ Ok header → section_content_of file header ≡ Ok content → symbol_count_in content ≡ count → table_if file header count ≡ Ok table → AreOpened file section table
     by_count header content (Err why) at holds counted is = absurd (cc)
     by_count header content (Ok count) at holds counted is = record {
       header = header;
@@ -178,21 +178,21 @@ are_opened file section table made = by_section (section_of file section) refl m
       read = section_read file header content count holds counted;
     }
 
-    by_content : (header : SectionHeader) (content : Result Content ElfError) → section_of file section ≡ Ok header → section_content_of file header ≡ content → and_so content (λ c. table_if file header (count_in c)) ≡ Ok table → AreOpened file section table
+    by_content : (header : SectionHeader) (content : Result Content ElfError) → section_of file section ≡ Ok header → section_content_of file header ≡ content → and_so content (λ c. table_if file header (symbol_count_in c)) ≡ Ok table → AreOpened file section table
     by_content header (Err error) at holds is = absurd (cc)
-    by_content header (Ok content) at holds is = by_count header content (count_in content) at holds refl is
+    by_content header (Ok content) at holds is = by_count header content (symbol_count_in content) at holds refl is
 
-    by_section : (found : Result SectionHeader ElfError) → section_of file section ≡ found → and_so found (λ header. and_so (section_content_of file header) (λ c. table_if file header (count_in c))) ≡ Ok table → AreOpened file section table
+    by_section : (found : Result SectionHeader ElfError) → section_of file section ≡ found → and_so found (λ header. and_so (section_content_of file header) (λ c. table_if file header (symbol_count_in c))) ≡ Ok table → AreOpened file section table
     by_section (Err error) at is = absurd (cc)
     by_section (Ok header) at is = by_content header (section_content_of file header) at refl is
 
 -- the symbol at an index of such contents
 module _ {T : Type 0} (value : SymbolFields → T) (class : ℕ) (order : Order) (bytes : List ℕ) (index : ℕ) where
   abbrev narrow : Result T Refusal
-  narrow = found_in (λ e. value (dyn_entry_32_fields e)) (records 16 (dyn_entry_32 order) bytes) index
+  narrow = record_in (λ e. value (dyn_entry_32_fields e)) (records 16 (dyn_entry_32 order) bytes) index
 
   abbrev wide : Result T Refusal
-  wide = found_in (λ e. value (dyn_entry_64_fields e)) (records 24 (dyn_entry_64 order) bytes) index
+  wide = record_in (λ e. value (dyn_entry_64_fields e)) (records 24 (dyn_entry_64 order) bytes) index
 
   among_32 : (class == 1) ≡ true → (length bytes % 16 == 0) ≡ true → symbol_among value (class == 1) order bytes index ≡ narrow
   among_32 is whole = ap (λ (b : Bool). symbol_among value b order bytes index) is ∙ ap (λ (b : Bool). if b then narrow else Err (Elf NotMultiple)) whole
@@ -200,48 +200,48 @@ module _ {T : Type 0} (value : SymbolFields → T) (class : ℕ) (order : Order)
   among_64 : (class == 1) ≡ false → (length bytes % 24 == 0) ≡ true → symbol_among value (class == 1) order bytes index ≡ wide
   among_64 is whole = ap (λ (b : Bool). symbol_among value b order bytes index) is ∙ ap (λ (b : Bool). if b then wide else Err (Elf NotMultiple)) whole
 
-  pub among_read : (content : Content) (count : ℕ) → count_in content ≡ Ok count → AreRead class order bytes content → symbol_among value (class == 1) order bytes index ≡ symbol_at value index content
+  pub among_read : (content : Content) (count : ℕ) → symbol_count_in content ≡ Ok count → AreRead class order bytes content → symbol_among value (class == 1) order bytes index ≡ symbol_record_at value index content
   unfolding entry_32_fields entry_64_fields dyn_entry_32_fields dyn_entry_64_fields
   among_read (table_of symbols_32 own all) count counted are = among_32 are.0 are.3
       ∙ found_as 16 (dyn_entry_32 order) (entry_32 order) (λ e. value (dyn_entry_32_fields e)) (λ e. value (entry_32_fields e)) (λ part. refl) bytes index
-      ∙ ap (λ b. found_in (λ e. value (entry_32_fields e)) (records 16 (entry_32 order) b) index) (sym are.2)
-      ∙ ap (λ o. found_in (λ e. value (entry_32_fields e)) (records 16 (entry_32 o) all) index) (sym are.1)
+      ∙ ap (λ b. record_in (λ e. value (entry_32_fields e)) (records 16 (entry_32 order) b) index) (sym are.2)
+      ∙ ap (λ o. record_in (λ e. value (entry_32_fields e)) (records 16 (entry_32 o) all) index) (sym are.1)
   among_read (table_of symbols_64 own all) count counted are = among_64 are.0 are.3
       ∙ found_as 24 (dyn_entry_64 order) (entry_64 order) (λ e. value (dyn_entry_64_fields e)) (λ e. value (entry_64_fields e)) (λ part. refl) bytes index
-      ∙ ap (λ b. found_in (λ e. value (entry_64_fields e)) (records 24 (entry_64 order) b) index) (sym are.2)
-      ∙ ap (λ o. found_in (λ e. value (entry_64_fields e)) (records 24 (entry_64 o) all) index) (sym are.1)
+      ∙ ap (λ b. record_in (λ e. value (entry_64_fields e)) (records 24 (entry_64 order) b) index) (sym are.2)
+      ∙ ap (λ o. record_in (λ e. value (entry_64_fields e)) (records 24 (entry_64 o) all) index) (sym are.1)
   among_read (table_of dyn_symbols_32 own all) count counted are = among_32 are.0 are.3
-      ∙ ap (λ b. found_in (λ e. value (dyn_entry_32_fields e)) (records 16 (dyn_entry_32 order) b) index) (sym are.2)
-      ∙ ap (λ o. found_in (λ e. value (dyn_entry_32_fields e)) (records 16 (dyn_entry_32 o) all) index) (sym are.1)
+      ∙ ap (λ b. record_in (λ e. value (dyn_entry_32_fields e)) (records 16 (dyn_entry_32 order) b) index) (sym are.2)
+      ∙ ap (λ o. record_in (λ e. value (dyn_entry_32_fields e)) (records 16 (dyn_entry_32 o) all) index) (sym are.1)
   among_read (table_of dyn_symbols_64 own all) count counted are = among_64 are.0 are.3
-      ∙ ap (λ b. found_in (λ e. value (dyn_entry_64_fields e)) (records 24 (dyn_entry_64 order) b) index) (sym are.2)
-      ∙ ap (λ o. found_in (λ e. value (dyn_entry_64_fields e)) (records 24 (dyn_entry_64 o) all) index) (sym are.1)
+      ∙ ap (λ b. record_in (λ e. value (dyn_entry_64_fields e)) (records 24 (dyn_entry_64 order) b) index) (sym are.2)
+      ∙ ap (λ o. record_in (λ e. value (dyn_entry_64_fields e)) (records 24 (dyn_entry_64 o) all) index) (sym are.1)
   among_read _ count counted are = absurd (cc)
 
 -- the symbols by the record of a section are those of its contents, for values by the record that are those by the
 -- section
-opened_value : {T : Type 0} (file : ElfFile) (section : ℕ) (table : SymbolTable) (value : SymbolTable → SymbolFields → T) (wanted : SectionHeader → SymbolFields → T) → ((header : SectionHeader) (count : ℕ) (fields : SymbolFields) → value (table_with file header count) fields ≡ wanted header fields) → table_of_section file section ≡ Ok table → (index : ℕ) → symbol_by (value table) file.input.now table index ≡ and_so (section_of file section) (λ header. and_so (section_content_of file header) (symbol_at (wanted header) index))
+opened_value : {T : Type 0} (file : ElfFile) (section : ℕ) (table : SymbolTable) (value : SymbolTable → SymbolFields → T) (wanted : SectionHeader → SymbolFields → T) → ((header : SectionHeader) (count : ℕ) (fields : SymbolFields) → value (table_with file header count) fields ≡ wanted header fields) → table_of_section file section ≡ Ok table → (index : ℕ) → symbol_by (value table) file.input.now table index ≡ and_so (section_of file section) (λ header. and_so (section_content_of file header) (symbol_record_at (wanted header) index))
 opened_value file section table value wanted same made index =
     let are = are_opened file section table made in
     let own = table_with file are.header are.count in
     let narrow = file_class file.header == 1 in
     let order = file_order file.header in
-    subst (λ t. symbol_by (value t) file.input.now t index ≡ and_so (section_of file section) (λ header. and_so (section_content_of file header) (symbol_at (wanted header) index))) are.made
+    subst (λ t. symbol_by (value t) file.input.now t index ≡ and_so (section_of file section) (λ header. and_so (section_content_of file header) (symbol_record_at (wanted header) index))) are.made
     (ap (λ r. and_so r (λ bytes. symbol_among (value own) narrow order bytes index)) are.read.in_range
     ∙ ap (λ v. symbol_among v narrow order are.read.bytes index) (fun_ext (same are.header are.count))
     ∙ among_read (wanted are.header) (file_class file.header) order are.read.bytes index are.content are.count are.counted are.read.are_read
-    ∙ sym (ap (λ r. and_so r (λ header. and_so (section_content_of file header) (symbol_at (wanted header) index))) are.at
-    ∙ ap (λ r. and_so r (symbol_at (wanted are.header) index)) are.holds))
+    ∙ sym (ap (λ r. and_so r (λ header. and_so (section_content_of file header) (symbol_record_at (wanted header) index))) are.at
+    ∙ ap (λ r. and_so r (symbol_record_at (wanted are.header) index)) are.holds))
 
 then_so : {A B C : Type 0} (r : Result A ElfError) (f : A → Result B ElfError) (g : B → Result C Refusal) → and_so r (λ a. and_so (f a) g) ≡ and_so (and_then r f) g
 then_so (Ok value) f g = refl
 then_so (Err error) f g = refl
 
 -- the symbols are those of the section
-pub opened_symbols : (file : ElfFile) (section : ℕ) (table : SymbolTable) → table_of_section file section ≡ Ok table → (index : ℕ) → symbol_by symbol_record file.input.now table index ≡ and_so (and_then (section_of file section) (section_content_of file)) (symbol_in index)
+pub opened_symbols : (file : ElfFile) (section : ℕ) (table : SymbolTable) → table_of_section file section ≡ Ok table → (index : ℕ) → symbol_by symbol_record file.input.now table index ≡ and_so (and_then (section_of file section) (section_content_of file)) (symbol_record_in index)
 opened_symbols file section table made index =
     opened_value file section table (λ t. symbol_record) (λ header. symbol_record) (λ header count fields. refl) made index
-    ∙ then_so (section_of file section) (section_content_of file) (symbol_in index)
+    ∙ then_so (section_of file section) (section_content_of file) (symbol_record_in index)
 
 -- the names are those of the symbols of the section
 same_name : (input : List ℕ) (strings : Result Range ElfError) (name : ℕ) → (if (name_answer strings).status == 0 then name_answer (text_range input (name_answer strings).range name) else record { range = range_at 0 0; status = (name_answer strings).status }) ≡ name_answer (and_then strings (λ part. text_range input part name))
@@ -252,30 +252,30 @@ same_name input (Err error) name = by_test (error_number error == 0) refl
     by_test true is = absurd (let above = error_above error in let none = eqb-true (error_number error) 0 is in omega (arith, above, none))
     by_test false is = refl
 
-pub opened_names : (file : ElfFile) (section : ℕ) (table : SymbolTable) → table_of_section file section ≡ Ok table → (index : ℕ) → symbol_by (name_by file.input.now table) file.input.now table index ≡ symbol_name_at file section index
+pub opened_names : (file : ElfFile) (section : ℕ) (table : SymbolTable) → table_of_section file section ≡ Ok table → (index : ℕ) → symbol_by (symbol_name_range file.input.now table) file.input.now table index ≡ symbol_name_at file section index
 opened_names file section table made index =
-    opened_value file section table (name_by file.input.now) (λ header. symbol_name file.input.now (linked_range file header))
+    opened_value file section table (symbol_name_range file.input.now) (λ header. table_name_range file.input.now (linked_range file header))
     (λ header count fields. same_name file.input.now (linked_range file header) fields.name) made index
 
 -- there are as many as the record says
-counted_in : (index : ℕ) (content : Content) (count : ℕ) → count_in content ≡ Ok count → IsOk (symbol_in index content) ↔ (index < count)
+counted_in : (index : ℕ) (content : Content) (count : ℕ) → symbol_count_in content ≡ Ok count → IsOk (symbol_record_in index content) ↔ (index < count)
 counted_in index (table_of symbols_32 order bytes) count is =
-    let same : length (records 16 (entry_32 order) bytes) ≡ count = cc in subst (λ n. IsOk (symbol_in index (table_of symbols_32 order bytes)) ↔ (index < n)) same (found_below (λ e. symbol_record (entry_32_fields e)) (records 16 (entry_32 order) bytes) index)
+    let same : length (records 16 (entry_32 order) bytes) ≡ count = cc in subst (λ n. IsOk (symbol_record_in index (table_of symbols_32 order bytes)) ↔ (index < n)) same (found_below (λ e. symbol_record (entry_32_fields e)) (records 16 (entry_32 order) bytes) index)
 counted_in index (table_of symbols_64 order bytes) count is =
-    let same : length (records 24 (entry_64 order) bytes) ≡ count = cc in subst (λ n. IsOk (symbol_in index (table_of symbols_64 order bytes)) ↔ (index < n)) same (found_below (λ e. symbol_record (entry_64_fields e)) (records 24 (entry_64 order) bytes) index)
+    let same : length (records 24 (entry_64 order) bytes) ≡ count = cc in subst (λ n. IsOk (symbol_record_in index (table_of symbols_64 order bytes)) ↔ (index < n)) same (found_below (λ e. symbol_record (entry_64_fields e)) (records 24 (entry_64 order) bytes) index)
 counted_in index (table_of dyn_symbols_32 order bytes) count is =
-    let same : length (records 16 (dyn_entry_32 order) bytes) ≡ count = cc in subst (λ n. IsOk (symbol_in index (table_of dyn_symbols_32 order bytes)) ↔ (index < n)) same (found_below (λ e. symbol_record (dyn_entry_32_fields e)) (records 16 (dyn_entry_32 order) bytes) index)
+    let same : length (records 16 (dyn_entry_32 order) bytes) ≡ count = cc in subst (λ n. IsOk (symbol_record_in index (table_of dyn_symbols_32 order bytes)) ↔ (index < n)) same (found_below (λ e. symbol_record (dyn_entry_32_fields e)) (records 16 (dyn_entry_32 order) bytes) index)
 counted_in index (table_of dyn_symbols_64 order bytes) count is =
-    let same : length (records 24 (dyn_entry_64 order) bytes) ≡ count = cc in subst (λ n. IsOk (symbol_in index (table_of dyn_symbols_64 order bytes)) ↔ (index < n)) same (found_below (λ e. symbol_record (dyn_entry_64_fields e)) (records 24 (dyn_entry_64 order) bytes) index)
+    let same : length (records 24 (dyn_entry_64 order) bytes) ≡ count = cc in subst (λ n. IsOk (symbol_record_in index (table_of dyn_symbols_64 order bytes)) ↔ (index < n)) same (found_below (λ e. symbol_record (dyn_entry_64_fields e)) (records 24 (dyn_entry_64 order) bytes) index)
 counted_in index _ count is = absurd (cc)
 
 pub opened_count : (file : ElfFile) (section : ℕ) (table : SymbolTable) → table_of_section file section ≡ Ok table → (index : ℕ) → IsOk (symbol_by symbol_record file.input.now table index) ↔ (index < table.count)
 opened_count file section table made index =
     let are = are_opened file section table made in
-    let there : and_so (and_then (section_of file section) (section_content_of file)) (symbol_in index) ≡ symbol_in index are.content =
-    ap (λ r. and_so (and_then r (section_content_of file)) (symbol_in index)) are.at ∙ ap (λ r. and_so r (symbol_in index)) are.holds in
+    let there : and_so (and_then (section_of file section) (section_content_of file)) (symbol_record_in index) ≡ symbol_record_in index are.content =
+    ap (λ r. and_so (and_then r (section_content_of file)) (symbol_record_in index)) are.at ∙ ap (λ r. and_so r (symbol_record_in index)) are.holds in
     subst (λ r. IsOk r ↔ (index < table.count)) (sym (opened_symbols file section table made index ∙ there))
-    (subst (λ n. IsOk (symbol_in index are.content) ↔ (index < n)) (ap (λ t. t.count) are.made) (counted_in index are.content are.count are.counted))
+    (subst (λ n. IsOk (symbol_record_in index are.content) ↔ (index < n)) (ap (λ t. t.count) are.made) (counted_in index are.content are.count are.counted))
 
 -- the ranges lie in the input
 pub section_within : (file : ElfFile) (section : ℕ) (table : SymbolTable) → table_of_section file section ≡ Ok table → LieWithin file.input.now table
@@ -288,23 +288,23 @@ section_within file section table made =
 
 -- the values of the symbols of a table that a record was read as
 abbrev pub value_at : {T : Type 0} → (SymbolFields → T) → Result AnySymbols Refusal → ℕ → Result T Refusal
-value_at value (Ok (Narrow all)) index = found_in (λ e. value (dyn_entry_32_fields e)) (table_items all) index
-value_at value (Ok (Wide all)) index = found_in (λ e. value (dyn_entry_64_fields e)) (table_items all) index
+value_at value (Ok (Narrow all)) index = record_in (λ e. value (dyn_entry_32_fields e)) (table_items all) index
+value_at value (Ok (Wide all)) index = record_in (λ e. value (dyn_entry_64_fields e)) (table_items all) index
 value_at value (Err why) index = Err why
 
 module _ {T : Type 0} (value : SymbolFields → T) (input : List ℕ) (table : SymbolTable) (answer : Result AnySymbols Refusal) where
   value_in : (own : Bool) (order : Order) (bytes : List ℕ) (found : Result AnySymbols Refusal) (index : ℕ) → AreSymbolsIn own order bytes found → symbol_among value own order bytes index ≡ value_at value found index
   value_in true order bytes (Ok (Narrow all)) index is =
-      ap (λ (b : Bool). if b then found_in (λ e. value (dyn_entry_32_fields e)) (records 16 (dyn_entry_32 order) bytes) index else Err (Elf NotMultiple)) is.0
-      ∙ ap (λ items. found_in (λ e. value (dyn_entry_32_fields e)) items index) (sym is.1)
+      ap (λ (b : Bool). if b then record_in (λ e. value (dyn_entry_32_fields e)) (records 16 (dyn_entry_32 order) bytes) index else Err (Elf NotMultiple)) is.0
+      ∙ ap (λ items. record_in (λ e. value (dyn_entry_32_fields e)) items index) (sym is.1)
   value_in true order bytes (Err why) index is =
-      ap (λ (b : Bool). if b then found_in (λ e. value (dyn_entry_32_fields e)) (records 16 (dyn_entry_32 order) bytes) index else Err (Elf NotMultiple)) is.0
+      ap (λ (b : Bool). if b then record_in (λ e. value (dyn_entry_32_fields e)) (records 16 (dyn_entry_32 order) bytes) index else Err (Elf NotMultiple)) is.0
       ∙ ap (λ w. Err w) (sym is.1)
   value_in false order bytes (Ok (Wide all)) index is =
-      ap (λ (b : Bool). if b then found_in (λ e. value (dyn_entry_64_fields e)) (records 24 (dyn_entry_64 order) bytes) index else Err (Elf NotMultiple)) is.0
-      ∙ ap (λ items. found_in (λ e. value (dyn_entry_64_fields e)) items index) (sym is.1)
+      ap (λ (b : Bool). if b then record_in (λ e. value (dyn_entry_64_fields e)) (records 24 (dyn_entry_64 order) bytes) index else Err (Elf NotMultiple)) is.0
+      ∙ ap (λ items. record_in (λ e. value (dyn_entry_64_fields e)) items index) (sym is.1)
   value_in false order bytes (Err why) index is =
-      ap (λ (b : Bool). if b then found_in (λ e. value (dyn_entry_64_fields e)) (records 24 (dyn_entry_64 order) bytes) index else Err (Elf NotMultiple)) is.0
+      ap (λ (b : Bool). if b then record_in (λ e. value (dyn_entry_64_fields e)) (records 24 (dyn_entry_64 order) bytes) index else Err (Elf NotMultiple)) is.0
       ∙ ap (λ w. Err w) (sym is.1)
   value_in true order bytes (Ok (Wide all)) index is = absurd is
   value_in false order bytes (Ok (Narrow all)) index is = absurd is
@@ -334,7 +334,7 @@ opened_reads file section table made found is =
     by_own : (own narrow : Bool) (bytes : List ℕ) → own ≡ narrow → (length bytes % (if narrow then 16 else 24) == 0) ≡ true → (length bytes % (if own then 16 else 24) == 0) ≡ true
     by_own own narrow bytes same whole = subst (λ (b : Bool). (length bytes % (if b then 16 else 24) == 0) ≡ true) (sym same) whole
 
-    whole_of : (class : ℕ) (order : Order) (bytes : List ℕ) (content : Content) (count : ℕ) → count_in content ≡ Ok count → AreRead class order bytes content → (length bytes % (if class == 1 then 16 else 24) == 0) ≡ true
+    whole_of : (class : ℕ) (order : Order) (bytes : List ℕ) (content : Content) (count : ℕ) → symbol_count_in content ≡ Ok count → AreRead class order bytes content → (length bytes % (if class == 1 then 16 else 24) == 0) ≡ true
     whole_of class order bytes (table_of symbols_32 own all) count counted are = by_own (class == 1) true bytes are.0 are.3
     whole_of class order bytes (table_of symbols_64 own all) count counted are = by_own (class == 1) false bytes are.0 are.3
     whole_of class order bytes (table_of dyn_symbols_32 own all) count counted are = by_own (class == 1) true bytes are.0 are.3
@@ -352,7 +352,7 @@ class_known file section table made =
     let are = are_opened file section table made in
     by_content (file_class file.header) (file_order file.header) are.read.bytes are.content are.count are.counted are.read.are_read
   where
-    by_content : (class : ℕ) (order : Order) (bytes : List ℕ) (content : Content) (count : ℕ) → count_in content ≡ Ok count → AreRead class order bytes content → (class ≡ 1) ⊎ (class ≡ 2)
+    by_content : (class : ℕ) (order : Order) (bytes : List ℕ) (content : Content) (count : ℕ) → symbol_count_in content ≡ Ok count → AreRead class order bytes content → (class ≡ 1) ⊎ (class ≡ 2)
     by_content class order bytes (table_of symbols_32 own all) count counted are = inl (eqb-true _ _ are.0)
     by_content class order bytes (table_of symbols_64 own all) count counted are = inr (eqb-true _ _ are.4)
     by_content class order bytes (table_of dyn_symbols_32 own all) count counted are = inl (eqb-true _ _ are.0)

@@ -20,10 +20,10 @@ use Rattle.xmas_elf.specs.SectionContent.{section_content_of}
 use Rattle.xmas_elf.specs.SectionData.{section_data_of}
 use Rattle.xmas_elf.specs.SectionHeader.{section_fields, section_of}
 use Rattle.xmas_elf.specs.Types.{ElfFile, HashTable, SectionHeader}
-use Rattle.elf_c.specs.HashTables.{ArePartsBy, AreTogether, IsGnuTable, IsSysvTable, IsTableIn, LieWithinBy, class_by, gnu_range, hash_range, opened_of, opened_with, sysv_range, whole_range}
+use Rattle.elf_c.specs.HashTables.{ArePartsBy, AreTogether, IsGnuTableRecord, IsSysvTable, IsTableIn, LieWithinBy, class_by, gnu_range, hash_range, opened_of, opened_with, sysv_range, whole_range}
 use Rattle.elf_c.specs.Status.{and_so}
 use Rattle.elf_c.specs.SymbolTables.{symbol_by, table_of_section}
-use Rattle.elf_c.specs.Symbols.{linked_content, symbol_in, symbol_record}
+use Rattle.elf_c.specs.Symbols.{linked_content, symbol_record_in, symbol_record}
 use Rattle.elf_c.specs.declared.hash_tables.HashParts.{HashParts}
 use Rattle.elf_c.specs.declared.hash_tables.OpenedTable.{OpenedTable}
 use Rattle.elf_c.specs.declared.names.Range.{Range}
@@ -57,7 +57,7 @@ hash_read file header range is = by_type ((section_fields header).type_ == SHT_G
     sysv_reads order bytes (Ok table) reads = refl
     sysv_reads order bytes (Err why) reads = absurd reads
 
-    gnu_reads : (bytes : List ℕ) (one : Result AnyTable Refusal) → gnu_table_of (class_of (file_class file.header)) (file_order file.header) bytes ≡ Ok tt → IsGnuTable (class_of (file_class file.header)) (file_order file.header) bytes one → IsOk one
+    gnu_reads : (bytes : List ℕ) (one : Result AnyTable Refusal) → gnu_table_of (class_of (file_class file.header)) (file_order file.header) bytes ≡ Ok tt → IsGnuTableRecord (class_of (file_class file.header)) (file_order file.header) bytes one → IsOk one
     gnu_reads bytes (Ok table) passes reads = refl
     gnu_reads bytes (Err (Link error)) passes reads = absurd (cc)
     gnu_reads bytes (Err (Elf error)) passes reads = absurd reads
@@ -136,11 +136,11 @@ module _ (file : ElfFile) (index : ℕ) (opened : OpenedTable) (is : opened_of f
       )
 
   -- the symbols are those of the section that the table's section links to
-  pub tables_symbols : (i : ℕ) → symbol_by symbol_record file.input.now opened.symbols i ≡ and_so (linked_content file index) (symbol_in i)
+  pub tables_symbols : (i : ℕ) → symbol_by symbol_record file.input.now opened.symbols i ≡ and_so (linked_content file index) (symbol_record_in i)
   tables_symbols i = let are = are_opened file index opened is in
-      subst (λ o. symbol_by symbol_record file.input.now o.symbols i ≡ and_so (linked_content file index) (symbol_in i)) are.made
+      subst (λ o. symbol_by symbol_record file.input.now o.symbols i ≡ and_so (linked_content file index) (symbol_record_in i)) are.made
       (opened_symbols file (section_fields are.header).link are.symbols are.linked i
-      ∙ sym (ap (λ r. and_so (and_then r (λ header. and_then (section_of file (section_fields header).link) (section_content_of file))) (symbol_in i)) are.at))
+      ∙ sym (ap (λ r. and_so (and_then r (λ header. and_then (section_of file (section_fields header).link) (section_content_of file))) (symbol_record_in i)) are.at))
 
   -- the ranges are read
   pub tables_read : (found : Result HashParts Refusal) → ArePartsBy file.input.now opened found → IsOk found

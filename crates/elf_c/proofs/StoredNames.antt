@@ -24,9 +24,9 @@ use Rattle.xmas_elf.specs.Symbol.{dyn_entry_32, dyn_entry_32_fields, dyn_entry_6
 use Rattle.xmas_elf.specs.Types.{ElfFile, SectionHeader}
 use Rattle.elf_c.specs.Batch.{Fills, FillsBy, IsBatch}
 use Rattle.elf_c.specs.DynamicTexts.{linked_name, range_in_strings, texts_with}
-use Rattle.elf_c.specs.Records.{AllLieIn, LiesIn, found_in, is_relr_type, name_answer, name_range_by, range_at, section_range, taken_for, text_range}
+use Rattle.elf_c.specs.Records.{AllLieIn, LiesIn, record_in, is_relr_type, name_answer, name_range_by, range_at, section_data_range, record_or_none, text_range}
 use Rattle.elf_c.specs.Status.{and_so}
-use Rattle.elf_c.specs.SymbolTables.{name_by, name_in, symbol_among, symbol_by}
+use Rattle.elf_c.specs.SymbolTables.{symbol_name_range, name_range_in, symbol_among, symbol_by}
 use Rattle.elf_c.specs.declared.names.Name.{Name}
 use Rattle.elf_c.specs.declared.names.Range.{Range}
 use Rattle.elf_c.specs.declared.status.Refusal.{Refusal}
@@ -35,20 +35,20 @@ use Rattle.elf_c.specs.declared.symbol_tables.SymbolTable.{SymbolTable}
 -- what is stored has each property that the items have
 pub stored : {T : Type 0} (P : T → Type 0) (item : ℕ → Result T Refusal) (first : ℕ) (old : List T) (answer : Result ℕ Refusal) (new : List T) → ((i : ℕ) (x : T) → item i ≡ Ok x → P x) → Fills item first old answer new → IfOk answer (λ count. (k : ℕ) (x : T) → k < count → slice_get new k ≡ Some x → P x)
 stored P item first old (Err why) new has fills = tt
-stored {T} P item first old (Ok count) new has fills = λ k x below at. has (first + k) x (sym ((batch (item first) fills).each k below) ∙ ap (taken_for (λ y. y)) at)
+stored {T} P item first old (Ok count) new has fills = λ k x below at. has (first + k) x (sym ((batch (item first) fills).each k below) ∙ ap (record_or_none (λ y. y)) at)
   where
     batch : (r : Result T Refusal) → FillsBy item first old r (Ok count) new → IsBatch item first old count new
     batch (Ok y) is = is
     batch (Err why) is = absurd is
 
 -- an item that is found has each property that all items have
-pub found_has : {A T : Type 0} (P : T → Type 0) (value : A → T) (r : Option A) (x : T) → ((a : A) → P (value a)) → taken_for value r ≡ Ok x → P x
+pub found_has : {A T : Type 0} (P : T → Type 0) (value : A → T) (r : Option A) (x : T) → ((a : A) → P (value a)) → record_or_none value r ≡ Ok x → P x
 found_has P value None x has is = absurd (cc)
 found_has P value (Some a) x has is = let same : value a ≡ x = cc in subst P same (has a)
 
-pub stored_lie : {A : Type 0} (input : List ℕ) (value : A → Name) (items : List A) (first : ℕ) (old : List Name) (answer : Result ℕ Refusal) (new : List Name) → Fills (found_in value items) first old answer new → ((a : A) → LiesIn input (value a).range) → IfOk answer (λ count. AllLieIn input count new)
+pub stored_lie : {A : Type 0} (input : List ℕ) (value : A → Name) (items : List A) (first : ℕ) (old : List Name) (answer : Result ℕ Refusal) (new : List Name) → Fills (record_in value items) first old answer new → ((a : A) → LiesIn input (value a).range) → IfOk answer (λ count. AllLieIn input count new)
 stored_lie input value items first old answer new fills has =
-    stored (λ name. LiesIn input name.range) (found_in value items) first old answer new
+    stored (λ name. LiesIn input name.range) (record_in value items) first old answer new
     (λ i x is. found_has (λ name. LiesIn input name.range) value (slice_get items i) x has is) fills
 
 -- a text lies in the part that it is read from
@@ -89,7 +89,7 @@ data_in file header bytes is =
     let (kind, typed, answered) = went_on (section_type header) _ bytes is in
     (not_refused (is_sh_type Null kind) _ _ bytes answered).1
 
-pub found_lies : (file : ElfFile) (found : Result SectionHeader ElfError) → IfOk (and_then found (section_range file)) (LiesIn file.input.now)
+pub found_lies : (file : ElfFile) (found : Result SectionHeader ElfError) → IfOk (and_then found (section_data_range file)) (LiesIn file.input.now)
 found_lies file (Err error) = tt
 found_lies file (Ok header) = by_type (is_relr_type header)
   where
@@ -115,22 +115,22 @@ if_ok false r why x is = absurd (cc)
 
 -- the names of the symbols of a record lie in the input
 module _ (input : List ℕ) (table : SymbolTable) where
-  name_lies : (name : ℕ) → LiesIn input (name_in input table name).range
+  name_lies : (name : ℕ) → LiesIn input (name_range_in input table name).range
   name_lies name = by_status (table.strings_status == 0)
     where
       by_status : (b : Bool) → LiesIn input (if b then name_answer (text_range input table.strings name) else record { range = range_at 0 0; status = table.strings_status }).range
       by_status true = answer_lies input (text_range input table.strings name) (text_lies input table.strings name)
       by_status false = let none : 0 + 0 ≤ length input = omega arith in none
 
-  among_lies : (narrow : Bool) (order : Order) (bytes : List ℕ) (index : ℕ) (x : Name) → symbol_among (name_by input table) narrow order bytes index ≡ Ok x → LiesIn input x.range
-  among_lies true order bytes index x is = found_has (λ one. LiesIn input one.range) (λ e. name_by input table (dyn_entry_32_fields e)) (slice_get (records 16 (dyn_entry_32 order) bytes) index) x (λ e. name_lies (dyn_entry_32_fields e).name) (if_ok (length bytes % 16 == 0) _ _ x is)
-  among_lies false order bytes index x is = found_has (λ one. LiesIn input one.range) (λ e. name_by input table (dyn_entry_64_fields e)) (slice_get (records 24 (dyn_entry_64 order) bytes) index) x (λ e. name_lies (dyn_entry_64_fields e).name) (if_ok (length bytes % 24 == 0) _ _ x is)
+  among_lies : (narrow : Bool) (order : Order) (bytes : List ℕ) (index : ℕ) (x : Name) → symbol_among (symbol_name_range input table) narrow order bytes index ≡ Ok x → LiesIn input x.range
+  among_lies true order bytes index x is = found_has (λ one. LiesIn input one.range) (λ e. symbol_name_range input table (dyn_entry_32_fields e)) (slice_get (records 16 (dyn_entry_32 order) bytes) index) x (λ e. name_lies (dyn_entry_32_fields e).name) (if_ok (length bytes % 16 == 0) _ _ x is)
+  among_lies false order bytes index x is = found_has (λ one. LiesIn input one.range) (λ e. symbol_name_range input table (dyn_entry_64_fields e)) (slice_get (records 24 (dyn_entry_64 order) bytes) index) x (λ e. name_lies (dyn_entry_64_fields e).name) (if_ok (length bytes % 24 == 0) _ _ x is)
 
-  pub stored_names_lie : (first : ℕ) (old : List Name) (answer : Result ℕ Refusal) (new : List Name) → Fills (symbol_by (name_by input table) input table) first old answer new → IfOk answer (λ count. AllLieIn input count new)
-  stored_names_lie first old answer new fills = stored (λ name. LiesIn input name.range) (symbol_by (name_by input table) input table) first old answer new
+  pub stored_names_lie : (first : ℕ) (old : List Name) (answer : Result ℕ Refusal) (new : List Name) → Fills (symbol_by (symbol_name_range input table) input table) first old answer new → IfOk answer (λ count. AllLieIn input count new)
+  stored_names_lie first old answer new fills = stored (λ name. LiesIn input name.range) (symbol_by (symbol_name_range input table) input table) first old answer new
       (λ i x is. by_range i x (range_of input table.symbols.offset table.symbols.size) is) fills
     where
-      by_range : (i : ℕ) (x : Name) (found : Result (List ℕ) ElfError) → and_so found (λ bytes. symbol_among (name_by input table) (table.class == 1) (order_of table.encoding) bytes i) ≡ Ok x → LiesIn input x.range
+      by_range : (i : ℕ) (x : Name) (found : Result (List ℕ) ElfError) → and_so found (λ bytes. symbol_among (symbol_name_range input table) (table.class == 1) (order_of table.encoding) bytes i) ≡ Ok x → LiesIn input x.range
       by_range i x (Err error) is = absurd (cc)
       by_range i x (Ok bytes) is = among_lies (table.class == 1) (order_of table.encoding) bytes i x is
 
@@ -154,11 +154,11 @@ texts_lie tag input strings (entry ∷ entries) i x is =
     one_more input (dynamic_tag entry == tag) (linked_name (range_in_strings input strings (dynamic_value entry))) (texts_with tag input strings entries)
     (linked_name_lies input strings (dynamic_value entry)) (λ k name at. texts_lie tag input strings entries k name at) i x is
 
-pub stored_texts_lie : (tag : ℕ) (input : List ℕ) (strings : Result Range Refusal) (entries : List (Dynamic ℕ)) (first : ℕ) (old : List Name) (answer : Result ℕ Refusal) (new : List Name) → Fills (found_in (λ name. name) (texts_with tag input strings entries)) first old answer new → IfOk answer (λ count. AllLieIn input count new)
+pub stored_texts_lie : (tag : ℕ) (input : List ℕ) (strings : Result Range Refusal) (entries : List (Dynamic ℕ)) (first : ℕ) (old : List Name) (answer : Result ℕ Refusal) (new : List Name) → Fills (record_in (λ name. name) (texts_with tag input strings entries)) first old answer new → IfOk answer (λ count. AllLieIn input count new)
 stored_texts_lie tag input strings entries first old answer new fills =
-    stored (λ name. LiesIn input name.range) (found_in (λ name. name) (texts_with tag input strings entries)) first old answer new
+    stored (λ name. LiesIn input name.range) (record_in (λ name. name) (texts_with tag input strings entries)) first old answer new
     (λ i x is. found_some (slice_get (texts_with tag input strings entries) i) x (λ found. texts_lie tag input strings entries i x found) is) fills
   where
-    found_some : (r : Option Name) (x : Name) → (r ≡ Some x → LiesIn input x.range) → taken_for (λ name. name) r ≡ Ok x → LiesIn input x.range
+    found_some : (r : Option Name) (x : Name) → (r ≡ Some x → LiesIn input x.range) → record_or_none (λ name. name) r ≡ Ok x → LiesIn input x.range
     found_some None x has is = absurd (cc)
     found_some (Some y) x has is = let same : y ≡ x = cc in has (ap Some same)

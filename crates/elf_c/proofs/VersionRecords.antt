@@ -10,8 +10,8 @@ use Rattle.elf_linking.specs.Versions.{VersionParts}
 use Rattle.elf_linking.specs.declared.error.LinkError.{LinkError}
 use Rattle.xmas_elf.specs.declared.ElfFile.{ElfFile}
 use Rattle.elf_c.specs.Batch.{Fills}
-use Rattle.elf_c.specs.Records.{LiesIn, found_in, taken_for}
-use Rattle.elf_c.specs.Versions.{AllNamesLieIn, NamesLieIn, defined_as, definition_at, definition_in, definition_item, definition_items, need_at, need_in, need_item, need_items, needed_as, strings_range_of, tables_of, unnamed, unreadable, version_by, version_item, version_name}
+use Rattle.elf_c.specs.Records.{LiesIn, record_in, record_or_none}
+use Rattle.elf_c.specs.Versions.{AllNamesLieIn, NamesLieIn, defined_as, definition_record_at, definition_in, definition_record, definition_items, need_record_at, need_in, need_record, need_items, needed_as, strings_range_of, file_version_tables, unnamed, unreadable, version_by, version_record, version_name_range}
 use Rattle.elf_c.specs.declared.names.Range.{Range}
 use Rattle.elf_c.specs.declared.status.Refusal.{Refusal}
 use Rattle.elf_c.specs.declared.versions.Version.{Version}
@@ -26,26 +26,26 @@ index_fits count i below =
     let long : length (range_with_len 0 (min count (2 ^ 32))) ≡ min count (2 ^ 32) = index_count (min count (2 ^ 32)) in
     omega (arith, long, below)
 
-pub record_there : (value : ℕ → Version) (count i : ℕ) (one : Version) → i < length (range_with_len 0 count) → one ≡ value i → found_in value (range_with_len 0 count) i ≡ Ok one
+pub record_there : (value : ℕ → Version) (count i : ℕ) (one : Version) → i < length (range_with_len 0 count) → one ≡ value i → record_in value (range_with_len 0 count) i ≡ Ok one
 record_there value count i one below is =
     let long : length (range_with_len 0 count) ≡ count = index_count count in
     let here : i < count = omega (arith, long, below) in
     let same : 0 + i ≡ i = omega arith in
-    ap (taken_for value) (slice_get-get_or (range_with_len 0 count) i 0 below ∙ ap Some (get_or-range_with_len 0 count i 0 here ∙ same)) ∙ ap (λ x. Ok x) (sym is)
+    ap (record_or_none value) (slice_get-get_or (range_with_len 0 count) i 0 below ∙ ap Some (get_or-range_with_len 0 count i 0 here ∙ same)) ∙ ap (λ x. Ok x) (sym is)
 
 -- the records of the items are those of the file
-pub definitions_filled : (file : ElfFile) (strings : Result Range Refusal) (tables : VersionTables) (first : ℕ) (old new : List Version) (answer : Result ℕ Refusal) → tables_of file 0 ≡ Ok tables → strings ≡ strings_range_of file → Fills (found_in (λ one. one) (definition_items file.input.now strings (definitions_in tables.definitions))) first old answer new → Fills (definition_at file) first old answer new
+pub definitions_filled : (file : ElfFile) (strings : Result Range Refusal) (tables : VersionTables) (first : ℕ) (old new : List Version) (answer : Result ℕ Refusal) → file_version_tables file 0 ≡ Ok tables → strings ≡ strings_range_of file → Fills (record_in (λ one. one) (definition_items file.input.now strings (definitions_in tables.definitions))) first old answer new → Fills (definition_record_at file) first old answer new
 definitions_filled file strings tables first old new answer is ranged fills =
     subst (λ found. Fills (λ index. definition_in file index found) first old answer new) (sym is)
-    (subst (λ s. Fills (found_in (λ one. one) (definition_items file.input.now s (definitions_in tables.definitions))) first old answer new) ranged fills)
+    (subst (λ s. Fills (record_in (λ one. one) (definition_items file.input.now s (definitions_in tables.definitions))) first old answer new) ranged fills)
 
-pub needs_filled : (file : ElfFile) (strings : Result Range Refusal) (tables : VersionTables) (first : ℕ) (old new : List Version) (answer : Result ℕ Refusal) → tables_of file 0 ≡ Ok tables → strings ≡ strings_range_of file → Fills (found_in (λ one. one) (need_items file.input.now strings (needs_in tables.needs))) first old answer new → Fills (need_at file) first old answer new
+pub needs_filled : (file : ElfFile) (strings : Result Range Refusal) (tables : VersionTables) (first : ℕ) (old new : List Version) (answer : Result ℕ Refusal) → file_version_tables file 0 ≡ Ok tables → strings ≡ strings_range_of file → Fills (record_in (λ one. one) (need_items file.input.now strings (needs_in tables.needs))) first old answer new → Fills (need_record_at file) first old answer new
 needs_filled file strings tables first old new answer is ranged fills =
     subst (λ found. Fills (λ index. need_in file index found) first old answer new) (sym is)
-    (subst (λ s. Fills (found_in (λ one. one) (need_items file.input.now s (needs_in tables.needs))) first old answer new) ranged fills)
+    (subst (λ s. Fills (record_in (λ one. one) (need_items file.input.now s (needs_in tables.needs))) first old answer new) ranged fills)
 
 -- the ranges of the names of a record lie in the input
-name_lies : (input : List ℕ) (strings : Result Range Refusal) (offset : Result ℕ LinkError) → LiesIn input (version_name input strings offset).range
+name_lies : (input : List ℕ) (strings : Result Range Refusal) (offset : Result ℕ LinkError) → LiesIn input (version_name_range input strings offset).range
 name_lies input strings (Ok offset) = linked_name_lies input strings offset
 name_lies input strings (Err error) = let none : 0 + 0 ≤ length input = omega arith in none
 
@@ -61,11 +61,11 @@ defined_lies input strings number hidden d = let none : 0 + 0 ≤ length input =
 needed_lies : (input : List ℕ) (strings : Result Range Refusal) (number : ℕ) (hidden : Bool) (need : NeedParts) → NamesLieIn input (needed_as input strings number hidden need)
 needed_lies input strings number hidden need = (name_lies input strings (Ok need.name_offset), name_lies input strings (Ok need.file_offset))
 
-definition_lies : (input : List ℕ) (strings : Result Range Refusal) (item : Result DefinitionParts LinkError) → NamesLieIn input (definition_item input strings item)
+definition_lies : (input : List ℕ) (strings : Result Range Refusal) (item : Result DefinitionParts LinkError) → NamesLieIn input (definition_record input strings item)
 definition_lies input strings (Ok d) = defined_lies input strings d.number false d
 definition_lies input strings (Err error) = unreadable_lies input error
 
-need_lies : (input : List ℕ) (strings : Result Range Refusal) (item : Result NeedParts LinkError) → NamesLieIn input (need_item input strings item)
+need_lies : (input : List ℕ) (strings : Result Range Refusal) (item : Result NeedParts LinkError) → NamesLieIn input (need_record input strings item)
 need_lies input strings (Ok need) = needed_lies input strings need.number need.hidden need
 need_lies input strings (Err error) = unreadable_lies input error
 
@@ -74,32 +74,32 @@ bearer_lies input strings number hidden None = unnamed_lies input number hidden
 bearer_lies input strings number hidden (Some (Defined d)) = defined_lies input strings number hidden d
 bearer_lies input strings number hidden (Some (Needed need)) = needed_lies input strings number hidden need
 
-version_lies : (input : List ℕ) (strings : Result Range Refusal) (item : Result (Option (VersionParts NamedParts)) LinkError) → NamesLieIn input (version_item input strings item)
+version_lies : (input : List ℕ) (strings : Result Range Refusal) (item : Result (Option (VersionParts NamedParts)) LinkError) → NamesLieIn input (version_record input strings item)
 version_lies input strings (Ok (Some version)) = bearer_lies input strings version.number version.hidden version.named
 version_lies input strings (Ok None) = unnamed_lies input 0 false
 version_lies input strings (Err error) = unreadable_lies input error
 
 -- the records that are stored of a list of items
-found_lies : {A : Type 0} (input : List ℕ) (value : A → Version) (items : List A) (first : ℕ) (old : List Version) (answer : Result ℕ Refusal) (new : List Version) → ((a : A) → NamesLieIn input (value a)) → Fills (found_in value items) first old answer new → IfOk answer (λ count. AllNamesLieIn input count new)
+found_lies : {A : Type 0} (input : List ℕ) (value : A → Version) (items : List A) (first : ℕ) (old : List Version) (answer : Result ℕ Refusal) (new : List Version) → ((a : A) → NamesLieIn input (value a)) → Fills (record_in value items) first old answer new → IfOk answer (λ count. AllNamesLieIn input count new)
 found_lies input value items first old answer new has fills =
-    stored (NamesLieIn input) (found_in value items) first old answer new
+    stored (NamesLieIn input) (record_in value items) first old answer new
     (λ i x is. found_has (NamesLieIn input) value (slice_get items i) x has is) fills
 
-mapped_lies : {A : Type 0} (input : List ℕ) (value : A → Version) (items : List A) (first : ℕ) (old : List Version) (answer : Result ℕ Refusal) (new : List Version) → ((a : A) → NamesLieIn input (value a)) → Fills (found_in (λ one. one) (map value items)) first old answer new → IfOk answer (λ count. AllNamesLieIn input count new)
+mapped_lies : {A : Type 0} (input : List ℕ) (value : A → Version) (items : List A) (first : ℕ) (old : List Version) (answer : Result ℕ Refusal) (new : List Version) → ((a : A) → NamesLieIn input (value a)) → Fills (record_in (λ one. one) (map value items)) first old answer new → IfOk answer (λ count. AllNamesLieIn input count new)
 mapped_lies {A} input value items first old answer new has fills =
-    stored (NamesLieIn input) (found_in (λ one. one) (map value items)) first old answer new
-    (λ i x is. by_item (slice_get items i) x (sym (ap (taken_for (λ one. one)) (slice_get-map value items i)) ∙ is)) fills
+    stored (NamesLieIn input) (record_in (λ one. one) (map value items)) first old answer new
+    (λ i x is. by_item (slice_get items i) x (sym (ap (record_or_none (λ one. one)) (slice_get-map value items i)) ∙ is)) fills
   where
-    by_item : (found : Option A) (x : Version) → taken_for (λ one. one) (option_map value found) ≡ Ok x → NamesLieIn input x
+    by_item : (found : Option A) (x : Version) → record_or_none (λ one. one) (option_map value found) ≡ Ok x → NamesLieIn input x
     by_item None x is = absurd (cc)
     by_item (Some a) x is = let same : value a ≡ x = cc in subst (NamesLieIn input) same (has a)
 
 module _ (input : List ℕ) (strings : Result Range Refusal) (first : ℕ) (old : List Version) (answer : Result ℕ Refusal) (new : List Version) where
-  pub stored_definitions_lie : (items : List (Result DefinitionParts LinkError)) → Fills (found_in (λ one. one) (definition_items input strings items)) first old answer new → IfOk answer (λ count. AllNamesLieIn input count new)
-  stored_definitions_lie items fills = mapped_lies input (definition_item input strings) items first old answer new (definition_lies input strings) fills
+  pub stored_definitions_lie : (items : List (Result DefinitionParts LinkError)) → Fills (record_in (λ one. one) (definition_items input strings items)) first old answer new → IfOk answer (λ count. AllNamesLieIn input count new)
+  stored_definitions_lie items fills = mapped_lies input (definition_record input strings) items first old answer new (definition_lies input strings) fills
 
-  pub stored_needs_lie : (items : List (Result NeedParts LinkError)) → Fills (found_in (λ one. one) (need_items input strings items)) first old answer new → IfOk answer (λ count. AllNamesLieIn input count new)
-  stored_needs_lie items fills = mapped_lies input (need_item input strings) items first old answer new (need_lies input strings) fills
+  pub stored_needs_lie : (items : List (Result NeedParts LinkError)) → Fills (record_in (λ one. one) (need_items input strings items)) first old answer new → IfOk answer (λ count. AllNamesLieIn input count new)
+  stored_needs_lie items fills = mapped_lies input (need_record input strings) items first old answer new (need_lies input strings) fills
 
-  pub stored_versions_lie : (version_of : ℕ → Result (Option (VersionParts NamedParts)) LinkError) (indices : List ℕ) → Fills (found_in (λ i. version_item input strings (version_of i)) indices) first old answer new → IfOk answer (λ count. AllNamesLieIn input count new)
-  stored_versions_lie version_of indices fills = found_lies input (λ i. version_item input strings (version_of i)) indices first old answer new (λ i. version_lies input strings (version_of i)) fills
+  pub stored_versions_lie : (version_of : ℕ → Result (Option (VersionParts NamedParts)) LinkError) (indices : List ℕ) → Fills (record_in (λ i. version_record input strings (version_of i)) indices) first old answer new → IfOk answer (λ count. AllNamesLieIn input count new)
+  stored_versions_lie version_of indices fills = found_lies input (λ i. version_record input strings (version_of i)) indices first old answer new (λ i. version_lies input strings (version_of i)) fills

@@ -41,25 +41,25 @@ pub record Addresses : Type 0 where
   pub machine : ℕ
 
 -- the symbols in bytes, in the layout of class 32 or else of class 64, or that they are not a whole number
-abbrev pub symbols_in : Bool → Order → List ℕ → Result (List SymbolFields) Refusal
-symbols_in true order bytes = if length bytes % 16 == 0
+abbrev pub symbol_records_in : Bool → Order → List ℕ → Result (List SymbolFields) Refusal
+symbol_records_in true order bytes = if length bytes % 16 == 0
     then Ok (map dyn_entry_32_fields (records 16 (dyn_entry_32 order) bytes)) else Err (Elf NotMultiple)
-symbols_in false order bytes = if length bytes % 24 == 0
+symbol_records_in false order bytes = if length bytes % 24 == 0
     then Ok (map dyn_entry_64_fields (records 24 (dyn_entry_64 order) bytes)) else Err (Elf NotMultiple)
 
 -- the symbols in the range of a record
 abbrev pub symbols_by : List ℕ → SymbolTable → Result (List SymbolFields) Refusal
 symbols_by input table = and_so (range_of input table.symbols.offset table.symbols.size)
-    (symbols_in (table.class == 1) (order_of table.encoding))
+    (symbol_records_in (table.class == 1) (order_of table.encoding))
 
 -- the words of 4 bytes in bytes, or that they are not a whole number
-abbrev pub words_in : Order → List ℕ → Result (List ℕ) Refusal
-words_in order bytes =
+abbrev pub index_words_in : Order → List ℕ → Result (List ℕ) Refusal
+index_words_in order bytes =
     if length bytes % 4 == 0 then Ok (records 4 (number order 4 0) bytes) else Err (Elf NotMultiple)
 
 -- the words in a range
 abbrev pub words_by : List ℕ → Range → Order → Result (List ℕ) Refusal
-words_by input part order = and_so (range_of input part.offset part.size) (words_in order)
+words_by input part order = and_so (range_of input part.offset part.size) (index_words_in order)
 
 -- the symbols of a record with their string table, and the section indices in a range, or the first error
 abbrev pub addresses_by : List ℕ → SymbolTable → Range → ℕ → Result Addresses Refusal
@@ -75,8 +75,8 @@ claim_by all within index symbol = if is_candidate all.machine all.strings all.w
     then Some (symbol_claim index symbol) else None
 
 -- the claim of the symbol at an index, if there is one that names addresses: those of a section, if one is given
-abbrev pub claim_in : Addresses → Option ℕ → ℕ → Option Claim
-claim_in all within index = option_and_then (claim_by all within index) (slice_get all.items index)
+abbrev pub claim_in_section : Addresses → Option ℕ → ℕ → Option Claim
+claim_in_section all within index = option_and_then (claim_by all within index) (slice_get all.items index)
 
 -- the first address and the size of the symbol at an index; 0 if there is none
 abbrev pub range_in : Addresses → ℕ → ℕ × ℕ
@@ -111,8 +111,8 @@ sizes_with claim_of count words = if asks_size claim_of count words
     })
 
 -- the same for the symbols of a table
-abbrev pub sizes_of : Addresses → Option ℕ → List ℕ → Result Sizes Refusal
-sizes_of all within words = sizes_with (claim_in all within) (length all.items) words
+abbrev pub index_sizes_of : Addresses → Option ℕ → List ℕ → Result Sizes Refusal
+index_sizes_of all within words = sizes_with (claim_in_section all within) (length all.items) words
 
 -- the record of an index with these sizes
 abbrev pub index_with : SymbolTable → Range → ℕ → ℕ → Sizes → AddressIndex
@@ -130,7 +130,7 @@ index_with table indices machine within sizes = record {
 abbrev pub index_of : List ℕ → SymbolTable → Range → ℕ → ℕ → List ℕ → Result AddressIndex Refusal
 index_of input table indices machine within words =
     and_then (addresses_by input table indices machine) (λ all.
-    and_then (sizes_of all (within_of within) words) (λ sizes.
+    and_then (index_sizes_of all (within_of within) words) (λ sizes.
     Ok (index_with table indices machine within sizes)))
 
 -- words begin with a well built index of claims, so many of them with a size and so many of size 0
@@ -140,7 +140,7 @@ IsIndexWith claim_of range_of sized opens words = IsWellBuilt claim_of range_of 
 
 -- the same for the symbols of a table
 abbrev pub IsIndexIn : Addresses → Option ℕ → ℕ → ℕ → List ℕ → Type 0
-IsIndexIn all within sized opens words = IsIndexWith (claim_in all within) (range_in all) sized opens words
+IsIndexIn all within sized opens words = IsIndexWith (claim_in_section all within) (range_in all) sized opens words
 
 -- words begin with a well built index of the symbols of a record
 abbrev pub IsIndexOf : List ℕ → AddressIndex → List ℕ → Type 0
@@ -152,9 +152,9 @@ abbrev pub no_symbol_at : SymbolAt
 no_symbol_at = record { symbol = no_symbol; index = 0; offset = 0; found = 0; is_open = 0 }
 
 -- the numbers of the symbol at an index, if there is one, for an address
-abbrev pub symbol_at : ℕ → ℕ → Option SymbolFields → SymbolAt
-symbol_at address index None = no_symbol_at
-symbol_at address index (Some symbol) = record {
+abbrev pub symbol_at_address : ℕ → ℕ → Option SymbolFields → SymbolAt
+symbol_at_address address index None = no_symbol_at
+symbol_at_address address index (Some symbol) = record {
   symbol = symbol_record symbol;
   index = index;
   offset = address - symbol.value;
@@ -165,7 +165,7 @@ symbol_at address index (Some symbol) = record {
 -- the numbers of the symbol of a claim that was found, if any
 abbrev pub claimed_at : List SymbolFields → ℕ → Option Claim → SymbolAt
 claimed_at items address None = no_symbol_at
-claimed_at items address (Some claim) = symbol_at address claim.index (slice_get items claim.index)
+claimed_at items address (Some claim) = symbol_at_address address claim.index (slice_get items claim.index)
 
 -- the numbers are those of a symbol with a claim that covers the address, or of none; of the innermost, if the index is
 -- well built
@@ -178,7 +178,7 @@ pub record IsAnswer (claim_of : ℕ → Option Claim) (items : List SymbolFields
 -- the same for the symbols of a table, and the words of an index
 abbrev pub IsAnswerIn : Addresses → AddressIndex → List ℕ → ℕ → SymbolAt → Type 0
 IsAnswerIn all index words = let within = within_of index.within in
-    IsAnswer (claim_in all within) all.items (IsIndexIn all within index.sized_count index.open_count words)
+    IsAnswer (claim_in_section all within) all.items (IsIndexIn all within index.sized_count index.open_count words)
 
 -- each item of the slice that has an address satisfies P for it; the other items are unchanged
 pub record AreStored {T : Type 0} (P : ℕ → T → Type 0) (addresses : List ℕ) (old new : List T) : Type 0 where
@@ -196,8 +196,8 @@ AreAnswered input index words addresses old answer new =
     (λ why. (answer ≡ Err why) × (new ≡ old))
 
 -- the symbols that a table of the library has, as such
-abbrev pub addresses_of : {E : Type 0} → {r : _} → (E → SymbolFields) → AddressSymbols E r → Addresses
-addresses_of fields symbols = record {
+abbrev pub addresses_of_table : {E : Type 0} → {r : _} → (E → SymbolFields) → AddressSymbols E r → Addresses
+addresses_of_table fields symbols = record {
   items = map fields (symbol_items symbols);
   strings = symbols.strings.now;
   words = table_items symbols.indices;
@@ -205,9 +205,9 @@ addresses_of fields symbols = record {
 }
 
 -- the same of a table of either class
-abbrev pub addresses_in : AnyAddresses → Addresses
-addresses_in (Narrow symbols) = addresses_of dyn_entry_32_fields symbols
-addresses_in (Wide symbols) = addresses_of dyn_entry_64_fields symbols
+abbrev pub addresses_in_table : AnyAddresses → Addresses
+addresses_in_table (Narrow symbols) = addresses_of_table dyn_entry_32_fields symbols
+addresses_in_table (Wide symbols) = addresses_of_table dyn_entry_64_fields symbols
 
 -- the numbers of the symbol that the library finds, if any
 abbrev pub told : {E : Type 0} → (E → SymbolFields) → Option (At E) → SymbolAt

@@ -1,6 +1,6 @@
 -- Many records in one call (this project's own).
 use Rattle.std.specs.Prelude.{◌≡◌, ◌<◌, ◌≤◌, ◌+◌, ◌⊎◌, ℕ, List, length, slice_get, Result, Ok, Err}
-use Rattle.elf_c.specs.Records.{found_in}
+use Rattle.elf_c.specs.Records.{record_in}
 use Rattle.elf_c.specs.Status.{GivesHere}
 use Rattle.elf_c.specs.declared.status.Refusal.{Refusal}
 use Rattle.elf_c.specs.declared.status.Refusal.TheVariants.{NoRecord}
@@ -10,7 +10,7 @@ use Rattle.elf_c.specs.declared.status.Refusal.TheVariants.{NoRecord}
 pub record IsBatch {T : Type 0} (item : ℕ → Result T Refusal) (first : ℕ) (old : List T) (count : ℕ) (new : List T) : Type 0 where
   pub long : length new ≡ length old
   pub fits : count ≤ length old
-  pub each : (k : ℕ) → k < count → found_in (λ x. x) new k ≡ item (first + k)
+  pub each : (k : ℕ) → k < count → record_in (λ x. x) new k ≡ item (first + k)
   pub rest : (k : ℕ) → count ≤ k → slice_get new k ≡ slice_get old k
   pub full : (count ≡ length old) ⊎ (item (first + count) ≡ Err NoRecord)
 

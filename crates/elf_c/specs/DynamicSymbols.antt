@@ -16,7 +16,7 @@ use Rattle.xmas_elf.specs.Symbol.{SymbolFields, dyn_entry_32, dyn_entry_32_field
 use Rattle.xmas_elf.specs.declared.ElfFile.{ElfFile}
 use Rattle.elf_c.specs.Addresses.{range_at_address}
 use Rattle.elf_c.specs.DynamicTexts.{linked_name, range_in_strings, strings_range}
-use Rattle.elf_c.specs.Records.{found_in}
+use Rattle.elf_c.specs.Records.{record_in}
 use Rattle.elf_c.specs.SymbolTables.{table_of_section}
 use Rattle.elf_c.specs.declared.names.Name.{Name}
 use Rattle.elf_c.specs.declared.names.Range.{Range}
@@ -50,8 +50,8 @@ AreDynamicSymbols file bytes = AreSymbolsBy file (dynamic_entries_of file) bytes
 abbrev pub linked_symbol_in : {T : Type 0} → (SymbolFields → T) → ElfFile → List ℕ → ℕ → Result T Refusal
 linked_symbol_in value file bytes index = let order = file_order file.header in
     if file_class file.header == 1
-    then found_in (λ e. value (dyn_entry_32_fields e)) (records 16 (dyn_entry_32 order) bytes) index
-    else found_in (λ e. value (dyn_entry_64_fields e)) (records 24 (dyn_entry_64 order) bytes) index
+    then record_in (λ e. value (dyn_entry_32_fields e)) (records 16 (dyn_entry_32 order) bytes) index
+    else record_in (λ e. value (dyn_entry_64_fields e)) (records 24 (dyn_entry_64 order) bytes) index
 
 -- the value of the symbol at an index, if there are symbols
 abbrev pub dynamic_symbol_at : {T : Type 0} → (SymbolFields → T) → ElfFile → Result (List ℕ) LinkError → ℕ → Result T Refusal
@@ -59,14 +59,14 @@ dynamic_symbol_at value file (Ok bytes) index = linked_symbol_in value file byte
 dynamic_symbol_at value file (Err error) index = Err (Link error)
 
 -- the input range of the string table of the entries, or why there is none
-abbrev pub strings_by : ElfFile → Result (List (Dynamic ℕ)) LinkError → Result Range Refusal
-strings_by file (Ok entries) = strings_range file entries
-strings_by file (Err error) = Err (Link error)
+abbrev pub strings_range_by : ElfFile → Result (List (Dynamic ℕ)) LinkError → Result Range Refusal
+strings_range_by file (Ok entries) = strings_range file entries
+strings_range_by file (Err error) = Err (Link error)
 
 -- the range of a symbol's name in the string table of the dynamic segment, or why there is none
 abbrev pub dynamic_symbol_name : ElfFile → SymbolFields → Name
 dynamic_symbol_name file fields =
-    linked_name (range_in_strings file.input.now (strings_by file (dynamic_entries_of file)) fields.name)
+    linked_name (range_in_strings file.input.now (strings_range_by file (dynamic_entries_of file)) fields.name)
 
 -- the record of a number of symbols in a range, with the range of the string table, or the error for it
 abbrev pub segment_table : ElfFile → Result Range Refusal → ℕ → Range → SymbolTable
@@ -92,15 +92,15 @@ table_at_address file strings (Ok count) (Some address) =
     table_in_range file strings count (range_at_address file address (count * symbol_size file))
 
 -- the record of the symbols of the entries, with their number
-abbrev pub table_by : ElfFile → Result (List (Dynamic ℕ)) LinkError → Result ℕ LinkError → Result SymbolTable Refusal
-table_by file (Ok entries) count =
+abbrev pub symbol_table_by : ElfFile → Result (List (Dynamic ℕ)) LinkError → Result ℕ LinkError → Result SymbolTable Refusal
+symbol_table_by file (Ok entries) count =
     table_at_address file (strings_range file entries) count (number_with DT_SYMTAB entries)
-table_by file (Err error) count = Err (Link error)
+symbol_table_by file (Err error) count = Err (Link error)
 
 -- the result is the record of the symbols of a file's dynamic segment, or why there are none
 abbrev pub IsSegmentTable : ElfFile → Result SymbolTable Refusal → Type 0
 IsSegmentTable file answer = (count : Result ℕ LinkError)
-    × IsDynamicCount file count × (answer ≡ table_by file (dynamic_entries_of file) count)
+    × IsDynamicCount file count × (answer ≡ symbol_table_by file (dynamic_entries_of file) count)
 
 -- the result is the record of the symbols of a file, or why there are none: those of the first section of type
 -- SHT_SYMTAB, or, if there is no such section, those of the dynamic segment

@@ -9,7 +9,7 @@ use Rattle.elf_records.specs.declared.dynamic.Dynamic.{Dynamic}
 use Rattle.elf_linking.specs.declared.view.tags.TheConstants.{DT_STRSZ, DT_STRTAB}
 use Rattle.xmas_elf.specs.declared.ElfFile.{ElfFile}
 use Rattle.elf_c.specs.Addresses.{range_at_address}
-use Rattle.elf_c.specs.Records.{found_in, range_at, text_range}
+use Rattle.elf_c.specs.Records.{record_in, range_at, text_range}
 use Rattle.elf_c.specs.Status.{and_so, refusal_number}
 use Rattle.elf_c.specs.declared.names.Name.{Name}
 use Rattle.elf_c.specs.declared.names.Range.{Range}
@@ -17,13 +17,13 @@ use Rattle.elf_c.specs.declared.status.Refusal.{Refusal}
 use Rattle.elf_c.specs.declared.status.Refusal.TheVariants.{Link}
 
 -- the input range of a string table, by its address and its size
-abbrev pub table_range : ElfFile → Option ℕ → Option ℕ → Result Range Refusal
-table_range file (Some address) (Some size) = range_at_address file address size
-table_range file _ _ = Err (Link NoEntry)
+abbrev pub string_table_range : ElfFile → Option ℕ → Option ℕ → Result Range Refusal
+string_table_range file (Some address) (Some size) = range_at_address file address size
+string_table_range file _ _ = Err (Link NoEntry)
 
 -- the input range of the string table of the entries
 abbrev pub strings_range : ElfFile → List (Dynamic ℕ) → Result Range Refusal
-strings_range file entries = table_range file (number_with DT_STRTAB entries) (number_with DT_STRSZ entries)
+strings_range file entries = string_table_range file (number_with DT_STRTAB entries) (number_with DT_STRSZ entries)
 
 -- the range of the text at an offset in a string table, or why there is none
 abbrev pub range_in_strings : List ℕ → Result Range Refusal → ℕ → Result Range Refusal
@@ -45,7 +45,7 @@ texts_with tag input strings (entry ∷ entries) = if dynamic_tag entry == tag
 -- the range of that text at an index, or why there is none
 abbrev pub text_among : ElfFile → ℕ → ℕ → Result (List (Dynamic ℕ)) LinkError → Result Name Refusal
 text_among file tag index (Ok entries) =
-    found_in (λ name. name) (texts_with tag file.input.now (strings_range file entries) entries) index
+    record_in (λ name. name) (texts_with tag file.input.now (strings_range file entries) entries) index
 text_among file tag index (Err error) = Err (Link error)
 
 -- that range of a file, or why there is none

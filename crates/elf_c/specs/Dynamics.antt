@@ -12,7 +12,7 @@ use Rattle.elf_records.specs.Dynamic as entry
 use Rattle.elf_records.specs.declared.dynamic.Dynamic.{Dynamic}
 use Rattle.xmas_elf.specs.Content.{Content, dynamic_32, dynamic_64, table_of}
 use Rattle.xmas_elf.specs.declared.ElfFile.{ElfFile}
-use Rattle.elf_c.specs.Records.{found_in, record_among}
+use Rattle.elf_c.specs.Records.{record_in, record_among}
 use Rattle.elf_c.specs.Status.{and_so}
 use Rattle.elf_c.specs.declared.dynamic.DynamicEntry.{DynamicEntry}
 use Rattle.elf_c.specs.declared.status.Refusal.{Refusal}
@@ -25,9 +25,9 @@ dynamic_record item = record { tag = entry.dynamic_tag item; value = entry.dynam
 -- the dynamic entry at an index of the contents of a section, or why there is none
 abbrev pub dynamic_entry_in : ℕ → Content → Result DynamicEntry Refusal
 dynamic_entry_in index (table_of dynamic_32 order bytes) =
-    found_in dynamic_record (records 8 (entry.dynamic_32 order) bytes) index
+    record_in dynamic_record (records 8 (entry.dynamic_32 order) bytes) index
 dynamic_entry_in index (table_of dynamic_64 order bytes) =
-    found_in dynamic_record (records 16 (entry.dynamic_64 order) bytes) index
+    record_in dynamic_record (records 16 (entry.dynamic_64 order) bytes) index
 dynamic_entry_in index _ = Err OtherData
 
 -- the dynamic entry at an index of bytes in the layout of a class

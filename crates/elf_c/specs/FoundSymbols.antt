@@ -26,16 +26,16 @@ abbrev pub no_symbol : Symbol
 no_symbol = record { value = 0; size = 0; name = 0; shndx = 0; info = 0; other = 0 }
 
 -- that no symbol is found
-abbrev pub none_found : FoundSymbol
-none_found = record { symbol = no_symbol; found = 0; index = 0 }
+abbrev pub no_symbol_record : FoundSymbol
+no_symbol_record = record { symbol = no_symbol; found = 0; index = 0 }
 
 -- the numbers of the symbol at an index, if it serves other files than its own
 abbrev pub serving_symbol : ℕ → SymbolFields → FoundSymbol
-serving_symbol index e = if serves_others e then record { symbol = symbol_record e; found = 1; index = index } else none_found
+serving_symbol index e = if serves_others e then record { symbol = symbol_record e; found = 1; index = index } else no_symbol_record
 
 -- the numbers of the symbol that a search found, if any, and if it serves other files
 abbrev pub found_symbol : {E : Type 0} → (E → SymbolFields) → Option (ℕ × E) → FoundSymbol
-found_symbol fields None = none_found
+found_symbol fields None = no_symbol_record
 found_symbol fields (Some at) = serving_symbol at.0 (fields at.1)
 
 -- the numbers of the result of a search

@@ -79,15 +79,15 @@ IsSysvTable (Err error) (Err why) = why ≡ Elf error
 IsSysvTable _ _ = ⊥
 
 -- the result is the GNU hash table in bytes, or the error if they are none
-abbrev pub IsGnuTable : Class → Order → List ℕ → Result AnyTable Refusal → Type 0
-IsGnuTable class order bytes (Ok (any_table.Gnu table)) =
+abbrev pub IsGnuTableRecord : Class → Order → List ℕ → Result AnyTable Refusal → Type 0
+IsGnuTableRecord class order bytes (Ok (any_table.Gnu table)) =
     (gnu_data table ≡ bytes) × (gnu_class table ≡ class) × (gnu_order table ≡ order)
-IsGnuTable class order bytes (Err (Link error)) = gnu_table_of class order bytes ≡ Err error
-IsGnuTable class order bytes _ = ⊥
+IsGnuTableRecord class order bytes (Err (Link error)) = gnu_table_of class order bytes ≡ Err error
+IsGnuTableRecord class order bytes _ = ⊥
 
 -- the result is the hash table in bytes, GNU's or else that of the ELF standard, or the error
 abbrev pub IsTableIn : Bool → Class → Order → List ℕ → Result AnyTable Refusal → Type 0
-IsTableIn true class order bytes = IsGnuTable class order bytes
+IsTableIn true class order bytes = IsGnuTableRecord class order bytes
 IsTableIn false class order bytes = IsSysvTable (hash_table_content order bytes)
 
 -- the result is the hash table in the range of a record, of the kind of the record, or the error

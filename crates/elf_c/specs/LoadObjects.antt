@@ -16,7 +16,7 @@ use Rattle.elf_loading.specs.declared.words.Binding.{Binding}
 use Rattle.elf_loading.specs.declared.words.Binding.TheVariants.{Lazy, Now}
 use Rattle.xmas_elf.specs.Types.{Header}
 use Rattle.xmas_elf.specs.declared.ElfFile.{ElfFile}
-use Rattle.elf_c.specs.LoadPlans.{limit_of}
+use Rattle.elf_c.specs.LoadPlans.{default_limit}
 use Rattle.elf_c.specs.declared.load_objects.LoadObject.{LoadObject}
 use Rattle.elf_c.specs.declared.load_objects.TheConstants.{MOST_OBJECTS}
 use Rattle.elf_c.specs.declared.status.Refusal.{Refusal}
@@ -90,7 +90,7 @@ pub record IsFirstRefused {E : Type 0} (r : _) (class size : ℕ) (loads : List 
 
 -- the plan is that of the file of an object, with pages of a size and addresses up to a limit
 abbrev pub IsPlanFor : {E : Type 0} → {r : _} → ℕ → ℕ → DynamicObject E r → LoadPlan → Type 0
-IsPlanFor page limit object plan = let file = object_file object in IsPlanOf file page (limit_of file limit) plan
+IsPlanFor page limit object plan = let file = object_file object in IsPlanOf file page (default_limit file limit) plan
 
 -- the plans are those of the objects, in order
 abbrev pub ArePlansOf : {E : Type 0} → {r : _} → ℕ → ℕ → List (DynamicObject E r) → List LoadPlan → Type 0
@@ -98,21 +98,21 @@ ArePlansOf page limit objects plans = AreMade (IsPlanFor page limit) objects pla
 
 -- why the file of an object has no plan
 abbrev pub LacksPlan : {E : Type 0} → {r : _} → ℕ → ℕ → DynamicObject E r → LoadError → Type 0
-LacksPlan page limit object error = let file = object_file object in check_file file page (limit_of file limit) ≡ Err error
+LacksPlan page limit object error = let file = object_file object in check_file file page (default_limit file limit) ≡ Err error
 
 -- the first object whose file has no plan, and why
 abbrev pub IsFirstUnplanned : {E : Type 0} → {r : _} → ℕ → ℕ → List (DynamicObject E r) → LoadError → Type 0
 IsFirstUnplanned page limit objects error = IsFirstUnmade {B = LoadPlan} (IsPlanFor page limit) (LacksPlan page limit) objects error
 
 -- where an object is loaded
-abbrev pub place_of : LoadObject → Place
-place_of load = record { base = load.base; «module» = load.«module»; thread = load.thread }
+abbrev pub load_place : LoadObject → Place
+load_place load = record { base = load.base; «module» = load.«module»; thread = load.thread }
 
 -- the places are those of the objects, in order
 pub record ArePlacesOf (loads : List LoadObject) (places : List Place) : Type 0 where
   pub same_count : length places ≡ length loads
   pub each : (index : ℕ) (load : LoadObject) → slice_get loads index ≡ Some load
-      → slice_get places index ≡ Some (place_of load)
+      → slice_get places index ≡ Some (load_place load)
 
 -- the images are those of the objects, in order
 pub record AreImagesOf (loads : List LoadObject) (images : List (Bor (List ℕ))) : Type 0 where

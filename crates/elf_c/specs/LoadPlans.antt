@@ -16,7 +16,7 @@ use Rattle.elf_loading.specs.declared.mapping.Mapping.{Mapping}
 use Rattle.elf_loading.specs.declared.span.Span as loading
 use Rattle.xmas_elf.specs.Types.{ElfFile}
 use Rattle.elf_linking.specs.declared.segments.Segment.{Segment}
-use Rattle.elf_c.specs.Records.{flag_number, found_in, range_at}
+use Rattle.elf_c.specs.Records.{flag_number, record_in, range_at}
 use Rattle.elf_c.specs.declared.load_plans.LoadMapping.{LoadMapping}
 use Rattle.elf_c.specs.declared.load_plans.Plan.{Plan}
 use Rattle.elf_c.specs.declared.load_plans.Span.{Span}
@@ -32,8 +32,8 @@ page_of page = if page == 0 then 4096 else page
 
 -- the end of the addresses that a loader may use; 0 means that of Linux, for 386 if the file is of class 32, and
 -- otherwise for x86-64
-abbrev pub limit_of : ElfFile → ℕ → ℕ
-limit_of file limit = if limit == 0
+abbrev pub default_limit : ElfFile → ℕ → ℕ
+default_limit file limit = if limit == 0
     then (if file_class file.header == 1 then 0xffffe000 else 0x7ffffffff000) else limit
 
 -- the loader of a number: 1 for glibc, any other number for Linux
@@ -121,4 +121,4 @@ mapping_records file page by = map mapping_record (mappings_of page by None (loa
 -- the numbers of the mapping at an index, or why there is none
 abbrev pub mapping_at : ElfFile → ℕ → ℕ → Loader → ℕ → Result LoadMapping Refusal
 mapping_at file page limit by index =
-    if_checked (check_file file page limit) (found_in (λ one. one) (mapping_records file page by) index)
+    if_checked (check_file file page limit) (record_in (λ one. one) (mapping_records file page by) index)

@@ -4,7 +4,7 @@ use Rattle.std.specs.Prelude.{◌≡◌, ◌<◌, ◌≤◌, ℕ, List, length, 
 use Rattle.std.specs.Borrow.{Bor}
 use Rattle.std.specs.Str.{IsUtf8}
 use Rattle.elf_base.specs.declared.error.ElfError.TheVariants.{TextUtf8}
-use Rattle.elf_linking.specs.AnyTable.{FindsAllBy, IsCheckBy, IsCountBy, IsGoodBy, LooksBy as LooksAmong}
+use Rattle.elf_linking.specs.AnyTable.{FindsAllBy, IsCheckBy, IsCountBy, IsGoodBy, LooksByRecord as LooksAmong}
 use Rattle.elf_linking.specs.declared.any_table.AnyTable.{AnyTable}
 use Rattle.elf_linking.specs.declared.error.LinkError.{LinkError}
 use Rattle.xmas_elf.specs.Ranges.{range_of}
@@ -24,13 +24,13 @@ use Rattle.elf_c.specs.declared.symbol_tables.AnySymbols.{AnySymbols}
 use Rattle.elf_c.specs.declared.symbol_tables.AnySymbols.TheVariants.{Narrow, Wide}
 
 -- the numbers of the symbol that a look-up finds, if any: its index, and the number of entries that it visited
-abbrev pub looked_up : {E : Type 0} → Option (ℕ × E) → ℕ → LookUp
-looked_up None count = record { found = 0; index = 0; looked_at = count }
-looked_up (Some entry) count = record { found = 1; index = entry.0; looked_at = count }
+abbrev pub look_up_record : {E : Type 0} → Option (ℕ × E) → ℕ → LookUp
+look_up_record None count = record { found = 0; index = 0; looked_at = count }
+look_up_record (Some entry) count = record { found = 1; index = entry.0; looked_at = count }
 
 -- the result of a look-up as numbers
 abbrev pub look_up_answer : {E : Type 0} → Result (Option (ℕ × E)) LinkError → ℕ → Result LookUp Refusal
-look_up_answer (Ok found) count = Ok (looked_up found count)
+look_up_answer (Ok found) count = Ok (look_up_record found count)
 look_up_answer (Err error) count = Err (Link error)
 
 -- the result is that of a look-up for the name among symbols, which visits no more entries than the table
@@ -43,14 +43,14 @@ IsLookUp {E} table name symbols answer = (found : Result (Option (ℕ × E)) Lin
     × (answer ≡ look_up_answer found count)
 
 -- the result of a check, as a call gives it
-abbrev pub check_answer : Result (Unit {0}) LinkError → Result (Unit {0}) Refusal
-check_answer (Ok _) = Ok tt
-check_answer (Err error) = Err (Link error)
+abbrev pub check_result : Result (Unit {0}) LinkError → Result (Unit {0}) Refusal
+check_result (Ok _) = Ok tt
+check_result (Err error) = Err (Link error)
 
 -- the result is that of the check of the table with symbols
 abbrev pub IsChecked : {E : Type 0} → AnyTable → Symbols E → Result (Unit {0}) Refusal → Type 0
 IsChecked table symbols answer =
-    (verdict : Result (Unit {0}) LinkError) × IsCheckBy table symbols verdict × (answer ≡ check_answer verdict)
+    (verdict : Result (Unit {0}) LinkError) × IsCheckBy table symbols verdict × (answer ≡ check_result verdict)
 
 -- the result satisfies P for the symbols of a table of either class, with their names in a string table
 abbrev pub OfSymbols : {A : Type 0} → ((E : Type 0) → Symbols E → A → Type 0) → List ℕ → AnySymbols → A → Type 0
@@ -66,8 +66,8 @@ abbrev pub LooksIfRead : Result HashParts Refusal → List ℕ → Result LookUp
 LooksIfRead found name answer = MatchResult found (λ parts. LooksIn parts name answer) (λ why. answer ≡ Err why)
 
 -- the result is that of a look-up for the name by a record
-abbrev pub LooksBy : List ℕ → OpenedTable → List ℕ → Result LookUp Refusal → Type 0
-LooksBy input opened name answer =
+abbrev pub LooksByRecord : List ℕ → OpenedTable → List ℕ → Result LookUp Refusal → Type 0
+LooksByRecord input opened name answer =
     (found : Result HashParts Refusal) × ArePartsBy input opened found × LooksIfRead found name answer
 
 -- the result is that of the check of a hash table with its symbols
@@ -94,8 +94,8 @@ IsForRange P names range answer =
     MatchResult (range_of names range.offset range.size) (λ name. P name answer) (λ error. answer ≡ Err (Elf error))
 
 -- the name was found
-abbrev pub IsNamed : List ℕ → Result (Bor (List ℕ)) Refusal → Type 0
-IsNamed name answer = IsOkAnd answer (λ text. text.now ≡ name)
+abbrev pub IsNameFound : List ℕ → Result (Bor (List ℕ)) Refusal → Type 0
+IsNameFound name answer = IsOkAnd answer (λ text. text.now ≡ name)
 
 -- each item of the slice that has a range is the record of a result that satisfies P for its name; the other
 -- items are unchanged

@@ -9,14 +9,14 @@ use Rattle.elf_linking.specs.declared.view.tags.TheConstants.{DT_RELR, DT_RELRSZ
 use Rattle.elf_records.specs.declared.dynamic.Dynamic.{Dynamic}
 use Rattle.xmas_elf.specs.SectionHeader.{section_fields, section_of}
 use Rattle.xmas_elf.specs.Types.{ElfFile, SectionHeader}
-use Rattle.elf_c.specs.Records.{found_in}
+use Rattle.elf_c.specs.Records.{record_in}
 use Rattle.elf_c.specs.Status.{and_so}
 use Rattle.elf_c.specs.declared.status.Refusal.{Refusal}
 use Rattle.elf_c.specs.declared.status.Refusal.TheVariants.{Link, NoRecord, OtherData}
 
 -- the address at an index, or why there is none
 abbrev pub address_among : ℕ → Result (List ℕ) LinkError → Result ℕ Refusal
-address_among index (Ok addresses) = found_in (λ address. address) addresses index
+address_among index (Ok addresses) = record_in (λ address. address) addresses index
 address_among index (Err error) = Err (Link error)
 
 -- the address at an index in a section

@@ -12,7 +12,7 @@ use Rattle.elf_addresses.specs.declared.pieces.Piece as addresses
 use Rattle.elf_addresses.specs.declared.symbol_pieces.SymbolPiece.{SymbolPiece}
 use Rattle.elf_base.specs.Refusal.{and_then, unless}
 use Rattle.xmas_elf.specs.Types.{ElfFile}
-use Rattle.elf_c.specs.AddressIndex.{Addresses, addresses_by, claim_in, index_rows, within_of}
+use Rattle.elf_c.specs.AddressIndex.{Addresses, addresses_by, claim_in_section, index_rows, within_of}
 use Rattle.elf_c.specs.declared.address_index.AddressIndex.{AddressIndex}
 use Rattle.elf_c.specs.declared.pieces.Piece.{Piece}
 use Rattle.elf_c.specs.declared.pieces.PieceSizes.{PieceSizes}
@@ -79,15 +79,15 @@ abbrev pub asks_words : ElfFile → List ℕ → Bool
 asks_words file words = length words == 0 && nat_lt 0 (piece_words file)
 
 -- the sizes of the pieces of a file
-abbrev pub sizes_of : ElfFile → ℕ → PieceSizes
-sizes_of file count = record { words = piece_words file; count = count }
+abbrev pub piece_sizes_of : ElfFile → ℕ → PieceSizes
+piece_sizes_of file count = record { words = piece_words file; count = count }
 
 -- the result of a call for the pieces of a file: their number and that of the words, or an error
 abbrev pub AreCounted : ElfFile → ℕ → List ℕ → List Piece → Result PieceSizes Refusal → List Piece → Type 0
 AreCounted file first words old answer new = MatchBool (asks_words file words)
-    ((answer ≡ Ok (sizes_of file 0)) × (new ≡ old))
+    ((answer ≡ Ok (piece_sizes_of file 0)) × (new ≡ old))
     ((counted : Result ℕ Refusal) × Lists (few_words (piece_words file) words) (IsWhole file) piece_record first old counted new
-    × (answer ≡ and_then counted (λ count. Ok (sizes_of file count))))
+    × (answer ≡ and_then counted (λ count. Ok (piece_sizes_of file count))))
 
 -- pieces that follow each other, from an address up to a limit, each a longest run of addresses in one symbol or in none
 abbrev pub AreRuns : (ℕ → Option Claim) → ℕ → ℕ → List SymbolPiece → Type 0
@@ -101,7 +101,7 @@ runs_refused claim_of count words = unless (index_rows claim_of count words) tt
 
 -- the result of a call for the pieces of a range of addresses by symbols
 abbrev pub AreListedIn : Addresses → Option ℕ → ℕ × ℕ → ℕ → List ℕ → List Piece → Result ℕ Refusal → List Piece → Type 0
-AreListedIn all within range first words old answer new = let claim_of = claim_in all within in
+AreListedIn all within range first words old answer new = let claim_of = claim_in_section all within in
     Lists (runs_refused claim_of (length all.items) words) (AreRuns claim_of (max range.0 range.1) range.0) run_record first old answer new
 
 -- the same by the symbols of a record

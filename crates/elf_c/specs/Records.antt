@@ -26,13 +26,13 @@ use Rattle.elf_c.specs.declared.status.Refusal.{Refusal}
 use Rattle.elf_c.specs.declared.status.Refusal.TheVariants.{Elf, NoRecord, NotFound}
 
 -- the record of an item, or that there is none
-abbrev pub taken_for : {A T : Type 0} → (A → T) → Option A → Result T Refusal
-taken_for value None = Err NoRecord
-taken_for value (Some item) = Ok (value item)
+abbrev pub record_or_none : {A T : Type 0} → (A → T) → Option A → Result T Refusal
+record_or_none value None = Err NoRecord
+record_or_none value (Some item) = Ok (value item)
 
 -- the record of the item at an index, or that there is none
-abbrev pub found_in : {A T : Type 0} → (A → T) → List A → ℕ → Result T Refusal
-found_in value items index = taken_for value (slice_get items index)
+abbrev pub record_in : {A T : Type 0} → (A → T) → List A → ℕ → Result T Refusal
+record_in value items index = record_or_none value (slice_get items index)
 
 -- the number of sections and segments of a file
 abbrev pub counts_of : ElfFile → Counts
@@ -68,7 +68,7 @@ section_record section = let fields = section_fields section in record {
 -- the value of the record at an index of bytes that are a whole number of records of a size, or why there is none
 abbrev pub record_among : {A T : Type 0} → (A → T) → ℕ → (List ℕ → A) → List ℕ → ℕ → Result T Refusal
 record_among value size decode bytes index =
-    if length bytes % size == 0 then found_in value (records size decode bytes) index else Err (Elf NotMultiple)
+    if length bytes % size == 0 then record_in value (records size decode bytes) index else Err (Elf NotMultiple)
 
 -- 1 for true, otherwise 0
 abbrev pub flag_number : Bool → ℕ
@@ -104,8 +104,8 @@ section_bytes file section = if is_relr_type section
     else section_data_of file section
 
 -- the range of a section's data, or why it has none
-abbrev pub section_range : ElfFile → SectionHeader → Result Range ElfError
-section_range file section = and_then (section_bytes file section)
+abbrev pub section_data_range : ElfFile → SectionHeader → Result Range ElfError
+section_data_range file section = and_then (section_bytes file section)
     (λ _. Ok (range_at (section_fields section).offset (section_fields section).size))
 
 -- the numbers of a program header
@@ -122,8 +122,8 @@ segment_record segment = record {
 }
 
 -- the range of a segment's data, or why it has none: for an empty one the empty range at 0
-abbrev pub segment_range : ElfFile → ProgramHeader64 → Result Range ElfError
-segment_range file segment = and_then (segment_data_of file segment)
+abbrev pub segment_data_range : ElfFile → ProgramHeader64 → Result Range ElfError
+segment_data_range file segment = and_then (segment_data_of file segment)
     (λ _. Ok (range_at (if segment.file_size == 0 then 0 else segment.offset) segment.file_size))
 
 -- the range of the text at an index of a part of the input, or why there is none

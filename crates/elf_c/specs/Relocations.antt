@@ -13,7 +13,7 @@ use Rattle.elf_records.specs.declared.sections.relocations.Rela.{Rela}
 use Rattle.xmas_elf.specs.Content as kind
 use Rattle.xmas_elf.specs.Content.{Content, table_of}
 use Rattle.xmas_elf.specs.declared.ElfFile.{ElfFile}
-use Rattle.elf_c.specs.Records.{flag_number, found_in}
+use Rattle.elf_c.specs.Records.{flag_number, record_in}
 use Rattle.elf_c.specs.declared.relocations.Relocation.{Relocation}
 use Rattle.elf_c.specs.declared.status.Refusal.{Refusal}
 use Rattle.elf_c.specs.declared.status.Refusal.TheVariants.{Link, OtherData}
@@ -41,13 +41,13 @@ rel_record symbol type_ rel = record {
 -- the relocation at an index of the contents of a section, or why there is none
 abbrev pub relocation_in : ℕ → Content → Result Relocation Refusal
 relocation_in index (table_of kind.rela_32 order bytes) =
-    found_in (rela_record relocation.symbol_in_32 relocation.type_in_32) (records 12 (relocation.rela_32 order) bytes) index
+    record_in (rela_record relocation.symbol_in_32 relocation.type_in_32) (records 12 (relocation.rela_32 order) bytes) index
 relocation_in index (table_of kind.rela_64 order bytes) =
-    found_in (rela_record relocation.symbol_in_64 relocation.type_in_64) (records 24 (relocation.rela_64 order) bytes) index
+    record_in (rela_record relocation.symbol_in_64 relocation.type_in_64) (records 24 (relocation.rela_64 order) bytes) index
 relocation_in index (table_of kind.rel_32 order bytes) =
-    found_in (rel_record relocation.symbol_in_32 relocation.type_in_32) (records 8 (relocation.rel_32 order) bytes) index
+    record_in (rel_record relocation.symbol_in_32 relocation.type_in_32) (records 8 (relocation.rel_32 order) bytes) index
 relocation_in index (table_of kind.rel_64 order bytes) =
-    found_in (rel_record relocation.symbol_in_64 relocation.type_in_64) (records 16 (relocation.rel_64 order) bytes) index
+    record_in (rel_record relocation.symbol_in_64 relocation.type_in_64) (records 16 (relocation.rel_64 order) bytes) index
 relocation_in index _ = Err OtherData
 
 -- the numbers of a relocation of a table with addends or without
@@ -73,7 +73,7 @@ is_rela (Some kind) = kind == DT_RELA
 -- the relocation at an index of the tables of the entries, or why there is none
 abbrev pub tables_relocation : List (Dynamic ℕ) → ℕ → Result Tables LinkError → Result Relocation Refusal
 tables_relocation entries index (Ok tables) =
-    found_in (λ one. one) (dynamic_records (is_rela (number_with DT_PLTREL entries)) tables) index
+    record_in (λ one. one) (dynamic_records (is_rela (number_with DT_PLTREL entries)) tables) index
 tables_relocation entries index (Err error) = Err (Link error)
 
 -- the same by the entries, if these can be read

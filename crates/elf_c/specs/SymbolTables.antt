@@ -23,12 +23,12 @@ use Rattle.elf_c.specs.declared.symbol_tables.AnySymbols.TheVariants.{Narrow, Wi
 use Rattle.elf_c.specs.declared.symbol_tables.SymbolTable.{SymbolTable}
 
 -- the number of symbols in the contents of a section, or that they are none
-abbrev pub count_in : Content → Result ℕ Refusal
-count_in (table_of symbols_32 order bytes) = Ok (length (records 16 (entry_32 order) bytes))
-count_in (table_of symbols_64 order bytes) = Ok (length (records 24 (entry_64 order) bytes))
-count_in (table_of dyn_symbols_32 order bytes) = Ok (length (records 16 (dyn_entry_32 order) bytes))
-count_in (table_of dyn_symbols_64 order bytes) = Ok (length (records 24 (dyn_entry_64 order) bytes))
-count_in _ = Err OtherData
+abbrev pub symbol_count_in : Content → Result ℕ Refusal
+symbol_count_in (table_of symbols_32 order bytes) = Ok (length (records 16 (entry_32 order) bytes))
+symbol_count_in (table_of symbols_64 order bytes) = Ok (length (records 24 (entry_64 order) bytes))
+symbol_count_in (table_of dyn_symbols_32 order bytes) = Ok (length (records 16 (dyn_entry_32 order) bytes))
+symbol_count_in (table_of dyn_symbols_64 order bytes) = Ok (length (records 24 (dyn_entry_64 order) bytes))
+symbol_count_in _ = Err OtherData
 
 -- the record of a section with this number of symbols: their range, and that of the names (sh_link)
 abbrev pub table_with : ElfFile → SectionHeader → ℕ → SymbolTable
@@ -49,7 +49,7 @@ table_if file header (Err why) = Err why
 -- the record of the section at an index, if it has symbols
 abbrev pub table_of_section : ElfFile → ℕ → Result SymbolTable Refusal
 table_of_section file section = and_so (section_of file section) (λ header.
-    and_so (section_content_of file header) (λ content. table_if file header (count_in content)))
+    and_so (section_content_of file header) (λ content. table_if file header (symbol_count_in content)))
 
 -- the value of the symbol at an index of bytes in the layout of class 32 or else of class 64, or why there is none:
 -- the bytes are a whole number of symbols
@@ -82,14 +82,14 @@ AreSymbolsBy input table answer = MatchResult (range_of input table.symbols.offs
 
 -- the range of the name at an offset in the string table of a record, with its status: that of the string table, if it
 -- is not 0
-abbrev pub name_in : List ℕ → SymbolTable → ℕ → Name
-name_in input table name = if table.strings_status == 0
+abbrev pub name_range_in : List ℕ → SymbolTable → ℕ → Name
+name_range_in input table name = if table.strings_status == 0
     then name_answer (text_range input table.strings name)
     else record { range = range_at 0 0; status = table.strings_status }
 
 -- the range of a symbol's name
-abbrev pub name_by : List ℕ → SymbolTable → SymbolFields → Name
-name_by input table fields = name_in input table fields.name
+abbrev pub symbol_name_range : List ℕ → SymbolTable → SymbolFields → Name
+symbol_name_range input table fields = name_range_in input table fields.name
 
 -- the ranges of a record lie in the input
 abbrev pub LieWithin : List ℕ → SymbolTable → Type 0

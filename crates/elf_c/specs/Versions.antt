@@ -11,9 +11,9 @@ use Rattle.elf_linking.specs.declared.error.LinkError.{LinkError}
 use Rattle.elf_records.specs.declared.dynamic.Dynamic.{Dynamic}
 use Rattle.xmas_elf.specs.declared.ElfFile.{ElfFile}
 use Rattle.elf_c.specs.Batch.{Fills}
-use Rattle.elf_c.specs.DynamicSymbols.{IsDynamicCount, strings_by}
+use Rattle.elf_c.specs.DynamicSymbols.{IsDynamicCount, strings_range_by}
 use Rattle.elf_c.specs.DynamicTexts.{linked_name, range_in_strings}
-use Rattle.elf_c.specs.Records.{LiesIn, flag_number, found_in, range_at}
+use Rattle.elf_c.specs.Records.{LiesIn, flag_number, record_in, range_at}
 use Rattle.elf_c.specs.Status.{refusal_number}
 use Rattle.elf_c.specs.declared.names.Name.{Name}
 use Rattle.elf_c.specs.declared.names.Range.{Range}
@@ -28,17 +28,17 @@ tables_by file count (Ok entries) = version_tables_of file entries (view.strings
 tables_by file count (Err error) = Err error
 
 -- the version tables of a file's dynamic segment
-abbrev pub tables_of : ElfFile → ℕ → Result VersionTables LinkError
-tables_of file count = tables_by file count (dynamic_entries_of file)
+abbrev pub file_version_tables : ElfFile → ℕ → Result VersionTables LinkError
+file_version_tables file count = tables_by file count (dynamic_entries_of file)
 
 -- the input range of the string table of a file's dynamic segment, or why there is none
 abbrev pub strings_range_of : ElfFile → Result Range Refusal
-strings_range_of file = strings_by file (dynamic_entries_of file)
+strings_range_of file = strings_range_by file (dynamic_entries_of file)
 
 -- the range of the name at an offset in the string table, with its status
-abbrev pub version_name : List ℕ → Result Range Refusal → Result ℕ LinkError → Name
-version_name input strings (Ok offset) = linked_name (range_in_strings input strings offset)
-version_name input strings (Err error) = linked_name (Err (Link error))
+abbrev pub version_name_range : List ℕ → Result Range Refusal → Result ℕ LinkError → Name
+version_name_range input strings (Ok offset) = linked_name (range_in_strings input strings offset)
+version_name_range input strings (Err error) = linked_name (Err (Link error))
 
 -- a version whose number no definition and no need has
 abbrev pub unnamed : ℕ → Bool → Version
@@ -72,7 +72,7 @@ unreadable error = record {
 
 -- a version whose number a definition has
 abbrev pub defined_as : List ℕ → Result Range Refusal → ℕ → Bool → DefinitionParts → Version
-defined_as input strings number hidden d = let name = version_name input strings d.name_offset in record {
+defined_as input strings number hidden d = let name = version_name_range input strings d.name_offset in record {
   name = name.range;
   file = range_at 0 0;
   status = 0;
@@ -88,8 +88,8 @@ defined_as input strings number hidden d = let name = version_name input strings
 -- a version whose number a need has
 abbrev pub needed_as : List ℕ → Result Range Refusal → ℕ → Bool → NeedParts → Version
 needed_as input strings number hidden need =
-    let name = version_name input strings (Ok need.name_offset) in
-    let file = version_name input strings (Ok need.file_offset) in record {
+    let name = version_name_range input strings (Ok need.name_offset) in
+    let file = version_name_range input strings (Ok need.file_offset) in record {
       name = name.range;
       file = file.range;
       status = 0;
@@ -103,42 +103,42 @@ needed_as input strings number hidden need =
     }
 
 -- a definition of the list, or why it can't be read
-abbrev pub definition_item : List ℕ → Result Range Refusal → Result DefinitionParts LinkError → Version
-definition_item input strings (Ok d) = defined_as input strings d.number false d
-definition_item input strings (Err error) = unreadable error
+abbrev pub definition_record : List ℕ → Result Range Refusal → Result DefinitionParts LinkError → Version
+definition_record input strings (Ok d) = defined_as input strings d.number false d
+definition_record input strings (Err error) = unreadable error
 
 -- a need of the list, or why it can't be read
-abbrev pub need_item : List ℕ → Result Range Refusal → Result NeedParts LinkError → Version
-need_item input strings (Ok need) = needed_as input strings need.number need.hidden need
-need_item input strings (Err error) = unreadable error
+abbrev pub need_record : List ℕ → Result Range Refusal → Result NeedParts LinkError → Version
+need_record input strings (Ok need) = needed_as input strings need.number need.hidden need
+need_record input strings (Err error) = unreadable error
 
 -- the definitions of a file, in order
 abbrev pub definition_items : List ℕ → Result Range Refusal → List (Result DefinitionParts LinkError) → List Version
-definition_items input strings items = map (definition_item input strings) items
+definition_items input strings items = map (definition_record input strings) items
 
 -- the needs of a file, in order
 abbrev pub need_items : List ℕ → Result Range Refusal → List (Result NeedParts LinkError) → List Version
-need_items input strings items = map (need_item input strings) items
+need_items input strings items = map (need_record input strings) items
 
 -- the definition at an index of the tables, or why there is none
 abbrev pub definition_in : ElfFile → ℕ → Result VersionTables LinkError → Result Version Refusal
-definition_in file index (Ok tables) = found_in (λ one. one)
+definition_in file index (Ok tables) = record_in (λ one. one)
     (definition_items file.input.now (strings_range_of file) (definitions_in tables.definitions)) index
 definition_in file index (Err error) = Err (Link error)
 
 -- the definition at an index of a file: of its tables without the numbers of symbols
-abbrev pub definition_at : ElfFile → ℕ → Result Version Refusal
-definition_at file index = definition_in file index (tables_of file 0)
+abbrev pub definition_record_at : ElfFile → ℕ → Result Version Refusal
+definition_record_at file index = definition_in file index (file_version_tables file 0)
 
 -- the need at an index of the tables, or why there is none
 abbrev pub need_in : ElfFile → ℕ → Result VersionTables LinkError → Result Version Refusal
-need_in file index (Ok tables) = found_in (λ one. one)
+need_in file index (Ok tables) = record_in (λ one. one)
     (need_items file.input.now (strings_range_of file) (needs_in tables.needs)) index
 need_in file index (Err error) = Err (Link error)
 
 -- the need at an index of a file: of its tables without the numbers of symbols
-abbrev pub need_at : ElfFile → ℕ → Result Version Refusal
-need_at file index = need_in file index (tables_of file 0)
+abbrev pub need_record_at : ElfFile → ℕ → Result Version Refusal
+need_record_at file index = need_in file index (file_version_tables file 0)
 
 -- the definition or the need with the number of a symbol
 abbrev pub version_by : List ℕ → Result Range Refusal → ℕ → Bool → Option NamedParts → Version
@@ -147,22 +147,22 @@ version_by input strings number hidden (Some (Defined d)) = defined_as input str
 version_by input strings number hidden (Some (Needed need)) = needed_as input strings number hidden need
 
 -- the version of a symbol, or why it can't be read
-abbrev pub version_item : List ℕ → Result Range Refusal → Result (Option (VersionParts NamedParts)) LinkError → Version
-version_item input strings (Ok (Some version)) = version_by input strings version.number version.hidden version.named
-version_item input strings (Ok None) = unnamed 0 false
-version_item input strings (Err error) = unreadable error
+abbrev pub version_record : List ℕ → Result Range Refusal → Result (Option (VersionParts NamedParts)) LinkError → Version
+version_record input strings (Ok (Some version)) = version_by input strings version.number version.hidden version.named
+version_record input strings (Ok None) = unnamed 0 false
+version_record input strings (Err error) = unreadable error
 
 -- the version of the symbol at an index of the tables, whose symbols have indices below 2 to the 32
 abbrev pub symbol_version_in : ElfFile → ℕ → ℕ → Result VersionTables LinkError → Result Version Refusal
 symbol_version_in file count index (Ok tables) = if is_some tables.numbers
-    then found_in (λ i. version_item file.input.now (strings_range_of file) (named_at tables i))
+    then record_in (λ i. version_record file.input.now (strings_range_of file) (named_at tables i))
     (range_with_len 0 (min count (2 ^ 32))) index
     else Err NotFound
 symbol_version_in file count index (Err error) = Err (Link error)
 
 -- the version of the symbol at an index of a file with this number of symbols, or why there is none
 abbrev pub symbol_version_at : ElfFile → Result ℕ LinkError → ℕ → Result Version Refusal
-symbol_version_at file (Ok count) index = symbol_version_in file count index (tables_of file count)
+symbol_version_at file (Ok count) index = symbol_version_in file count index (file_version_tables file count)
 symbol_version_at file (Err error) index = Err (Link error)
 
 -- the result of a call for the versions of many symbols

@@ -8,8 +8,8 @@ ghost use Rattle.elf_addresses.specs.SymbolClaims.{claim_of_symbols, range_of_sy
 ghost use Rattle.elf_addresses.specs.SymbolClaims.{symbol_count, symbol_items};
 ghost use Rattle.elf_base.specs.Table.{table_items};
 ghost use Rattle.elf_c.specs.AddressIndex.{AreAnswered, AreStored, IsAnswer, IsAnswerIn, IsIndexIn};
-ghost use Rattle.elf_c.specs.AddressIndex.{IsIndexOf, IsIndexWith, addresses_by, addresses_in};
-ghost use Rattle.elf_c.specs.AddressIndex.{index_of, sizes_of, sizes_with, told};
+ghost use Rattle.elf_c.specs.AddressIndex.{IsIndexOf, IsIndexWith, addresses_by, addresses_in_table};
+ghost use Rattle.elf_c.specs.AddressIndex.{index_of, index_sizes_of, sizes_with, told};
 ghost use Rattle.elf_c.specs.AddressIndex.{within_of, words_by};
 ghost use Rattle.elf_c.specs.Status.{GivesHere};
 ghost use Rattle.elf_c.specs.SymbolTables.{symbol_by};
@@ -107,7 +107,7 @@ pub(crate) fn addresses_by<'a>(
     machine: u16,
 ) -> Result<AnyAddresses<'a>, Refusal>
     ensures { MatchResult result
-        (λ all. addresses_by input.now table.now indices.now machine ≡ Ok (addresses_in all))
+        (λ all. addresses_by input.now table.now indices.now machine ≡ Ok (addresses_in_table all))
         (λ why. addresses_by input.now table.now indices.now machine ≡ Err why) }
 {
     let symbols = symbols_by(input, table)?;
@@ -167,9 +167,9 @@ fn build_in(
     within: Option<u32>,
     words: &mut [u32],
 ) -> Result<Sizes, Refusal>
-    ensures exact { result ≡ sizes_of (addresses_in all.now) within words.old }
+    ensures exact { result ≡ index_sizes_of (addresses_in_table all.now) within words.old }
     ensures built { IfOk result (λ sizes. sizes.words ≤ length words.old
-        → IsIndexIn (addresses_in all.now) within sizes.sized_count sizes.open_count words.new) }
+        → IsIndexIn (addresses_in_table all.now) within sizes.sized_count sizes.open_count words.new) }
     ensures unchanged { IfOk result (λ sizes. length words.old < sizes.words
         → words.new ≡ words.old) }
     ensures refused { OnErr result (words.new ≡ words.old) }
@@ -351,7 +351,7 @@ fn find_in(
     addresses: &[u64],
     out: &mut [SymbolAt],
 )
-    ensures { AreStored (IsAnswerIn (addresses_in all.now) index.now words.now)
+    ensures { AreStored (IsAnswerIn (addresses_in_table all.now) index.now words.now)
         addresses.now out.old out.new }
 {
     match all {

@@ -4,7 +4,7 @@ ghost use Rattle.std.specs.Prelude.{◌≡◌, ◌<◌, ℕ, List, Ok, Result, d
 ghost use Rattle.std.specs.Iterator.{YieldsFirst};
 ghost use Rattle.elf_base.specs.Table.{table_items};
 ghost use Rattle.elf_c.specs.Batch.{Fills};
-ghost use Rattle.elf_c.specs.Records.{found_in};
+ghost use Rattle.elf_c.specs.Records.{record_in};
 
 use crate::status::Refusal;
 use xmas_elf::bytes::{Record, Table};
@@ -30,7 +30,7 @@ pub(crate) trait Records: Drop {
     /// The record of the item at `index`, which is below the number of items.
     fn record(&self, index: usize) -> Self::Record
         requires { index < length (items self.now) }
-        ensures { found_in (record_of self.now) (items self.now) index ≡ Ok result };
+        ensures { record_in (record_of self.now) (items self.now) index ≡ Ok result };
 }
 
 /// A record of a table, which is stored as numbers.
@@ -81,7 +81,7 @@ pub(crate) fn fill<R: Records>(
     first: u64,
     out: &mut [R::Record],
 ) -> Result<u64, Refusal>
-    ensures { Fills (found_in (R.record_of records) (R.items records))
+    ensures { Fills (record_in (R.record_of records) (R.items records))
         first out.old result out.new }
 {
     let (size, first) = (records.count(), first as usize);
@@ -127,7 +127,7 @@ pub(crate) fn fill_in_order<S: Sequence + Drop>(
     first: u64,
     out: &mut [S::Record],
 ) -> Result<u64, Refusal>
-    ensures { Fills (found_in (λ one. one) (S.left records))
+    ensures { Fills (record_in (λ one. one) (S.left records))
         first out.old result out.new }
 {
     skip(&mut records, first);

@@ -12,7 +12,7 @@ ghost use Rattle.elf_c.specs.DynamicTexts.{strings_range};
 ghost use Rattle.elf_c.specs.FoundSymbols.{IsFoundBy};
 ghost use Rattle.elf_c.specs.Parsed.{file_of};
 ghost use Rattle.elf_c.specs.Status.{GivesHere};
-ghost use Rattle.elf_c.specs.SymbolTables.{LieWithin, name_by, symbol_by};
+ghost use Rattle.elf_c.specs.SymbolTables.{LieWithin, symbol_name_range, symbol_by};
 ghost use Rattle.elf_c.specs.Symbols.{symbol_record};
 ghost use Rattle.elf_c.specs.declared.found_symbols.FoundSymbol.{FoundSymbol};
 ghost use Rattle.elf_c.specs.declared.status.Refusal.{Refusal};
@@ -114,7 +114,7 @@ pub extern "C" fn xmas_elf_dynamic_symbols_open(
         ≡ dynamic_symbol_at symbol_record (file_of input.entry header.now) bytes index }
     ensures names { result ≡ 0 → (bytes : Result (List ℕ) LinkError)
         → AreDynamicSymbols (file_of input.entry header.now) bytes → (index : ℕ)
-        → symbol_by (name_by input.now out.new) input.now out.new index
+        → symbol_by (symbol_name_range input.now out.new) input.now out.new index
         ≡ dynamic_symbol_at (dynamic_symbol_name (file_of input.entry header.now))
         (file_of input.entry header.now) bytes index }
     ensures found { result ≡ 0 → (name version : List ℕ) (said : FoundSymbol)

@@ -3,9 +3,9 @@
 
 ghost use Rattle.std.specs.Prelude.{◌≡◌, Result};
 ghost use Rattle.elf_c.specs.FoundSymbols.{IsFoundBy, IsFoundSymbol, IsSearch, IsWanted};
-ghost use Rattle.elf_c.specs.FoundSymbols.{found_answer, found_symbol, none_found};
+ghost use Rattle.elf_c.specs.FoundSymbols.{found_answer, found_symbol, no_symbol_record};
 ghost use Rattle.elf_c.specs.FoundSymbols.{serving_symbol};
-ghost use Rattle.elf_c.specs.LookUps.{IfUtf8, IsNamed};
+ghost use Rattle.elf_c.specs.LookUps.{IfUtf8, IsNameFound};
 ghost use Rattle.elf_c.specs.Parsed.{file_of};
 ghost use Rattle.elf_c.specs.Status.{GivesHere};
 ghost use Rattle.elf_c.specs.declared.found_symbols.FoundSymbol.{FoundSymbol};
@@ -39,7 +39,7 @@ pub struct FoundSymbol {
 impl FoundSymbol {
     // That no symbol is found.
     fn none() -> FoundSymbol
-        ensures { result ≡ none_found }
+        ensures { result ≡ no_symbol_record }
     {
         FoundSymbol {
             symbol: NO_SYMBOL,
@@ -119,7 +119,7 @@ fn search_by_class(file: &ElfFile<'_>, name: &str, version: &str) -> Result<Foun
 
 // A name in bytes, which may not be UTF-8.
 fn text_of(bytes: &[u8]) -> Result<&str, Refusal>
-    ensures { IfUtf8 IsNamed bytes.now result }
+    ensures { IfUtf8 IsNameFound bytes.now result }
 {
     match from_utf8(bytes) {
         Ok(text) => Ok(text),

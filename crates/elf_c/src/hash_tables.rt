@@ -3,12 +3,12 @@
 
 ghost use Rattle.std.specs.Prelude.{◌≡◌, ◌==◌, ℕ, IsOk, Ok, Result};
 ghost use Rattle.elf_base.specs.FileHeader.{order_of};
-ghost use Rattle.elf_c.specs.HashTables.{ArePartsBy, IsGnuTable, IsSysvTable, IsTableBy, IsTableIn};
+ghost use Rattle.elf_c.specs.HashTables.{ArePartsBy, IsGnuTableRecord, IsSysvTable, IsTableBy, IsTableIn};
 ghost use Rattle.elf_c.specs.HashTables.{LieWithinBy, class_by, hash_range, opened_of, whole_range};
 ghost use Rattle.elf_c.specs.Parsed.{file_of};
 ghost use Rattle.elf_c.specs.Status.{GivesHere, and_so};
 ghost use Rattle.elf_c.specs.SymbolTables.{symbol_by};
-ghost use Rattle.elf_c.specs.Symbols.{linked_content, symbol_in, symbol_record};
+ghost use Rattle.elf_c.specs.Symbols.{linked_content, symbol_record_in, symbol_record};
 ghost use Rattle.elf_c.specs.declared.status.Refusal.{Refusal};
 ghost use Rattle.xmas_elf.specs.Content.{hash_table_content};
 
@@ -98,7 +98,7 @@ pub extern "C" fn xmas_elf_hash_open(
     ensures within { result ≡ 0 → LieWithinBy input.now out.new }
     ensures symbols { result ≡ 0 → (index : ℕ)
         → symbol_by symbol_record input.now out.new.symbols index
-        ≡ and_so (linked_content (file_of input.entry header.now) section) (symbol_in index) }
+        ≡ and_so (linked_content (file_of input.entry header.now) section) (symbol_record_in index) }
     ensures reads { result ≡ 0 → (found : Result HashParts Refusal)
         → ArePartsBy input.now out.new found → IsOk found }
 {
@@ -137,7 +137,7 @@ fn sysv_table_in<'a>(bytes: &'a [u8], order: Order) -> Result<AnyTable<'a>, Refu
 // The GNU hash table in bytes.
 #[inline(always)]
 fn gnu_table_in<'a>(bytes: &'a [u8], class: Class, order: Order) -> Result<AnyTable<'a>, Refusal>
-    ensures { IsGnuTable class order bytes.now result }
+    ensures { IsGnuTableRecord class order bytes.now result }
 {
     Ok(AnyTable::Gnu(GnuHashTable::read(bytes, class, order)?))
 }

@@ -5,7 +5,7 @@ ghost use Rattle.std.specs.Prelude.{slice_index};
 ghost use Rattle.elf_c.specs.LoadImages.{Checks, ChecksAs, Relocates, RelocatesAs, image_answer};
 ghost use Rattle.elf_c.specs.LoadImages.{planned_byte};
 ghost use Rattle.elf_c.specs.LoadObjects.{when_of};
-ghost use Rattle.elf_c.specs.LoadPlans.{limit_of, loader_of, page_of};
+ghost use Rattle.elf_c.specs.LoadPlans.{default_limit, loader_of, page_of};
 ghost use Rattle.elf_c.specs.Parsed.{file_of};
 ghost use Rattle.elf_c.specs.Status.{GivesHere};
 ghost use Rattle.elf_c.specs.declared.status.Refusal.{Refusal};
@@ -60,7 +60,7 @@ pub extern "C" fn xmas_elf_load_image(
     image: &mut [u8],
 ) -> u32
     ensures exact { let file = file_of input.entry header.now in
-        GivesHere (image_answer file (page_of page) (limit_of file limit) (length image.old)) tt result tt }
+        GivesHere (image_answer file (page_of page) (default_limit file limit) (length image.old)) tt result tt }
     ensures len { length image.new ≡ length image.old }
     ensures bytes { result ≡ 0 → let file = file_of input.entry header.now in
         (i : ℕ) → i < length image.new

@@ -5,7 +5,7 @@ ghost use Rattle.elf_base.specs.FileHeader.{header_of};
 ghost use Rattle.elf_c.specs.LoadObjects.{AreImagesOf, AreObjectsOf, ArePadded, ArePlacesOf};
 ghost use Rattle.elf_c.specs.LoadObjects.{ArePlansOf, IsFirstRefused, IsFirstUnplanned};
 ghost use Rattle.elf_c.specs.LoadObjects.{IsObjectOfBytes, IsPlanFor, IsRefusedAsObject, LacksPlan};
-ghost use Rattle.elf_c.specs.LoadObjects.{is_first_narrow, is_narrow_header, place_of, when_of};
+ghost use Rattle.elf_c.specs.LoadObjects.{is_first_narrow, is_narrow_header, load_place, when_of};
 
 use crate::load_plans::limit_of;
 use elf_base::bytes::Record;
@@ -167,7 +167,7 @@ pub(crate) fn plans_of<'a, E: LinkedSymbol>(
 
 // The place of an object.
 fn place_of(load: LoadObject<'_>) -> Place
-    ensures { result ≡ place_of load.entry }
+    ensures { result ≡ load_place load.entry }
 {
     Place {
         base: load.base,

@@ -2,7 +2,7 @@
 
 ghost use Rattle.std.specs.Prelude.{◌≡◌, ◌<◌, ℕ, IfOk, None, Result, map};
 ghost use Rattle.elf_c.specs.Batch.{Fills};
-ghost use Rattle.elf_c.specs.LoadPlans.{contents_number, contents_offset, limit_of, loader_of};
+ghost use Rattle.elf_c.specs.LoadPlans.{contents_number, contents_offset, default_limit, loader_of};
 ghost use Rattle.elf_c.specs.LoadPlans.{mapping_at, mapping_record, page_of, plan_of, plan_record};
 ghost use Rattle.elf_c.specs.LoadPlans.{path_range, presence, span_record, stack_flags};
 ghost use Rattle.elf_c.specs.LoadPlans.{template_record};
@@ -108,7 +108,7 @@ pub(crate) fn page_of(page: u64) -> u64
 // The end of the addresses that a loader may use; 0 means that of Linux.
 #[inline(always)]
 pub(crate) fn limit_of(file: &ElfFile<'_>, limit: u64) -> u64
-    ensures { result ≡ limit_of file.now limit }
+    ensures { result ≡ default_limit file.now limit }
 {
     if limit != 0 {
         return limit;
@@ -223,7 +223,7 @@ impl Plan {
 
 // The numbers of the plan of a file.
 fn plan_of(file: &ElfFile<'_>, page: u64, limit: u64) -> Result<Plan, Refusal>
-    ensures exact { result ≡ plan_of file.now (page_of page) (limit_of file.now limit) }
+    ensures exact { result ≡ plan_of file.now (page_of page) (default_limit file.now limit) }
     ensures within { IfOk result (λ plan. LiesIn file.now.input.now plan.interpreter) }
 {
     let plan = LoadPlan::check_load(file, page_of(page), limit_of(file, limit))?;
@@ -246,7 +246,7 @@ pub extern "C" fn xmas_elf_load_plan(
     out: &mut Plan,
 ) -> u32
     ensures exact { let file = file_of input.entry header.now in
-        GivesHere (plan_of file (page_of page) (limit_of file limit)) out.old result out.new }
+        GivesHere (plan_of file (page_of page) (default_limit file limit)) out.old result out.new }
     ensures within { result ≡ 0 → LiesIn input.now out.new.interpreter }
 {
     give(plan_of(&header.file(input), page, limit), out)
@@ -351,7 +351,7 @@ pub extern "C" fn xmas_elf_load_mappings(
 ) -> u32
     ensures exact { (answer : Result ℕ Refusal)
         × (let file = file_of input.entry header.now in
-        Fills (mapping_at file (page_of page) (limit_of file limit) (loader_of loader))
+        Fills (mapping_at file (page_of page) (default_limit file limit) (loader_of loader))
         first out.old answer out.new)
         × GivesHere answer count.old result count.new }
     ensures follow { result ≡ 0 → let file = file_of input.entry header.now in

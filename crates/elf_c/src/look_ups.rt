@@ -4,8 +4,8 @@
 ghost use Rattle.std.specs.Prelude.{◌≡◌, ◌<◌, ℕ, Err, IsOk, IsOkAnd, MatchResult, Result, Some};
 ghost use Rattle.std.specs.Prelude.{length, slice_get, true};
 ghost use Rattle.elf_c.specs.LookUps.{AreAnswered, ChecksBy, ChecksIn, IfUtf8, IsChecked};
-ghost use Rattle.elf_c.specs.LookUps.{IsForRange, IsLookUp, IsNamed, LooksBy, LooksIfRead, LooksIn};
-ghost use Rattle.elf_c.specs.LookUps.{answered, look_up_answer, looked_up};
+ghost use Rattle.elf_c.specs.LookUps.{IsForRange, IsLookUp, IsNameFound, LooksByRecord, LooksIfRead, LooksIn};
+ghost use Rattle.elf_c.specs.LookUps.{answered, look_up_answer, look_up_record};
 ghost use Rattle.elf_c.specs.Status.{GivesHere};
 ghost use Rattle.elf_c.specs.SymbolTables.{symbol_by};
 ghost use Rattle.elf_c.specs.Symbols.{symbol_record};
@@ -49,7 +49,7 @@ impl LookUp {
     // The numbers of the symbol that a look-up found, if any.
     #[inline(always)]
     fn of<E: Copy>(found: Option<(u32, E)>, looked_at: u32) -> LookUp
-        ensures { result ≡ looked_up found looked_at }
+        ensures { result ≡ look_up_record found looked_at }
     {
         match found {
             Some((index, _entry)) => LookUp {
@@ -136,7 +136,7 @@ fn look_up_in(parts: &HashParts<'_>, name: &str) -> Result<LookUp, Refusal>
 // The name in a range of `names`.
 #[inline(always)]
 fn name_at<'a>(names: &'a [u8], range: &Range) -> Result<&'a str, Refusal>
-    ensures { IsForRange (IfUtf8 IsNamed) names.now range.now result }
+    ensures { IsForRange (IfUtf8 IsNameFound) names.now range.now result }
 {
     match from_utf8(bytes_in(names, range)?) {
         Ok(name) => Ok(name),
@@ -203,7 +203,7 @@ pub extern "C" fn xmas_elf_look_ups(
     ranges: &[Range],
     out: &mut [Answer],
 )
-    ensures exact { AreAnswered (IfUtf8 (LooksBy input.now table.now))
+    ensures exact { AreAnswered (IfUtf8 (LooksByRecord input.now table.now))
         names.now ranges.now out.old out.new }
     ensures found { (k : ℕ) (one : Answer) → k < length ranges.now
         → slice_get out.new k ≡ Some one → one.found ≡ 1

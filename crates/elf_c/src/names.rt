@@ -4,7 +4,7 @@ ghost use Rattle.std.specs.Prelude.{◌≡◌, ◌+◌, ◌≤◌, ℕ, IfOk, Re
 ghost use Rattle.elf_base.specs.Lent.{Answers};
 ghost use Rattle.elf_c.specs.Batch.{Fills};
 ghost use Rattle.elf_c.specs.Parsed.{file_of};
-ghost use Rattle.elf_c.specs.Records.{AllLieIn, LiesIn, found_in, name_answer, name_range};
+ghost use Rattle.elf_c.specs.Records.{AllLieIn, LiesIn, record_in, name_answer, name_range};
 ghost use Rattle.elf_c.specs.Records.{name_range_by, names_range, text_range};
 ghost use Rattle.elf_c.specs.Status.{Gives, GivesHere};
 ghost use Rattle.elf_c.specs.declared.status.Refusal.{Refusal};
@@ -189,7 +189,7 @@ pub extern "C" fn xmas_elf_section_names(
     count: &mut u64,
 ) -> u32
     ensures exact { (answer : Result ℕ Refusal)
-        × Fills (found_in
+        × Fills (record_in
         (λ section. name_answer (name_range (file_of input.entry header.now) section))
         (section_list (file_of input.entry header.now))) first out.old answer out.new
         × GivesHere answer count.old result count.new }

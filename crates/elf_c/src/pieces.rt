@@ -5,7 +5,7 @@ ghost use Rattle.std.specs.Prelude.{max};
 ghost use Rattle.std.specs.Iterator.{Drains, IsFinite, size};
 ghost use Rattle.elf_addresses.specs.FileClaims.{piece_words};
 ghost use Rattle.elf_addresses.specs.SymbolClaims.{claim_of_symbols, symbol_count};
-ghost use Rattle.elf_c.specs.AddressIndex.{addresses_in, within_of};
+ghost use Rattle.elf_c.specs.AddressIndex.{addresses_in_table, within_of};
 ghost use Rattle.elf_c.specs.Parsed.{file_of};
 ghost use Rattle.elf_c.specs.Pieces.{AreCounted, AreListed, AreListedIn, IsRows, Lists, few_words};
 ghost use Rattle.elf_c.specs.Pieces.{IsWhole, owner_numbers, piece_record, put_from};
@@ -246,7 +246,7 @@ fn store_any(
     words: &mut [u32],
     out: &mut [Piece],
 ) -> Result<u64, Refusal>
-    ensures { AreListedIn (addresses_in all.now) within range first words.old out.old result out.new }
+    ensures { AreListedIn (addresses_in_table all.now) within range first words.old out.old result out.new }
 {
     match all {
         AnyAddresses::Narrow(symbols) => store_symbols(symbols, within, range, first, words, out),

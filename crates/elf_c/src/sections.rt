@@ -4,7 +4,7 @@ ghost use Rattle.std.specs.Prelude.{◌≡◌, ◌↔◌, ◌+◌, ◌≤◌, �
 ghost use Rattle.elf_base.specs.Refusal.{and_then};
 ghost use Rattle.elf_c.specs.Batch.{Stores};
 ghost use Rattle.elf_c.specs.Parsed.{file_of};
-ghost use Rattle.elf_c.specs.Records.{FindsIndex, found_in, found_section, section_range};
+ghost use Rattle.elf_c.specs.Records.{FindsIndex, record_in, found_section, section_data_range};
 ghost use Rattle.elf_c.specs.Records.{LiesIn, is_relr_type, range_at, section_checked, section_record};
 ghost use Rattle.elf_c.specs.Status.{Gives, GivesHere};
 ghost use Rattle.elf_c.specs.declared.status.Refusal.{Refusal};
@@ -162,7 +162,7 @@ pub extern "C" fn xmas_elf_sections(
     out: &mut [Section],
     count: &mut u64,
 ) -> u32
-    ensures { Stores (found_in section_record (section_list (file_of input.entry header.now)))
+    ensures { Stores (record_in section_record (section_list (file_of input.entry header.now)))
         first out.old out.new count.old result count.new }
 {
     let file = header.file(input);
@@ -173,7 +173,7 @@ pub extern "C" fn xmas_elf_sections(
 #[inline(always)]
 fn file_range(section: &SectionHeader, file: &ElfFile<'_>) -> Result<(usize, usize), ElfError>
     ensures exact { and_then result (λ range. Ok (range_at range.0 range.1))
-        ≡ section_range file.now section.now }
+        ≡ section_data_range file.now section.now }
     ensures within { IfOk result (λ range. range.0 + range.1 ≤ length file.now.input.now) }
 {
     if !is_relr(section) {
@@ -190,7 +190,7 @@ fn file_range(section: &SectionHeader, file: &ElfFile<'_>) -> Result<(usize, usi
 // The range of the data of the section at an index.
 #[inline(always)]
 pub(crate) fn section_range_at(file: &ElfFile<'_>, index: u64) -> Result<Range, ElfError>
-    ensures exact { result ≡ and_then (section_of file.now index) (section_range file.now) }
+    ensures exact { result ≡ and_then (section_of file.now index) (section_data_range file.now) }
     ensures within { IfOk result (LiesIn file.now.input.now) }
 {
     let section = file.section_header_at(index)?;
@@ -213,7 +213,7 @@ pub extern "C" fn xmas_elf_section_data(
     out: &mut Range,
 ) -> u32
     ensures exact { Gives (and_then (section_of (file_of input.entry header.now) index)
-        (section_range (file_of input.entry header.now))) out.old result out.new }
+        (section_data_range (file_of input.entry header.now))) out.old result out.new }
     ensures within { result ≡ 0 → LiesIn input.now out.new }
 {
     give(section_range_at(&header.file(input), index), out)

@@ -4,7 +4,7 @@ ghost use Rattle.std.specs.Prelude.{◌≡◌, Ok};
 ghost use Rattle.elf_base.specs.Refusal.{and_then};
 ghost use Rattle.elf_c.specs.Batch.{Stores};
 ghost use Rattle.elf_c.specs.Parsed.{file_of};
-ghost use Rattle.elf_c.specs.Records.{LiesIn, found_in, segment_range, segment_record};
+ghost use Rattle.elf_c.specs.Records.{LiesIn, record_in, segment_data_range, segment_record};
 ghost use Rattle.elf_c.specs.Status.{Gives};
 ghost use Rattle.elf_records.specs.ProgramNumbers.{ph_type_number};
 ghost use Rattle.xmas_elf.specs.Checks.{program_check};
@@ -149,7 +149,7 @@ pub extern "C" fn xmas_elf_segments(
     out: &mut [Segment],
     count: &mut u64,
 ) -> u32
-    ensures { Stores (found_in (λ program. segment_record (program_fields program))
+    ensures { Stores (record_in (λ program. segment_record (program_fields program))
         (program_list (file_of input.entry header.now)))
         first out.old out.new count.old result count.new }
 {
@@ -163,7 +163,7 @@ pub extern "C" fn xmas_elf_segments(
 #[inline(always)]
 fn segment_range_at(file: &ElfFile<'_>, index: u32) -> Result<Range, ElfError>
     ensures { result ≡ and_then (program_of file.now index)
-        (λ program. segment_range file.now (program_fields program)) }
+        (λ program. segment_data_range file.now (program_fields program)) }
 {
     let program = file.program_header_at(index)?;
     let bytes = program.raw_data(file)?;
@@ -182,7 +182,7 @@ pub extern "C" fn xmas_elf_segment_data(
     out: &mut Range,
 ) -> u32
     ensures exact { Gives (and_then (program_of (file_of input.entry header.now) index)
-        (λ program. segment_range (file_of input.entry header.now) (program_fields program)))
+        (λ program. segment_data_range (file_of input.entry header.now) (program_fields program)))
         out.old result out.new }
     ensures within { result ≡ 0 → LiesIn input.now out.new }
 {

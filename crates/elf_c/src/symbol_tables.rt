@@ -6,11 +6,11 @@ ghost use Rattle.elf_base.specs.Refusal.{and_then};
 ghost use Rattle.elf_base.specs.Table.{table_items};
 ghost use Rattle.elf_c.specs.Batch.{Fills, Stores};
 ghost use Rattle.elf_c.specs.Parsed.{file_of};
-ghost use Rattle.elf_c.specs.Records.{AllLieIn, found_in};
+ghost use Rattle.elf_c.specs.Records.{AllLieIn, record_in};
 ghost use Rattle.elf_c.specs.Status.{GivesHere, and_so};
-ghost use Rattle.elf_c.specs.SymbolTables.{AreSymbolsBy, AreSymbolsIn, LieWithin, count_in};
-ghost use Rattle.elf_c.specs.SymbolTables.{name_by, name_in, symbol_by, table_of_section};
-ghost use Rattle.elf_c.specs.Symbols.{symbol_in, symbol_name_at, symbol_record};
+ghost use Rattle.elf_c.specs.SymbolTables.{AreSymbolsBy, AreSymbolsIn, LieWithin, symbol_count_in};
+ghost use Rattle.elf_c.specs.SymbolTables.{symbol_name_range, name_range_in, symbol_by, table_of_section};
+ghost use Rattle.elf_c.specs.Symbols.{symbol_record_in, symbol_name_at, symbol_record};
 ghost use Rattle.xmas_elf.specs.SectionContent.{section_content, section_content_of};
 ghost use Rattle.xmas_elf.specs.SectionHeader.{section_of};
 
@@ -46,7 +46,7 @@ pub struct SymbolTable {
 
 // The number of symbols in the data of a section.
 fn count_in(held: &SectionData<'_>) -> Result<u64, Refusal>
-    ensures { result ≡ count_in (section_content held.now) }
+    ensures { result ≡ symbol_count_in (section_content held.now) }
 {
     match held {
         SectionData::SymbolTable32(table) => Ok(table.len() as u64),
@@ -96,9 +96,9 @@ pub extern "C" fn xmas_elf_symbols_open(
     ensures within { result ≡ 0 → LieWithin input.now out.new }
     ensures symbols { result ≡ 0 → (index : ℕ) → symbol_by symbol_record input.now out.new index
         ≡ and_so (and_then (section_of (file_of input.entry header.now) section)
-        (section_content_of (file_of input.entry header.now))) (symbol_in index) }
+        (section_content_of (file_of input.entry header.now))) (symbol_record_in index) }
     ensures names { result ≡ 0 → (index : ℕ)
-        → symbol_by (name_by input.now out.new) input.now out.new index
+        → symbol_by (symbol_name_range input.now out.new) input.now out.new index
         ≡ symbol_name_at (file_of input.entry header.now) section index }
     ensures counted { result ≡ 0 → (index : ℕ)
         → IsOk (symbol_by symbol_record input.now out.new index) ↔ (index < out.new.count) }
@@ -201,7 +201,7 @@ impl<E: Entry + Record> Records for SymbolNames<'_, E> {
 
     ghost items = { λ names. table_items names.symbols };
 
-    ghost record_of = { λ names entry. name_by names.input.now names.table (E.fields entry) };
+    ghost record_of = { λ names entry. symbol_name_range names.input.now names.table (E.fields entry) };
 
     #[inline(always)]
     fn count(&self) -> usize {
@@ -220,7 +220,7 @@ impl<E: Entry + Record> Records for SymbolNames<'_, E> {
 // The range of a name at an offset in the string table of a record, with its status.
 #[inline(always)]
 fn name_by(input: &[u8], table: &SymbolTable, name: u32) -> Name
-    ensures { result ≡ name_in input.now table.now name }
+    ensures { result ≡ name_range_in input.now table.now name }
 {
     if table.strings_status == OK {
         Name::of(text_in(input, &table.strings, u64::from(name)))
@@ -240,7 +240,7 @@ fn fill_names_of<E: Entry + Record>(
     first: u64,
     out: &mut [Name],
 ) -> Result<u64, Refusal>
-    ensures { Fills (found_in (λ e. name_by input.now table.now (E.fields e))
+    ensures { Fills (record_in (λ e. symbol_name_range input.now table.now (E.fields e))
         (table_items symbols.entry)) first out.old result out.new }
 {
     let names = SymbolNames {
@@ -258,7 +258,7 @@ fn fill_names(
     first: u64,
     out: &mut [Name],
 ) -> Result<u64, Refusal>
-    ensures { Fills (symbol_by (name_by input.now table.now) input.now table.now)
+    ensures { Fills (symbol_by (symbol_name_range input.now table.now) input.now table.now)
         first out.old result out.new }
 {
     match symbols_by(input, table) {
@@ -283,7 +283,7 @@ pub extern "C" fn xmas_elf_symbol_names(
     out: &mut [Name],
     count: &mut u64,
 ) -> u32
-    ensures exact { Stores (symbol_by (name_by input.now table.now) input.now table.now)
+    ensures exact { Stores (symbol_by (symbol_name_range input.now table.now) input.now table.now)
         first out.old out.new count.old result count.new }
     ensures within { result ≡ 0 → AllLieIn input.now count.new out.new }
 {

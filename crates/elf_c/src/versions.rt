@@ -7,10 +7,10 @@ ghost use Rattle.std.specs.Prelude.{is_some, min};
 ghost use Rattle.elf_c.specs.Batch.{Fills, Stores};
 ghost use Rattle.elf_c.specs.Parsed.{file_of};
 ghost use Rattle.elf_c.specs.Status.{GivesHere};
-ghost use Rattle.elf_c.specs.Versions.{AllNamesLieIn, FillsVersions, defined_as, definition_at};
-ghost use Rattle.elf_c.specs.Versions.{definition_items, need_at, need_items, needed_as};
-ghost use Rattle.elf_c.specs.Versions.{strings_range_of, tables_of, unnamed, unreadable};
-ghost use Rattle.elf_c.specs.Versions.{version_item, version_name};
+ghost use Rattle.elf_c.specs.Versions.{AllNamesLieIn, FillsVersions, defined_as, definition_record_at};
+ghost use Rattle.elf_c.specs.Versions.{definition_items, need_record_at, need_items, needed_as};
+ghost use Rattle.elf_c.specs.Versions.{strings_range_of, file_version_tables, unnamed, unreadable};
+ghost use Rattle.elf_c.specs.Versions.{version_record, version_name_range};
 ghost use Rattle.elf_c.specs.declared.status.Refusal.{Refusal};
 ghost use Rattle.elf_c.specs.declared.status.Refusal.TheVariants.{Link};
 ghost use Rattle.elf_linking.specs.VersionTables.{definition_parts, definitions_left, need_parts};
@@ -74,7 +74,7 @@ fn version_name(
     strings: Result<Range, Refusal>,
     offset: Result<u32, LinkError>,
 ) -> Name
-    ensures { result ≡ version_name input.now strings offset }
+    ensures { result ≡ version_name_range input.now strings offset }
 {
     match offset {
         Ok(offset) => name_of(text_by(input, strings, u64::from(offset))),
@@ -168,9 +168,9 @@ struct Tables<'a> {
 // The version tables of a file with this number of symbols.
 fn tables_of<'a>(file: &ElfFile<'a>, count: u64) -> Result<Tables<'a>, Refusal>
     ensures { MatchResult result
-        (λ it. (tables_of file.now count ≡ Ok (version_tables it.versions))
+        (λ it. (file_version_tables file.now count ≡ Ok (version_tables it.versions))
         × (it.strings ≡ strings_range_of file.now))
-        (λ why. (error : LinkError) × (why ≡ Link error) × (tables_of file.now count ≡ Err error)) }
+        (λ why. (error : LinkError) × (why ≡ Link error) × (file_version_tables file.now count ≡ Err error)) }
 {
     let view = DynamicView::read(file)?;
     Ok(Tables {
@@ -230,7 +230,7 @@ impl Sequence for NeedList<'_> {
 
 // Stores the definitions from an index on in `out`, and returns their number.
 fn fill_definitions(file: &ElfFile<'_>, first: u64, out: &mut [Version]) -> Result<u64, Refusal>
-    ensures exact { Fills (definition_at file.now) first out.old result out.new }
+    ensures exact { Fills (definition_record_at file.now) first out.old result out.new }
     ensures within { IfOk result (λ count. AllNamesLieIn file.now.input.now count out.new) }
 {
     let tables = tables_of(file, 0)?;
@@ -244,7 +244,7 @@ fn fill_definitions(file: &ElfFile<'_>, first: u64, out: &mut [Version]) -> Resu
 
 // Stores the needs from an index on in `out`, and returns their number.
 fn fill_needs(file: &ElfFile<'_>, first: u64, out: &mut [Version]) -> Result<u64, Refusal>
-    ensures exact { Fills (need_at file.now) first out.old result out.new }
+    ensures exact { Fills (need_record_at file.now) first out.old result out.new }
     ensures within { IfOk result (λ count. AllNamesLieIn file.now.input.now count out.new) }
 {
     let tables = tables_of(file, 0)?;
@@ -273,7 +273,7 @@ pub extern "C" fn xmas_elf_version_definitions(
     out: &mut [Version],
     count: &mut u64,
 ) -> u32
-    ensures exact { Stores (definition_at (file_of input.entry header.now))
+    ensures exact { Stores (definition_record_at (file_of input.entry header.now))
         first out.old out.new count.old result count.new }
     ensures within { result ≡ 0 → AllNamesLieIn input.now count.new out.new }
 {
@@ -296,7 +296,7 @@ pub extern "C" fn xmas_elf_version_needs(
     out: &mut [Version],
     count: &mut u64,
 ) -> u32
-    ensures exact { Stores (need_at (file_of input.entry header.now))
+    ensures exact { Stores (need_record_at (file_of input.entry header.now))
         first out.old out.new count.old result count.new }
     ensures within { result ≡ 0 → AllNamesLieIn input.now count.new out.new }
 {
@@ -309,7 +309,7 @@ fn version_record(
     strings: Result<Range, Refusal>,
     answer: Result<Option<SymbolVersion<'_>>, LinkError>,
 ) -> Version
-    ensures { result ≡ version_item input.now strings (linked.version_item answer.entry) }
+    ensures { result ≡ version_record input.now strings (linked.version_item answer.entry) }
 {
     let version = match answer {
         Ok(Some(version)) => version,
@@ -341,7 +341,7 @@ impl Records for SymbolVersions<'_> {
 
     ghost items = { λ it. range_with_len 0 (min it.count (2 ^ 32)) };
 
-    ghost record_of = { λ it index. version_item it.input.now it.tables.strings
+    ghost record_of = { λ it index. version_record it.input.now it.tables.strings
         (named_at (version_tables it.tables.versions) index) };
 
     #[tactic(auto, using(crate::proofs::VersionRecords::index_count))]

@@ -2,7 +2,7 @@ use Rattle.std.proofs.Common.{◌≡◌, ◌<◌, ◌↔◌, Ok, IsOk, subst}
 use Rattle.elf_c.specs.DynamicSymbols.{IsDynamicCount, IsSegmentTable, AreDynamicSymbols, dynamic_symbol_at, dynamic_symbol_name}
 use Rattle.elf_c.specs.FoundSymbols.{IsFoundBy}
 use Rattle.elf_c.specs.Parsed.{file_of}
-use Rattle.elf_c.specs.SymbolTables.{LieWithin, name_by, symbol_by}
+use Rattle.elf_c.specs.SymbolTables.{LieWithin, symbol_name_range, symbol_by}
 use Rattle.elf_c.specs.Symbols.{symbol_record}
 use Rattle.elf_c.proofs.GivenRanges.{given_in}
 use Rattle.elf_c.proofs.OpenedFound.{opened_found}
@@ -20,7 +20,7 @@ returns-clause-symbols c = λ none bytes are index. given_in
 
 pub returns-clause-names : goal.returns-clause-names
 returns-clause-names c = λ none bytes are index. given_in
-    (λ f t. AreDynamicSymbols f bytes → symbol_by (name_by f.input.now t) f.input.now t index ≡ dynamic_symbol_at (dynamic_symbol_name f) f bytes index)
+    (λ f t. AreDynamicSymbols f bytes → symbol_by (symbol_name_range f.input.now t) f.input.now t index ≡ dynamic_symbol_at (dynamic_symbol_name f) f bytes index)
     IsSegmentTable c.file.result (file_of c.args.input c.args.header.now) c.table_of_segment.result c.args.out.now c.give.result c.give.new.out
     (λ table made. λ here. opened_names c.file.result table made bytes here index) c.file.ensures c.table_of_segment.ensures c.give.ensures none are
 

@@ -3,7 +3,7 @@ use Rattle.elf_linking.specs.VersionTables.{definitions_left}
 use Rattle.elf_linking.specs.Versions.{version_tables}
 use Rattle.elf_c.proofs.VersionRecords.{definitions_filled, stored_definitions_lie}
 use Rattle.elf_c.specs.Batch.{Fills}
-use Rattle.elf_c.specs.Records.{found_in}
+use Rattle.elf_c.specs.Records.{record_in}
 use Rattle.elf_c.specs.Versions.{definition_items}
 use Rattle.elf_c.proofs.versions.fill_definitions.Goals as goal
 
@@ -11,7 +11,7 @@ pub returns-clause-exact : goal.returns-clause-exact
 returns-clause-exact c = let tables = c.in_ok-tables.tables in
     definitions_filled c.args.file.now tables.strings (version_tables tables.versions) c.args.first c.args.out.now
     c.fill_in_order.new.out c.fill_in_order.result c.in_ok-tables.ensures.0 c.in_ok-tables.ensures.1
-    (subst (λ items. Fills (found_in (λ one. one) (definition_items c.args.file.now.input.now tables.strings items)) c.args.first
+    (subst (λ items. Fills (record_in (λ one. one) (definition_items c.args.file.now.input.now tables.strings items)) c.args.first
     c.args.out.now c.fill_in_order.result c.fill_in_order.new.out) c.definitions.ensures.exact c.fill_in_order.ensures)
 
 pub returns-clause-within : goal.returns-clause-within
