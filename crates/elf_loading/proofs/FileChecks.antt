@@ -8,7 +8,7 @@ use Rattle.elf_loading.specs.Types.{ElfError, Extent, LoadError, Loader, Segment
 use Rattle.elf_base.specs.declared.error.ElfError.TheVariants.{TextStart, TextEnd}
 use Rattle.xmas_elf.specs.Types.{ElfFile}
 use Rattle.elf_loading.specs.FileCheck.{NoneApplies, check_file, covered_to, header_rows, is_no_path, is_uncovered, segment_rows}
-use Rattle.elf_loading.specs.LoadCheck.{check_loads, fits_below, holds_address, lies_in, load_end}
+use Rattle.elf_loading.specs.LoadCheck.{check_loads, fits_below, holds_address, load_end}
 use Rattle.elf_loading.specs.Others.{data_of, memory_of}
 use Rattle.elf_loading.specs.Pages.{down}
 use Rattle.elf_loading.specs.Segments.{interpreter_of, loads_of, relro_of}
@@ -17,7 +17,7 @@ use Rattle.elf_loading.specs.Mappings.{FollowEachOther, mappings_of}
 use Rattle.elf_loading.specs.declared.mapping.Loader.TheVariants.{Kernel}
 use Rattle.elf_loading.proofs.Follows.{follow, follow_order}
 use Rattle.elf_loading.specs.declared.error.LoadError.TheVariants as error
-use Rattle.elf_loading.proofs.LoadChecks.{AreApart, checks_apart, checks_end, end_after, loads_fit, loads_lie, unless_ok}
+use Rattle.elf_loading.proofs.LoadChecks.{AreApart, checks_apart, checks_end, end_after, lies_in, loads_fit, loads_lie, unless_ok}
 use Rattle.elf_loading.proofs.Covered.{covered}
 use Rattle.elf_loading.proofs.Rounded.{down_le}
 

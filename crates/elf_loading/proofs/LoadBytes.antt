@@ -4,7 +4,7 @@ use Rattle.std.proofs.lemmas.Bool.{and_from, and_left, and_parts, and_right, eqb
 use Rattle.std.specs.List.{Contains, list_all, AllByRecursion}
 use Rattle.elf_loading.specs.Types.{Loader, Segment}
 use Rattle.elf_loading.specs.Bytes.{is_zeroed, load_byte, offset_at, IsByteOf, byte_of}
-use Rattle.elf_loading.specs.LoadCheck.{file_end, lies_in, load_start, fits_below, load_end}
+use Rattle.elf_loading.specs.LoadCheck.{file_end, load_start, fits_below, load_end}
 use Rattle.elf_loading.specs.Mappings.{mapped_end, maps_file, IsMapped, mappings_of}
 use Rattle.elf_loading.specs.Pages.{down}
 use Rattle.elf_loading.specs.declared.bytes.Byte.TheVariants.{File, Zero}
@@ -16,7 +16,7 @@ use Rattle.elf_loading.specs.Segments.{loads_of}
 use Rattle.elf_loading.specs.Spans.{ends_at}
 use Rattle.elf_loading.proofs.Follows.{agree}
 use Rattle.elf_loading.proofs.FileChecks.{passes_apart, passes_fit, passes_lie}
-use Rattle.elf_loading.proofs.LoadChecks.{fits_facts, held}
+use Rattle.elf_loading.proofs.LoadChecks.{fits_facts, held, lies_in}
 
 -- a test that each item of a list passes
 item_passes : (test : Segment → Bool) (k : ℕ) (loads : List Segment) (load : Segment) → list_all test loads ≡ true → k < length loads → slice_index_or loads k load ≡ load → test load ≡ true

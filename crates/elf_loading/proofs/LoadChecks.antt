@@ -5,7 +5,7 @@ use Rattle.std.specs.List.{list_all, Contains, find}
 use Rattle.elf_base.specs.Refusal.{and_then, unless}
 use Rattle.elf_loading.specs.Types.{LoadError, Segment}
 use Rattle.elf_loading.specs.FileCheck.{NoneApplies}
-use Rattle.elf_loading.specs.LoadCheck.{check_load, check_loads, fits_below, is_inside_page, lies_in, load_end, load_rows, load_start, holds_address, file_end}
+use Rattle.elf_loading.specs.LoadCheck.{check_load, check_loads, fits_below, is_inside_page, load_end, load_rows, load_start, holds_address, file_end}
 use Rattle.elf_loading.specs.Pages.{down}
 use Rattle.elf_loading.specs.Spans.{last_end}
 use Rattle.elf_loading.proofs.Rounded.{down_le, up_ge, file_end_le}
@@ -37,6 +37,11 @@ load_fits page limit len before load end is =
     let (none, same) = unless_ok (load_rows page limit len before load) (load_end page load) end is in
     and_from (nat_le load.file_size load.mem_size) (nat_le (load_end page load) limit)
     (le-leb _ _ (ltb-false _ _ none.0)) (le-leb _ _ (ltb-false _ _ none.1.1.1.1.0))
+
+-- a load lies in a file with `len` bytes, at the place in a page at which it is in memory
+abbrev pub lies_in : ℕ → ℕ → Segment → Bool
+lies_in page len load =
+    load.address % page == load.offset % page && nat_le (load.offset + load.file_size) len
 
 -- a load that passes its check lies in the file
 pub load_lies : (page limit len : ℕ) (before : Option ℕ) (load : Segment) (end : ℕ) → check_load page limit len before load ≡ Ok end → lies_in page len load ≡ true

@@ -75,11 +75,6 @@ loads_rows page limit len before (load ∷ loads) =
 abbrev pub fits_below : ℕ → ℕ → Segment → Bool
 fits_below page limit load = nat_le load.file_size load.mem_size && nat_le (load_end page load) limit
 
--- a load lies in a file with `len` bytes, at the place in a page at which it is in memory
-abbrev pub lies_in : ℕ → ℕ → Segment → Bool
-lies_in page len load =
-    load.address % page == load.offset % page && nat_le (load.offset + load.file_size) len
-
 -- an address is in the pages of a load
 abbrev pub holds_address : ℕ → ℕ → Segment → Bool
 holds_address page address load = nat_le (load_start page load) address && nat_lt address (load_end page load)
