@@ -107,7 +107,7 @@ fn finds_values_by_each_table(rt: HostRuntime) -> Result<(), LinkError> {
     let file = strtab_file(LITTLE);
     let file = open(&rt, &file);
     let bytes = symbol_bytes(1, 7);
-    let table = Table::<Entry32>::new(&bytes[..32], LITTLE)?;
+    let table = Table::<Entry32>::new(bytes.get(..32).unwrap_or(&[]), LITTLE)?;
     let symbols = SymbolTable::new(table, &file);
     for &(is_gnu, words, without, error) in ONE_SYMBOL {
         let bytes = bytes_of(words);
@@ -124,10 +124,11 @@ fn the_caller_tells_whether_look_ups_find_all(rt: HostRuntime) -> Result<(), Lin
     let file = strtab_file(LITTLE);
     let file = open(&rt, &file);
     let bytes = symbol_bytes(1, 7);
-    let symbols = Table::<Entry32>::new(&bytes[..32], LITTLE)?;
+    let symbols = Table::<Entry32>::new(bytes.get(..32).unwrap_or(&[]), LITTLE)?;
     for (words, finds) in [(GNU_ONE, true), (GNU_NONE, false)] {
         let bytes = bytes_of(words);
-        let table = GnuHashTable::read(&bytes[..28], Class::ThirtyTwo, LITTLE)?;
+        let bytes = bytes.get(..28).unwrap_or(&[]);
+        let table = GnuHashTable::read(bytes, Class::ThirtyTwo, LITTLE)?;
         want(&rt, finds_all(&table, &symbols, &file), finds);
     }
     Ok(())
