@@ -7,9 +7,8 @@
     tools/gate/budget.py check           fails where that table's total passes the budget, or its numbers don't add up, and where
                                          README.md names another kit than that of the table; warns where this is another
 
-While `rt ci` runs, the processes below it are looked at twice a second: a prover's command line names the crate, and whether it proves
-the tests; its folder tells a must-fail edit. What lies between two looks counts as `rest`. Other load may double the seconds, so a
-short loop is timed now and then, and the page says what it took.
+While `rt ci` runs, the processes below it are looked at twice a second (`part_of`); what lies between two looks counts as `rest`.
+Other load may double the seconds, so a short loop is timed now and then, and the page says what it took.
 """
 import collections
 import contextlib
