@@ -3,13 +3,9 @@
 
     tools/compare/addresses.py [--libraries N] [--addresses N] [--each N] [FILE..]
 
-With dladdr: the first N shared libraries of /usr/lib/x86_64-linux-gnu that can be loaded (--libraries, 60), at up to N addresses of
-each (--addresses): before, at, in, at the end of and after dynamic symbols, and anywhere in the segments. Addresses at which it names
-another object, or none, are counted as outside. elfaddr runs with --dladdr.
-
-With eu-addr2line, gdb, llvm-symbolizer, nm and addr2line, as far as they are here: the files FILE, else 15 of the system and of this
-repository, at N addresses of each (--each). elfaddr runs without an option. Their names are counted by cause (`cause_of`): a symbol
-that is further in than that of elfaddr, or one that covers the address where elfaddr names none, is a difference.
+With dladdr (elfaddr --dladdr): the first N shared libraries of /usr/lib/x86_64-linux-gnu that can be loaded (60), at up to N addresses
+of each: at and beside dynamic symbols, and anywhere in the segments. With each of TOOLS that is here: the files FILE, else 15 of the
+system and of this repository, at N addresses of each (--each). Names are counted by cause (`cause_of`); those of WRONG are differences.
 """
 import bisect
 import collections
@@ -193,7 +189,7 @@ def compare_others(elfaddr: str, path: str, count: int, tables: dict[str, collec
                 tally.fault(f"{path}: {address:x}: {cause}: elfaddr {own or 'none'}, {tool} {other or 'none'}")
 
 
-def main() -> int:
+if __name__ == "__main__":
     given = parser_of(__doc__, "elfaddr", files="*", libraries=60, addresses=20000, each=3000).parse_args()
     tally, tables = Tally("elfaddr", "libraries"), collections.defaultdict(collections.Counter)
     libraries = sorted({os.path.realpath(it) for it in glob.glob("/usr/lib/x86_64-linux-gnu/*.so.*")}, key=lambda it: (-os.path.getsize(it), it))
@@ -205,8 +201,4 @@ def main() -> int:
         compare_others(given.elfaddr, path, given.each, tables, tally)
     for tool, table in tables.items():
         print(f"{tool}: " + ", ".join(f"{table[it]} {it}" for it in ("same", "alias", "outer", "uncovered", "missed", *WRONG) if table[it]))
-    return tally.ended()
-
-
-if __name__ == "__main__":
-    sys.exit(main())
+    sys.exit(tally.ended())

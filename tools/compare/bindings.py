@@ -3,13 +3,10 @@
 
     tools/compare/bindings.py [--elfbind PATH] [--times N] FILE..
 
-The programs are the dynamically linked ones among the files and folders. elfbind is run on a program and its libraries in the order
-in which the linker lists them, without linux-vdso; the linker binds all references at once and prints each (BINDINGS), and runs
-nothing. The two are compared as sets of a file, the file it is bound to, the name and the version, without the linker's own look-ups.
-Status 1 of elfbind and an undefined symbol for the linker must come together. Another binding is a line with its cause: `unique`,
-since glibc merges symbols of type STB_GNU_UNIQUE by name over the process; `ifunc`, an indirect function; or `unexplained`, which is
-a difference. --times N prints for the N programs with most bindings the least time of five runs of elfbind, and of the linker with
-and without binding.
+elfbind is run on each dynamically linked program among the files and folders, with its libraries in the order in which the linker
+lists them; the linker binds all references, prints each (BINDINGS), and runs nothing. Another binding is a line with its cause:
+`unique`, a symbol that glibc merges by name over the process, `ifunc`, or `unexplained`, which is a difference. --times N prints for
+the N programs with most bindings the least time of five runs of elfbind, and of the linker with and without binding.
 """
 import functools
 import os
@@ -84,7 +81,6 @@ def read_linker(program: Program, said: Finished) -> Bindings:
 
 
 def compare(program: Program, elfbind: str, tally: Tally) -> int:
-    """Compares the bindings of a program, and returns how many there are."""
     said = run([elfbind, *program.files])
     own = read_elfbind(program, said)
     if said.errors:
@@ -120,7 +116,7 @@ def print_times(programs: list[tuple[int, Program]], elfbind: str) -> None:
               f" the linker {least(command, **binding)}, of which {least(command, **TRACE)} without binding")
 
 
-def main() -> int:
+if __name__ == "__main__":
     given = parser_of(__doc__, "elfbind", files="*", times=0).parse_args()
     tally, most = Tally("elfbind", "programs", "programs left out", "bindings compared", "unresolved"), []
     for path in programs_in(given.files):
@@ -131,8 +127,4 @@ def main() -> int:
             print(f"{path}: left out, since the linker does not load it")
     most.sort(key=lambda it: -it[0])
     print_times(most[: given.times], given.elfbind)
-    return tally.ended()
-
-
-if __name__ == "__main__":
-    sys.exit(main())
+    sys.exit(tally.ended())

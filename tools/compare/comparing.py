@@ -45,7 +45,6 @@ class Tally(collections.Counter):
         self.program, self.names = program, names
 
     def fault(self, line: str) -> None:
-        """Counts a difference and prints its line."""
         self["differences"] += 1
         print(line[:1200])
 
@@ -65,7 +64,6 @@ class Tally(collections.Counter):
         return ", ".join(f"{self[name]} {name}" for name in (*(it for it in names if it != "differences"), "differences"))
 
     def ended(self) -> int:
-        """Prints the counts, and gives the status."""
         print(self)
         return 1 if self["differences"] else 0
 

@@ -158,10 +158,7 @@ def assembled(layout: Layout, sections, segments: int, **values: int):
 
 
 def worked(wide: bool, order: str, hostile: str = "", only=()) -> bytes:
-    """A file whose every item is good; `hostile` makes its hash table `looped` or `shared`.
-
-    `only` names the sections that it has, beside that of the names.
-    """
+    """A file whose every item is good, of these sections alone where there are any; `hostile` makes its hash table `looped` or `shared`."""
     layout = Layout(wide, order)
     sections = contents(layout)
     if hostile:
@@ -316,9 +313,8 @@ class Damage:
 
 
 def lost(data: bytes, symbols: int = 2):
-    """Fifty copies of a file of which symbols can't be listed: cut off in front of the end of its section headers, or with
-    headers that are wrong; `symbols` is the type of a section of symbols. What is lost of each is at its place in the file, so
-    that a reader can say so."""
+    """Fifty copies of a file of which symbols can't be listed, with what is lost at its place, so that a reader can say so: cut off in
+    front of the end of the section headers, or with headers that are wrong. `symbols` is the type of a section of symbols."""
     whole = Damage(data, randoms.Random(0))
     end = whole.sections[-1] + whole.layout.section_size
     for index in range(25):

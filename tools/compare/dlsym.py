@@ -3,14 +3,10 @@
 
     tools/compare/dlsym.py [--jobs N] [FILE..]
 
-Takes the shared libraries FILE, else those of the system, N side by side (2). Each is loaded in a process of its own. Asked for are
-each name of `llvm-readelf --dyn-syms` without a version, and with each version listed with it; and each name that has a version with
-two versions of other names of the file, which should find nothing. Compared are whether a symbol is found in the library itself, and
-its address less that at which the library is loaded. Counted apart are indirect functions, for which dlsym calls the function that
-chooses one; thread-local symbols; names that dlsym finds in another library, which it searches after this one; and unique symbols of
-another library, since the dynamic linker keeps the first of each name for the whole process.
-
-The static library is called by way of bindings/python, whose shared object bindings/python/wheel_backend.py links.
+Takes the shared libraries FILE, else those of the system, N side by side (2), each loaded in a process of its own. Asked for are each
+name without a version, with each of its versions, and with two versions of other names. Compared are whether a symbol is found in the
+library itself, and its address there; what can't be compared is counted apart (`verdict`). The static library is called by way of
+bindings/python, whose shared object bindings/python/wheel_backend.py links.
 """
 import concurrent.futures
 import glob
@@ -85,14 +81,10 @@ def compare(path: str) -> Tally:
     return tally
 
 
-def main() -> int:
+if __name__ == "__main__":
     given, total = parser_of(__doc__, files="*", jobs=2).parse_args(), Tally("", "libraries")
     files = given.files or sorted({os.path.realpath(path) for path in glob.glob("/usr/lib/x86_64-linux-gnu/*.so.*")})
     with concurrent.futures.ThreadPoolExecutor(given.jobs) as pool:
         for tally in pool.map(compare, filter(read_elf, files)):
             total.update(tally)
-    return total.ended()
-
-
-if __name__ == "__main__":
-    sys.exit(main())
+    sys.exit(total.ended())

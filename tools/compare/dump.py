@@ -1,13 +1,11 @@
 #!/usr/bin/env python3
-"""Compares what bindings/cpp/dump.cpp, bindings/rust/examples/dump.rs, bindings/c/find.c and bindings/c/dynamic.c print of files
-with what nm and readelf print.
+"""Compares what dump.cpp, dump.rs, find.c and dynamic.c of the bindings print of files with what nm and readelf print.
 
     tools/compare/dump.py [FILE..]
 
-Takes FILE, else 300 files spread over the small ones of the system. Compared are all parts that docs/TESTS.md names (new users), of
-each file and of a copy without section headers; of each file besides its sections, and for up to 200 names with a version the symbol
-that is found by both, and by the name alone where the version is the default one. A file without sections, of debugging data alone, or
-with a dynamic segment without symbols, is passed over. The archive is that of crates/elf_c/out, or of XMAS_ELF_ARCHIVE.
+Takes FILE, else 300 files spread over the small ones of the system, and of each a copy without section headers. For up to 200 names
+with a version the symbol is compared that is found by both, and by the name alone where the version is the default one. A file without
+sections, of debugging data alone, or with a dynamic segment without symbols, is passed over. XMAS_ELF_ARCHIVE: another archive.
 """
 import concurrent.futures
 import functools
@@ -155,14 +153,10 @@ def compare(programs, find, dynamic, path):
     return tally
 
 
-def main():
+if __name__ == "__main__":
     given, total = parser_of(__doc__ + ABOUT, files="*").parse_args(), Tally("dump", "files", "lines")
     files = filter(read_elf, files_of(given.files)) if given.files else spread(FILES, LARGEST)
     with tempfile.TemporaryDirectory() as room, concurrent.futures.ThreadPoolExecutor(os.cpu_count()) as pool:
         for tally in pool.map(functools.partial(compare, *built(room)), files):
             total.update(tally)
-    return total.ended()
-
-
-if __name__ == "__main__":
-    sys.exit(main())
+    sys.exit(total.ended())

@@ -3,12 +3,10 @@
 
     tools/compare/elfsym.py [--elfsym PATH] FILE..
 
-It is asked for each name that `llvm-readelf --dyn-syms` lists, and for NAME@VERSION of each version listed with it. What counts are
-the symbols that a dynamic linker takes: not local, of a type that it knows, and with a value, absolute or thread-local (an undefined
-one only with a value). It must name for a name the value and the size of such a symbol without a version, or of the only one with a
-version that isn't hidden (a default, or one that the file needs); for NAME@VERSION those of such a symbol with this version, or
-without one; otherwise `none`. `elfsym --needed` must print what `readelf -dW` lists as needed. All of this is asked again of a copy
-without section headers. A FILE without dynamic symbols is passed over.
+It is asked for each name that `llvm-readelf --dyn-syms` lists, and for NAME@VERSION of each version listed with it, in a file and in
+its copy without section headers. Right are the value and the size of a symbol that a dynamic linker takes (`Listing`), without a
+version or with that one, or for a name the only one that isn't hidden (`wanted_of`); otherwise `none`. `elfsym --needed` must print
+what `readelf -dW` lists as needed. A FILE without dynamic symbols is passed over.
 """
 import functools
 import sys

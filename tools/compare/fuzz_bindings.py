@@ -3,11 +3,9 @@
 
     tools/compare/fuzz_bindings.py [--elfbind PATH] [--elfsym PATH] [--seed N] [--count N]
 
-docs/TESTS.md says what is changed at random from the seed, and what isn't compared. elfbind is run on N copies of a program or
-of one of its two libraries, and compared as by tools/compare/bindings.py; where the linker ends early, what it has printed is
-compared. Of N copies of a library elfsym, dlsym and dlvsym are asked for each name, alone, with each version, and with one that
-the file doesn't have. Compared are whether a symbol is found, and its address; of thread-local symbols only the first. No copy
-for this has a symbol of the type STT_GNU_IFUNC, whose resolver dlsym would run. Objects of class 32 are not tried.
+docs/TESTS.md says what is changed at random from the seed, and what isn't compared. N copies of a program or of one of its libraries
+are compared as by tools/compare/bindings.py, as far as the linker gets. Of N copies of a library elfsym, dlsym and dlvsym are asked
+for each name, alone, with each version, and with an absent one. None has an indirect function, whose resolver dlsym would run.
 """
 import random
 import struct
@@ -77,7 +75,6 @@ class Object:
         return loads[0][0] + address - loads[0][1] if loads else 0
 
     def text(self, name: int) -> str:
-        """The string at a place of the string table."""
         place = self.strings + name
         return self.content[place : self.content.index(b"\0", place)].decode("latin-1")
 
@@ -114,11 +111,8 @@ class Object:
         return used, {self.number(place, "H") & 0x7FFF for place in places}
 
     def has_room(self) -> bool:
-        """Whether the linker's own table of versions, which has a place for each number, has all versions of the file.
-
-        It has if no two definitions or needs have one number, only the base has number 1, and no symbol has a greater
-        number than all of them.
-        """
+        """Whether the linker's own table of versions, which has a place for each number, has all versions of the file: no two
+        definitions or needs have one number, only the base has number 1, and no symbol has a greater number than all of them."""
         used, known = self.numbers()
         places = [place + 4 for place, _ in self.definitions() if not self.number(place + 2, "H") & 1] + [place + 6 for place in self.needs()]
         numbers = [self.number(place, "H") & 0x7FFF for place in places]
@@ -173,13 +167,11 @@ def change_of(held: Object, chance: random.Random, kinds: list[int]) -> Change:
     if what < 0.1 and 30 in held.entries:
         number, place = held.entries[30]
         return Change("flag DF_SYMBOLIC", place, "<Q", number ^ SYMBOLIC)
-    if what < 0.5 and held.offset(0x6FFFFFF0):
-        return change_of_version(held, chance)
-    return change_of_symbol(held, chance, kinds)
+    return change_of_version(held, chance) if what < 0.5 and held.offset(0x6FFFFFF0) else change_of_symbol(held, chance, kinds)
 
 
-def changed(content: bytes, chance: random.Random, kinds: list[int]) -> tuple[bytes, list[Change]]:
-    """A copy of a file with one to three changes, which the linker has room for."""
+def changed(content: bytes, chance: random.Random, kinds: list[int]) -> tuple[bytes, str]:
+    """A copy of a file with one to three changes, which the linker has room for, and what they are."""
     while True:
         copy, changes = bytearray(content), []
         for _ in range(chance.randint(1, 3)):
@@ -187,7 +179,7 @@ def changed(content: bytes, chance: random.Random, kinds: list[int]) -> tuple[by
             struct.pack_into(change.form, copy, change.place, change.number)
             changes.append(change)
         if bytes(copy) != content and Object(bytes(copy)).has_room():
-            return bytes(copy), changes
+            return bytes(copy), ", ".join(f"{it.what} {it.number:#x}" for it in changes)
 
 
 def unique_names(files: Iterable[bytes]) -> set[str]:
@@ -195,14 +187,10 @@ def unique_names(files: Iterable[bytes]) -> set[str]:
     return set().union(*(it.names_with(lambda info: info >> 4 == UNIQUE) for it in map(Object, files)))
 
 
-def told(changes: list[Change]) -> str:
-    return ", ".join(f"{it.what} {it.number:#x}" for it in changes)
-
-
 class Comparison(namedtuple("Comparison", "elfbind elfsym room tally")):
     """The programs of a run, the folder of the copies, and the counts."""
 
-    def bindings(self, files: dict[str, bytes], file: str, changes: list[Change]) -> None:
+    def bindings(self, files: dict[str, bytes], file: str, changes: str) -> None:
         """Compares the bindings of a program one of whose files was changed."""
         paths = [f"{self.room}/{name}" for name in SCOPE]
         Path(self.room, file).write_bytes(files[file])
@@ -223,11 +211,11 @@ class Comparison(namedtuple("Comparison", "elfbind elfsym room tally")):
                 continue
             self.tally["results compared"] += max(len(says) if whole else 0, len(does))
             if says != does if whole else not does <= says:
-                self.tally.fault(f"{file}: {' '.join(key)}: elfbind says {sorted(says)}, the linker {sorted(does)}: {told(changes)}")
+                self.tally.fault(f"{file}: {' '.join(key)}: elfbind says {sorted(says)}, the linker {sorted(does)}: {changes}")
         if whole and own.missing != reads.missing:
-            self.tally.fault(f"{file}: elfbind ends with {said.status}, a missing symbol for the linker: {reads.missing}: {told(changes)}")
+            self.tally.fault(f"{file}: elfbind ends with {said.status}, a missing symbol for the linker: {reads.missing}: {changes}")
 
-    def symbols(self, path: Path, content: bytes, changes: list[Change]) -> None:
+    def symbols(self, path: Path, content: bytes, changes: str) -> None:
         """Compares what is found by name and version in a library that was changed."""
         copy = Path(self.room, "copy.so")
         copy.write_bytes(content)
@@ -254,7 +242,7 @@ class Comparison(namedtuple("Comparison", "elfbind elfsym room tally")):
                 self.tally["results compared"] += 1
                 if not self.agree(line, other, name in threads):
                     asked_for, call = (f"{name}@{version}", "dlvsym") if version else (name, "dlsym")
-                    self.tally.fault(f"{path.name}: {asked_for}: elfsym says {line!r}, {call} {other}: {told(changes)}")
+                    self.tally.fault(f"{path.name}: {asked_for}: elfsym says {line!r}, {call} {other}: {changes}")
 
     @staticmethod
     def agree(line: str, other: str, is_thread: bool) -> bool:
@@ -268,7 +256,6 @@ class Comparison(namedtuple("Comparison", "elfbind elfsym room tally")):
 
 
 def compare_bindings(comparison: Comparison, chance: random.Random, count: int) -> None:
-    """Compares the bindings of changed copies of the program and its libraries."""
     sources = {name: (DATA / "elfbind/data" / name).read_bytes() for name in SCOPE}
     for name, content in sources.items():
         place = Path(comparison.room, name)
@@ -296,15 +283,11 @@ def compare_symbols(comparison: Comparison, chance: random.Random, count: int) -
         comparison.symbols(path, content, changes)
 
 
-def main() -> int:
+if __name__ == "__main__":
     given = parser_of(__doc__, "elfbind", "elfsym", seed=1, count=3000).parse_args()
     tally = Tally("", "copies", "results compared")
     with tempfile.TemporaryDirectory() as room:
         comparison = Comparison(given.elfbind, given.elfsym, room, tally)
         compare_bindings(comparison, random.Random(given.seed), given.count)
         compare_symbols(comparison, random.Random(given.seed), given.count)
-    return tally.ended()
-
-
-if __name__ == "__main__":
-    sys.exit(main())
+    sys.exit(tally.ended())

@@ -25,7 +25,6 @@ FEATURES = {"ibt": "IBT", "shstk": "SHSTK", "bti": "BTI", "pac": "PAC"}
 
 
 def checksec(path: str) -> str:
-    """The line of JSON that checksec prints of a file."""
     return run(["checksec", "--format=json", f"--file={path}"]).output.replace("\n", "")
 
 
@@ -70,7 +69,7 @@ def processor_seconds(of: int) -> float:
     return used.ru_utime + used.ru_stime
 
 
-def main() -> int:
+if __name__ == "__main__":
     given, tally = parser_of((__doc__ or "") + ABOUT, files="+").parse_args(), Tally("the package", "files", "words")
     paths = [it for it in files_of(given.files) if read_elf(it)]
     with concurrent.futures.ThreadPoolExecutor() as pool:
@@ -91,8 +90,4 @@ def main() -> int:
             if as_text(row[name]) != value:
                 tally.fault(f"{path}: {name}: the package says {row[name]}, the crate says {value}")
     print(f"processor seconds: {ours:.1f} of the package, {theirs:.1f} of checksec")
-    return tally.ended()
-
-
-if __name__ == "__main__":
-    sys.exit(main())
+    sys.exit(tally.ended())

@@ -3,20 +3,13 @@
 
     tools/compare/loads.py [--elfload PATH] [--damaged N] [--seed N] FILE..
 
-Each dynamically linked program among the files and folders is run in a process that is stopped by ptrace, and never comes to its own
-code: at exec, where Linux has mapped it and its interpreter; before the linker makes anything read-only, with all libraries mapped;
-and before the first constructor, where relocation is done and `relro` of each file is read-only.
+Each dynamically linked program among the files and folders is stopped by ptrace at exec, before the linker makes anything read-only,
+and before the first constructor. At each stop the mappings of each file must be those of elfload, as /proc/PID/maps shows them, and
+read-only bytes, at exec all bytes, those of the file or zero; at exec the last bytes of writable pages may be zero.
 
-At each stop every mapping of /proc/PID/maps must be as elfload says: its pages, its permissions, and its offset in the file; and no
-other page of the file is mapped. Of each file once at each stop, read-only bytes, and at exec all bytes, must be those of the file,
-or zero where the file has ended; at exec the last bytes of writable pages may be zero instead.
-
---damaged N runs elfload on N copies of the smallest program and of its smallest library with bytes of headers changed, at random
-from the seed. It must end within two seconds with status 0 or 1. The copies that it accepts are run, or loaded by LD_PRELOAD, and
-stopped in the same way. Where one isn't loaded, the cause is counted; the only ones allowed are those of ALLOWED.
-
-A difference is a line, and the exit status is then 1. It needs ptrace on x86-64: where that is not allowed or the machine is another,
-the script says so, and passes.
+--damaged N runs elfload on N copies of the smallest program and of its smallest library with bytes of headers changed. It must end
+within two seconds with status 0 or 1. The copies that it accepts are run, or loaded by LD_PRELOAD, and stopped in the same way; one
+may fail to load only for the causes of ALLOWED. Where processes can't be traced, the script says so, and passes.
 """
 import bisect
 import dataclasses
@@ -55,7 +48,6 @@ Plan = namedtuple("Plan", "relro start by")
 
 
 def plan_of(text: str) -> Plan:
-    """Takes what elfload prints of a file apart."""
     heads, by, lines = {}, {}, None
     for line in text.split("\n")[1:-1]:
         if line.startswith("words "):
@@ -130,7 +122,6 @@ def as_mapped(mapping: Mapping, path: str, part: Mapping) -> bool:
 
 
 def compare_line(maps: List[Mapping], loaded: Loaded, line: Mapping, name: str, tally: Plans) -> None:
-    """Compares the pages of a line."""
     starts = [it.start for it in maps]
     for part in loaded.parts(line):
         at = part.start
@@ -163,7 +154,6 @@ def compare_bytes(process: Stopped, loaded: Loaded, line: Mapping, all_bytes: bo
 
 
 def compare_loaded(process: Stopped, maps: List[Mapping], loaded: Loaded, at_exec: bool, name: str, tally: Plans) -> None:
-    """Compares all pages of a file."""
     lines = loaded.plan.by[loaded.by]
     stop = name.rpartition(": ")[2]
     is_new = (loaded.path, stop) not in tally.compared
@@ -202,7 +192,6 @@ def compare_stop(process: Stopped, program: str, stop: str, tally: Plans) -> Non
 
 
 def compare(path: str, tally: Plans) -> None:
-    """Compares a program and its libraries at each stop."""
     process = Stopped(path)
     try:
         if process.signal() != signal.SIGTRAP:
@@ -228,7 +217,6 @@ SEGMENT = ((0, 4), (4, 4), (8, 8), (16, 8), (32, 8), (40, 8), (48, 8))
 
 
 def number_of(chance: random.Random, content: bytes, place: int, size: int) -> int:
-    """Another number for a field."""
     was = int.from_bytes(content[place : place + size], "little")
     other = chance.choice((
         0, 1, 2, 3, 4, 6, 7, PAGE, 16 * PAGE, 2**47 - PAGE, 0x6474E551, 0x6474E552, len(content), chance.getrandbits(8 * size)))

@@ -3,18 +3,12 @@
 
     tools/compare/memory.py [--elfload PATH] [--lazy 1] [--root FOLDER] [--step N] PROGRAM..
 
-The programs are the dynamically linked ones among the files, and in the folders among them; with --step each Nth. Each is run in a
-process that ptrace stops before the first constructor (`to_relocated`). Its files are those of the linker's list, in that order,
-without linux-vdso. Compared are each word that elfload prints of these files, with the bases of the list and the numbers of
-thread-local storage that glibc chooses (`thread_offsets`), and each byte of memory: that of a word, otherwise that of the file, or
-zero (`image_of`, which reads the program headers itself). Jump slots get their symbols at once (LD_BIND_NOW), or with --lazy 1 when
-they are called first (elfload --lazy).
-
---root names a folder with the files of another system, in which the programs are. Those of AArch64 are run by qemu-aarch64
-(`processes.py`), those of 386 by this system's linker of class 32, which finds their libraries by LD_LIBRARY_PATH.
-
-docs/TESTS.md lists the causes by which differences are counted. Another one is a line, and the exit status is then 1. It needs
-ptrace on x86-64: where that is not allowed or the machine is another, the script says so, and passes.
+Each dynamically linked program among the files and folders, with --step each Nth, is stopped by ptrace before the first constructor
+(`to_relocated`). Compared are each word that elfload prints of the files of the linker's list, with their bases and the numbers of
+thread-local storage that glibc chooses (`thread_offsets`), and each byte of memory (`image_of`). Jump slots get their symbols at once
+(LD_BIND_NOW), or with --lazy 1 when they are called first. --root names a folder with the files of another system: programs of AArch64
+are run by qemu-aarch64 (`processes.py`), those of 386 by this system's linker. docs/TESTS.md lists the causes by which differences are
+counted; another is a line, and the exit status is then 1. Where processes can't be traced, the script says so, and passes.
 """
 import functools
 import os
@@ -220,17 +214,13 @@ def to_relocated(process: Stopped, program: str) -> Optional[Tuple[str, int]]:
     return linker_in(process, process.maps())
 
 
-def text_at(process: Stopped, address: int) -> str:
-    return process.memory(address, PAGE).split(b"\0")[0].decode("utf-8", "surrogateescape")
-
-
 def files_of(process: Stopped, program: str, linker: str, base: int) -> Iterator[File]:
     """The files in the linker's list (`struct link_map`)."""
     form, size = layout_of(linker).address, address_size(linker)
     (at,) = struct.unpack(f"<{form}", process.memory(base + value_of(linker, "_r_debug") + size, size))
     while at:
         moved, name, _, at = struct.unpack(f"<4{form}", process.memory(at, 4 * size))
-        called = text_at(process, name)
+        called = process.memory(name, PAGE).split(b"\0")[0].decode("utf-8", "surrogateescape")
         path = file_of(process, called) if called else program
         if os.path.isfile(path):
             yield File(path, moved, path in (program, linker))
@@ -242,15 +232,12 @@ def is_early(file: File) -> bool:
 
 
 def cause_of_word(files: List[File], of: int, word: Word, linker: str) -> Optional[str]:
-    """Why the memory of a word is another."""
     found = NUMBER.fullmatch(word.value)
     if found and found[1] == "base":
         symbols = dynamic_symbols(files[int(found[2])].path)
         if any(it.binding == UNIQUE and it.value <= int(found[3], 16) < it.value + max(it.size, 1) for it in symbols):
             return "unique"
-    if files[of].path == linker:
-        return "linker"
-    return "early libc" if is_early(files[of]) else None
+    return "linker" if files[of].path == linker else "early libc" if is_early(files[of]) else None
 
 
 def cause_of_byte(file: File, address: int, is_writable: bool, held: bytes, linker: str) -> Optional[str]:
@@ -262,14 +249,7 @@ def cause_of_byte(file: File, address: int, is_writable: bool, held: bytes, link
     got = entries.get(PLT_GOT)
     if got is not None and got + size <= address < got + 3 * size:
         return "lazy"
-    if file.path == linker:
-        return "linker"
-    return "early libc" if is_writable and is_early(file) else None
-
-
-def has_calls(words: List[Word]) -> bool:
-    """Whether the linker calls a function of a file for one of its words."""
-    return any(it.value.startswith("call(") for it in words)
+    return "linker" if file.path == linker else "early libc" if is_writable and is_early(file) else None
 
 
 def compare_words(of: Process, index: int, words: List[Word], tally: Tally) -> Dict[int, bytes]:
@@ -295,7 +275,6 @@ def compare_words(of: Process, index: int, words: List[Word], tally: Tally) -> D
 
 
 def differing(one: bytes, other: bytes) -> Iterator[int]:
-    """The places at which bytes differ."""
     for start in range(0, len(one), PAGE):
         parts = one[start : start + PAGE], other[start : start + PAGE]
         if parts[0] != parts[1]:
@@ -340,15 +319,16 @@ def compare_memory(of: Process, text: str, compared: Set[Tuple[str, int]], tally
         return
     for index, file in enumerate(of.files):
         found = compare_words(of, index, words[index], tally)
+        # Whether the linker calls a function of the file for one of its words.
+        calls = any(it.value.startswith("call(") for it in words[index])
         for load in segments_of(file.path):
             if load.type == LOAD:
-                compare_load(of, file, load, found, has_calls(words[index]), compared, tally)
+                compare_load(of, file, load, found, calls, compared, tally)
     tally["programs"] += 1
     tally["files"] += len(of.files)
 
 
 def compare(program: str, root: Root, is_lazy: bool, compared: Set[Tuple[str, int]], tally: Tally) -> None:
-    """Compares the memory of a program and its libraries."""
     process = root.start(program, is_lazy)
     try:
         linker = to_relocated(process, program)

@@ -43,7 +43,6 @@ Mapping = namedtuple("Mapping", "start end flags offset holds")
 
 
 def mapping_of(found: "re.Match") -> Mapping:
-    """The mapping of a line."""
     start, end, flags, offset, holds = found.groups()
     return Mapping(int(start, 16), int(end, 16), flags, int(offset, 16), holds)
 
@@ -114,7 +113,6 @@ class Stopped:
         return False
 
     def to_address(self, address: int) -> bool:
-        """Runs up to an instruction."""
         word = self.memory(address, 8)
         self.libc.ptrace(WRITE_WORD, self.pid, address, int.from_bytes(b"\xcc" + word[1:], "little"))
         reached = self.go(CONTINUE) and self.signal() == signal.SIGTRAP
@@ -177,7 +175,6 @@ def to_debug_state(process: Stopped) -> bool:
 
 
 def can_trace() -> bool:
-    """Whether a process can be stopped at exec."""
     if platform.machine() != "x86_64":
         return False
     process = Stopped("/bin/true")
@@ -248,7 +245,6 @@ class Emulated(Stopped):
         return (linker, base) if is_there else None
 
     def end(self) -> str:
-        """Ends the process."""
         self.stub.close()
         self.process.kill()
         self.process.wait()

@@ -49,11 +49,8 @@ def segments(path):
 
 
 def symbols(path):
-    """For each table of symbols, by its name: number, value, size, type, binding, visibility and name, and the version of a
-    dynamic symbol.
-
-    Of a file without section headers these are the symbols of the dynamic segment.
-    """
+    """For each table of symbols, by its name: number, value, size, type, binding, visibility and name, and the version of a dynamic
+    symbol. Of a file without section headers these are the symbols of the dynamic segment."""
     tables, rows = {}, []
     for line in said(path, "--syms", *([] if sections(path) else ["--use-dynamic"])).split("\n"):
         if begun := re.match(r"Symbol table (?:'(.*)'|for image) contains", line):
@@ -66,10 +63,7 @@ def symbols(path):
 
 
 def relocations(path, wide):
-    """For each section of relocations, by its name: offset, number and name of the type, addend and index of the symbol.
-
-    Of a file without section headers these are the tables of the dynamic segment.
-    """
+    """For each section of relocations, else for each table of the dynamic segment: offset, type, addend and index of the symbol."""
     tables, shift, digits = {}, 32 if wide else 8, 16 if wide else 8
     for table in relocation_tables(str(path), *([] if sections(path) else ["--use-dynamic"])):
         rows = tables.setdefault(USED.get(table.section, table.section), [])

@@ -1,13 +1,10 @@
 #!/usr/bin/env python3
-"""Compares what the recipes of docs/RECIPES.md print with readelf, over real files.
+"""Compares what the recipes of docs/RECIPES.md print with readelf, and the symbols of addresses with nm, over real files.
 
     tools/compare/recipes.py [--elfrecipes PATH] [FILE..]
 
-`elfrecipes` runs each recipe over a file, and is asked for the first and the middle byte of functions, which are compared with nm.
-The recipe in Python is run where tools/exports/python.sh has built the package.
-Without files it takes the programs and libraries of SYSTEM, and what gcc makes of a small source here: an object file, a program
-and a shared object of class 64, and by -m32 of class 32 an object file and, by -nostdlib, a shared object. Files that it doesn't
-read count as differences.
+The recipe in Python is run where tools/exports/python.sh has built the package. Without files it takes the programs and libraries of
+SYSTEM, and what gcc makes of a small source here (MADE). Files that `elfrecipes` doesn't read count as differences.
 """
 import re
 import subprocess
@@ -49,7 +46,6 @@ PACKAGE = ROOT / "bindings/python"
 
 
 def symbols(said: list, is_dynamic: bool) -> list:
-    """The value, size and name of each symbol."""
     found = []
     for it in said:
         # The name of a section's symbol is that of the section for readelf, and a version is no part of one.
@@ -59,7 +55,6 @@ def symbols(said: list, is_dynamic: bool) -> list:
 
 
 def relocations(path: str, is_wide: bool, sections: list, tables: dict) -> list:
-    """The lines of the relocations of all sections."""
     bits, kinds = (32, 0xFFFFFFFF) if is_wide else (8, 0xFF)
     links, names, found = {it["Name"]["Value"]: it["Link"] for it in sections}, [it["Name"]["Value"] for it in sections], []
     for table in relocation_tables(path):

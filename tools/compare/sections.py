@@ -3,12 +3,9 @@
 
     tools/compare/sections.py FILE..
 
-`llvm-readelf -n` says how many notes a section has, and of each the type, the name and the size of the description, but for the names
-of GNU's build attributes. `readelf -rW` has the addresses of packed relocations. The check of GNU's hash table must be OK. Each name
-that `llvm-readelf --dyn-syms` lists as defined and not local must be found at an index at which it is listed so; each other name must
-not be found, or at an index at which it is listed: linkers put some undefined symbols of programs into the table.
-
-The static library is called by way of bindings/python, whose shared object bindings/python/wheel_backend.py links.
+Each name that `llvm-readelf --dyn-syms` lists as defined and not local must be found at an index at which it is listed so; each other
+must not be found, or at an index at which it is listed: linkers put some undefined symbols of programs into the table. The static
+library is called by way of bindings/python, whose shared object bindings/python/wheel_backend.py links.
 """
 import collections
 import ctypes

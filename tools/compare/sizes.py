@@ -3,15 +3,10 @@
 
     tools/compare/sizes.py [--elfsize PATH] [--damaged N] [--seed S] [--most N] [--symbols] [FILE..]
 
-Of each ELF file of the files and folders FILE (/usr), the lines are to be the largest first, with shares that are rounded down,
-and to sum to the size of the file exactly. The owner of each byte is that of docs/SIZES.md, which is a script here, in files with
-at most 3000 sections and segments. `llvm-readelf -S` has the name of each section, `readelf -SW` its size. --symbols compares
-`elfsize --symbols` of the files with a section of type SHT_SYMTAB, beside `nm -S`, whose symbols with the same range and section
-are counted once. Parts with another size are counted by cause: `NOBITS`, bytes of other parts, the end of the file or of the
-section, and symbols of a type or a name that names no addresses.
-
---damaged N compares N damaged files (tools/compare/damage.py) with the definition, at random from the seed S. --most N stops after
-N files. The last line has the counts, and the exit status is 1 if there is a difference.
+Of each ELF file of the files and folders FILE (/usr), the lines are to be the largest first, and to sum to the size of the file. The
+owner of each byte is that of docs/SIZES.md (`Definition`), in files with at most 3000 sections and segments. --symbols compares
+`elfsize --symbols` beside `nm -S`, whose symbols with the same range and section are counted once. Other sizes are counted by cause.
+--damaged N compares N damaged files (tools/compare/damage.py), at random from the seed S. --most N stops after N files.
 """
 import collections
 import heapq
@@ -308,11 +303,6 @@ def cause_of(definition: Definition, section: int, value: int, size: int, all: L
     return "ranges with bytes of other symbols" if any(it.begin < part.end and part.begin < it.end for it in inside) else None
 
 
-def has_symbols(path: str) -> bool:
-    content = read_elf(path)
-    return bool(content) and any(Definition(content).symbols())
-
-
 def compare(path: str, program: str, by_symbols: bool, tally: Tally) -> None:
     content = read_elf(path)
     found = sizes_of(path, program, len(content), tally, *(["--symbols"] if by_symbols else []))
@@ -339,19 +329,16 @@ def compare_damaged(program: str, count: int, seed: int, tally: Tally) -> None:
                 beside_definition(f"damaged file {index}", found.sizes, content, tally)
 
 
-def main() -> int:
+if __name__ == "__main__":
     parser = parser_of(__doc__, "elfsize", files="*", damaged=0, seed=1, most=sys.maxsize)
     parser.add_argument("--symbols", action="store_true")
     given = parser.parse_args()
     tally = Tally("elfsize")
+    has_symbols = lambda path: (content := read_elf(path)) and any(Definition(content).symbols())
     asked = filter(has_symbols if given.symbols else read_elf, files_of(given.files or ["/usr"]))
     for path in itertools.islice(asked, given.most):
         compare(path, given.elfsize, given.symbols, tally)
     compare_damaged(given.elfsize, given.damaged, given.seed, tally)
     first = ("files", "bytes", "parts as defined", *(() if given.symbols else ("sections of the same size",)))
     tally.names = (*first, *(name for name in tally if name not in (*first, "differences")), "differences")
-    return tally.ended()
-
-
-if __name__ == "__main__":
-    sys.exit(main())
+    sys.exit(tally.ended())

@@ -71,7 +71,7 @@ def put_library(root: pathlib.Path, dist: pathlib.Path) -> None:
     put(root, "usr/share/doc/xmas-elf/copyright", licenses)
 
 
-def main() -> int:
+if __name__ == "__main__":
     dist = pathlib.Path(sys.argv[1] if len(sys.argv) > 1 else TOP / "dist")
     version = re.search(r'^version = "(.*)"', (TOP / "bindings/rust/Cargo.toml").read_text(), re.M)[1]
     with tempfile.TemporaryDirectory() as folder:
@@ -87,8 +87,4 @@ def main() -> int:
         subprocess.run(["dpkg-deb", "--build", "--root-owner-group", folder, str(package)], check=True, stdout=subprocess.DEVNULL,
             env={**os.environ, "SOURCE_DATE_EPOCH": date})
     print(f"package: {package.name}, {package.stat().st_size} bytes")
-    return 0
-
-
-if __name__ == "__main__":
-    sys.exit(main())
+    sys.exit(0)

@@ -310,8 +310,7 @@ def differing_sources(listed):
 
 def differing_numbers():
     """How many named numbers of the crates, and of elf.h, if it is here, bindings/constants.toml has too, and those that differ. A
-    constant of crates/NAME/src has the name in backticks with which its doc begins; a relocation type has its name in the
-    definition of elf_linking too."""
+    constant of crates/NAME/src has the name in backticks with which its doc begins."""
     numbers, text = {it.name: it.value for it in listing.constants()}, lambda path: path.read_text(encoding="utf-8", errors="replace")
     places = [(path, *it) for path in sorted(ROOT.glob("crates/*/src/**/*.rt")) for it in CONSTANT.findall(text(path))]
     path = ROOT / "crates/elf_linking/specs/RelocationNames.antt"
@@ -322,7 +321,7 @@ def differing_numbers():
                         for path, name, number in known if numbers[name] != int(number.replace("_", ""), 0)]
 
 
-def main():
+if __name__ == "__main__":
     is_check, listed, rows = parser_of(__doc__).parse_args().check, listing.read(), statuses.statuses()
     for line in statuses.PINNED.read_text().splitlines():
         if line not in statuses.numbered(rows):
@@ -341,8 +340,4 @@ def main():
     count, others = differing_numbers()
     failed += others if is_check else []
     said = f"{len(listed.functions)} exports, {len(listed.structs)} structs, {count} named numbers"
-    return ended(failed, f"{said}, {len(failed)} differences")
-
-
-if __name__ == "__main__":
-    sys.exit(main())
+    sys.exit(ended(failed, f"{said}, {len(failed)} differences"))

@@ -3,10 +3,9 @@
     for struct in listing.read().structs: struct.name, struct.fields[0].name, struct.fields[0].type
     for function in listing.read().functions: function.export, function.parameters[0].type, function.statuses
 
-A type is a number (`u8` .. `u64`, `usize`), an array of bytes (`[u8; 7]`), bytes that a field lends (`&[u8]`: a pointer and a
-size) or the name of a struct of the list. A parameter's
-`kind` says how it crosses: VALUE a number; IN a pointer to one value that is read; OUT a pointer to one value that is written
-where the call is OK; SLICE a pointer and a count of values that are read; FILLED one of values that are written in part."""
+A type is a number (`u8` .. `u64`, `usize`), an array of bytes (`[u8; 7]`), bytes that a field lends (`&[u8]`: a pointer and a size)
+or the name of a struct of the list. A parameter's `kind` says how it crosses: VALUE a number; IN a pointer to one value that is read;
+OUT to one that is written where the call is OK; SLICE a pointer and a count of values that are read; FILLED of values to be written."""
 import pathlib
 import re
 import tomllib

@@ -1,12 +1,9 @@
 """The list of statuses for tools/exports/declarations.py: in bindings/include/xmas_elf.h and bindings/rust/src/error.rs.
 
-The numbers of `ElfError` are those that its variants are declared with; those of `LinkError`, `LoadError` and `IndexError` stand
-beside their texts in src/error.rt of their crates, and the others in crates/elf_c/src/status.rt. A number never changes:
-bindings/statuses.txt has each name with its number, and lines are only added to it.
-
-The statuses that bindings/exports.toml lists for each export are compared with the errors that the definitions name to which its
-`ensures` clauses lead (tools/pages/definitions.py). A definition may name an error that the export never returns, since another call
-takes it up (`never` of the list), and the export may return one that a value holds and no definition names (`held`).
+The numbers stand in the files of ERRORS. A number never changes: bindings/statuses.txt has each name with its number, and lines are
+only added to it. The statuses that bindings/exports.toml lists for each export are compared with the errors that the definitions name
+to which its `ensures` clauses lead (tools/pages/definitions.py). A definition may name an error that the export never returns, since
+another call takes it up (`never` of the list), and the export may return one that a value holds and no definition names (`held`).
 """
 import functools
 import re

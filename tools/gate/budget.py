@@ -7,9 +7,8 @@
     tools/gate/budget.py check           fails where that table's total passes the budget, or its numbers don't add up, and where
                                          README.md names another kit than that of the table; warns where this is another
 
-While `rt ci` runs, the processes below it are looked at twice a second: a prover's command line names the crate, and whether it proves
-the tests; its folder tells a must-fail edit. What lies between two looks counts as `rest`. Other load may double the seconds, so a
-short loop is timed now and then, and the page says what it took.
+While `rt ci` runs, the processes below it are looked at twice a second (`part_of`); what lies between two looks counts as `rest`.
+Other load may double the seconds, so a short loop is timed now and then, and the page says what it took.
 """
 import collections
 import contextlib
@@ -43,9 +42,9 @@ LOOP = re.compile(r"^--   a loop: ([\d.]+) ms in (\d+) times, ([\d.]+) at best$"
 DONE = re.compile(r"done in this run: (\d+ of the \d+) proofs")
 KIT = re.compile(r"^-- kit: (.*)$", re.M)
 MACHINE = re.compile(r"^-- (\d+) processors, (.*)$", re.M)
-TOTAL = re.compile(r"^\| \*\*total\*\* \|.*\| ([\d.]+) \|$", re.M)
+TOTAL = re.compile(r"^\|\*\*total\*\*\|.*\|([\d.]+)\|$", re.M)
 KINDS = ("proof", "tests", "must-fail", "batches")
-HEAD = "| Part | proof | tests | must-fail | batches | together |\n|---|---:|---:|---:|---:|---:|"
+HEAD = "|Part|proof|tests|must-fail|batches|together|\n|---|---:|---:|---:|---:|---:|"
 
 
 def part_of(process: int):
@@ -162,9 +161,9 @@ def table(output: str) -> str:
     rows, small = ([it for it in ranked if (sum(it[1]) < SMALL) is is_small] for is_small in (False, True))
     if small:
         rows.append((f"{len(small)} others, each below {SMALL // 60}", [sum(it) for it in zip(*(of for _, of in small))]))
-    lines = [f"| {name} | " + " | ".join(minutes(it) if it else "" for it in of[:4]) + f" | {minutes(sum(of))} |" for name, of in rows]
+    lines = [f"|{name}|" + "|".join(minutes(it) if it else "" for it in of[:4]) + f"|{minutes(sum(of))}|" for name, of in rows]
     whole = sum(int(seconds) for _, _, seconds in TOOK.findall(output))
-    return "\n".join([HEAD, *lines, "| **total** | " + " | ".join(map(minutes, sums)) + f" | {minutes(whole)} |"])
+    return "\n".join([HEAD, *lines, "|**total**|" + "|".join(map(minutes, sums)) + f"|{minutes(whole)}|"])
 
 
 def measured(output: str) -> str:
@@ -201,7 +200,7 @@ def check() -> int:
         print(f"README.md names the kit {named}, and docs/GATE.md was measured with another")
         return 1
     print(f"WARNING: README.md names the kit {named}, and this is {kit}: `budget.py write` names it\n" if named != kit else "", end="")
-    total, rows = TOTAL.search(page), re.findall(r"^\| (?!\*\*total|Part).*\| ([\d.]+) \|$", page, re.M)
+    total, rows = TOTAL.search(page), re.findall(r"^\|(?!\*\*total|Part).*\|([\d.]+)\|$", page, re.M)
     if not total:
         print("docs/GATE.md: the table has no total")
         return 1

@@ -22,7 +22,7 @@ def kit():
     return importlib.import_module("rtlib")
 
 
-def main() -> int:
+if __name__ == "__main__":
     os.chdir(ROOT)
     written = []
     try:
@@ -37,8 +37,3 @@ def main() -> int:
     except (AttributeError, OSError, TypeError) as why:
         print(f"this kit has no stamps that are known here: {why}")
     print(f"stamps of {', '.join(written) or 'no library'}")
-    return 0
-
-
-if __name__ == "__main__":
-    sys.exit(main())

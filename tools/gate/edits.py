@@ -52,8 +52,7 @@ pub {name}_spec : {{M : Type 1}} → statement M
 @dataclasses.dataclass
 class Edit:
     """A wrong body: which texts of which files it changes, the functions that these stand in, why it can't be tried, whether each
-    changed line stands in a function's body, so that no other function can see the change, and the clause that it breaks, if it
-    names one."""
+    changed line stands in a function's body, where no other function sees it, and the clause that it breaks, if it names one."""
 
     crate: str
     name: str
@@ -113,7 +112,6 @@ class EditedCrate(Crate):
         return edit
 
     def edits(self) -> list:
-        """All of its edits in `wrong-bodies`."""
         return [self.read_edit(it) for it in sorted(self.folder.glob("wrong-bodies/*/*.edit"))]
 
     def lines_of(self, edit) -> dict:
@@ -186,9 +184,7 @@ class Tried(collections.namedtuple("Tried", "crate texts functions of copies in_
     """A crate with edits made: the files that changed, the functions where they stand there, those by which each edit is
     judged, of the wrong ones that stand beside a right one, that one, and those that are edited in place of a stand-in."""
 
-    def function_at(self, file: str, line: int):
-        held = [it for it in self.functions if it.file == file and it.first <= line <= it.last]
-        return held[-1] if held else None
+    function_at = Crate.function_at
 
     def goals(self, said: str) -> dict:
         """What a check left open, by the function that it said it of (None: of no function of the sources)."""
@@ -254,9 +250,8 @@ kit = functools.cache(built.kit)
 
 
 def check(folder: pathlib.Path, *words: str, verb="check", keeps=True, limit=None) -> Checked:
-    """Checks the crate in a folder, or does what else `rt` does with a crate; what it says, and what it takes. A process that
-    takes more processor seconds than the limit is ended. `rt check` keeps what it proves, and for long checks starts several
-    processes one after another, each of which loads the libraries: not where nothing is to be kept for a later check."""
+    """What `rt` says of the crate in a folder, and what that takes; more processor seconds than the limit end it. To keep what it
+    proves, `rt check` may start several processes one after another, each of which loads the libraries."""
     ran = ["rt", verb, *words]
     # Another kit may have other names for these.
     with contextlib.suppress(AttributeError, OSError, StopIteration, SystemExit, TypeError):

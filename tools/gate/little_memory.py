@@ -3,11 +3,9 @@
 
     tools/gate/little_memory.py [PROGRAM..]     at the top of the repository, once the programs are built
 
-Over some files and each build of a program, until a run makes no more such calls. With memory refused it says that it cannot read
-its arguments, then that it cannot read the file, then that memory is short; with a read failed that it cannot read the file; each
-with status 1 and without output, but for what elfload has written before it asks for more memory. With a write failed it ends with 1,
-and what was written before is the front of the output. The last run is as if nothing failed. The runs make as few reads and writes
-as they like, or a few bytes each. A library made by gcc stands before the C library's calls.
+Over some files and each build of a program, until a run makes no more such calls: the last is as if nothing failed. `is_well` says how
+a run may end; what was written before a failed write is the front of the output. The runs make as few reads and writes as they like,
+or a few bytes each. A library made by gcc stands before the C library's calls.
 """
 import collections
 import itertools
@@ -110,11 +108,8 @@ def run(built, program, room, **failing):
 
 
 def is_well(kind, end, whole, texts, before, begun):
-    """Whether a run with such a call failed may end so, where the whole one ends with `whole`.
-
-    `before` is how much was written before a write that failed, if each takes so few bytes, and `begun` what may have been
-    written where memory is short.
-    """
+    """Whether a run with such a call failed may end so, where the whole one ends with `whole`: `before` is how much was written
+    before a write that failed, if each takes so few bytes, and `begun` what may have been written where memory is short."""
     status, output, said = end
     _, read, _, write = texts
     if kind == "FAIL_MEMORY":
@@ -150,7 +145,7 @@ def unlike(built, program, room, name) -> int:
     return count
 
 
-def main() -> int:
+if __name__ == "__main__":
     builds, count = builds_of(sorted({it.name for it in PROGRAMS})), 0
     with tempfile.TemporaryDirectory() as room:
         os.environ.pop("LD_PRELOAD", None)
@@ -162,8 +157,4 @@ def main() -> int:
                 for built in builds[program.name]:
                     count += unlike(built, program, room, name)
                     count += at == 0 and run(built, program, room) != (0, program.first, b"")
-    return 1 if count else 0
-
-
-if __name__ == "__main__":
-    sys.exit(main())
+    sys.exit(1 if count else 0)

@@ -1,11 +1,10 @@
 #!/usr/bin/env python3
-"""Wants the output, the error text and the status of each way in which the built elfinfo, elfsym, elfaddr, elfsize,
-elfbind and elfload end.
+"""Wants the output, the error text and the status of each way in which the built programs of PROGRAMS end.
 
-It runs each program as each compiler built it, on files that are good, refused, missing or unreadable,
-and into outputs that fail. elfsym must also write names of any bytes with the escapes of `readelf`, and elfnm as
-they are. Run it at the top of the repository once the programs are built, or give it
-other builds of them: tools/gate/program_ends.py [PROGRAM..]
+    tools/gate/program_ends.py [PROGRAM..]     at the top of the repository, once they are built; or of other builds of them
+
+Each build runs on files that are good, refused, missing or unreadable, and into outputs that fail. elfsym must also write names of any
+bytes with the escapes of `readelf`, and elfnm as they are.
 """
 import os
 import pathlib
@@ -449,12 +448,8 @@ def builds_of(names: list[str]) -> dict[str, list[pathlib.Path]]:
     return builds
 
 
-def main() -> int:
+if __name__ == "__main__":
     builds = builds_of([*(it.name for it in PROGRAMS), "elfnm"])
     count = sum(unlike(program, it) for program in PROGRAMS for it in builds[program.name])
     count += sum(odd_names(*it, builds[it[0]]) for it in NAMES)
-    return 1 if count else 0
-
-
-if __name__ == "__main__":
-    sys.exit(main())
+    sys.exit(1 if count else 0)

@@ -14,7 +14,7 @@ from pages.sources import ROOT, ended
 LIMIT = 300_000
 
 
-def main() -> int:
+if __name__ == "__main__":
     listed = subprocess.run(["git", "ls-files", "-z"], cwd=ROOT, capture_output=True, text=True, check=True).stdout
     files = [pathlib.Path(it) for it in listed.split("\0") if it and (ROOT / it).is_file()]
     pages = {it: (ROOT / it).read_text(encoding="utf-8") for it in files if it.suffix == ".md"}
@@ -23,8 +23,4 @@ def main() -> int:
     folders = sorted({it.parts[0] for it in files if len(it.parts) > 1})
     found = [f"{it}: more than {LIMIT} bytes, and no page names it" for it in large]
     found += [f"{it}/: neither docs/README.md nor CONTRIBUTING.md names it" for it in folders if f"{it}/" not in guides]
-    return ended(found, f"{len(found)} of {len(files)} files and {len(folders)} folders shouldn't be tracked")
-
-
-if __name__ == "__main__":
-    sys.exit(main())
+    sys.exit(ended(found, f"{len(found)} of {len(files)} files and {len(folders)} folders shouldn't be tracked"))

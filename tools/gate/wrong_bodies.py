@@ -130,7 +130,6 @@ class Trial:
         return not any(it.status for it in ran)
 
     def work(self, task: Task, batch: list):
-        """Tries a batch in a copy of its crate."""
         with tempfile.TemporaryDirectory(prefix="wrong-bodies-") as place:
             room = Room(self.root, task.crate, task.below, pathlib.Path(place, "room"))
             for edit, goal, fault in room.judge(batch):

@@ -6,9 +6,7 @@
                                   definitions doesn't say what it defines, and where crates/xmas_elf/specs/Types.antt lacks a name
 
 An item stands on the page of the crate that declares it, under its public path there. At the end of elf_base's page stands which
-calls return which error, as tools/pages/errors.py reads it off their docs.
-
-The clauses of other crates import the types, constants and errors of xmas_elf from Types.antt. A `pub use` passes on what a lower
+calls return which error (tools/pages/errors.py). The clauses of other crates import the types, constants and errors of xmas_elf from Types.antt. A `pub use` passes on what a lower
 crate declares, but nothing that xmas_elf itself declares: such a name counts only where Types.antt has an `abbrev pub` of it.
 """
 import pathlib
@@ -248,7 +246,7 @@ def faults_of_types(sources: dict) -> list:
     return [f"{TYPES.relative_to(ROOT)}: {it}" for it in said]
 
 
-def main() -> int:
+if __name__ == "__main__":
     is_check, sources = parser_of(__doc__).parse_args().check, read()
     pages = {crate: CratePage(sources, crate) for crate in LIBRARIES}
     texts = {PAGES / f"{crate}.md": page.text() for crate, page in pages.items()}
@@ -258,8 +256,4 @@ def main() -> int:
     faults += [f"{it.relative_to(ROOT)} doesn't say what it defines" for it in ROOT.glob("crates/*/specs/**/*.antt")
                if it.stem != "Lib" and not it.read_text(encoding="utf-8").startswith("--")]
     said = [f"{page.count} of {crate}" for crate, page in pages.items()]
-    return ended(faults, f"{', '.join(said)}: public items on {len(texts)} pages, {len(faults)} faults")
-
-
-if __name__ == "__main__":
-    sys.exit(main())
+    sys.exit(ended(faults, f"{', '.join(said)}: public items on {len(texts)} pages, {len(faults)} faults"))

@@ -3,9 +3,8 @@
     reader = Reader()
     reader.reached([reader.named("xmas_elf", "ElfFile::new")]): the definitions, each behind those that it uses
 
-A word is looked up by the `ghost use` lines of the function's file and impl block, and then by the `use` lines of
-the spec files. It leads to a definition of a spec file, to a type or a constant of the code, to a ghost member of a
-trait, or to a word of std, which isn't followed.
+A word is looked up by the `ghost use` lines of the function's file and impl block, and then by the `use` lines of the spec files. It
+leads to a definition there, to a type or a constant of the code, to a ghost member of a trait, or to a word of std, which isn't followed.
 """
 import dataclasses
 import re
@@ -174,17 +173,20 @@ class Reader:
                 yield found
 
     def used_by(self, one):
-        """The definitions that the words of a definition stand for."""
         return self.used(one.text, one.uses, self.spec(one.path) if one.path.suffix == ".antt" else {})
+
+    @staticmethod
+    def block(source, at: int) -> tuple:
+        """The text of the block in which a line stands, or none, and what the words there mean."""
+        block = source.block_at(at)
+        inside = "\n".join(source.lines[block.at : block.end]) if block else ""
+        return inside, uses_in("\n".join([*(line for line in source.lines if not line.startswith(" ")), inside]))
 
     def contract(self, source, one) -> tuple:
         """The text of a function's contract behind the head of its impl, what its words mean, its file and its line."""
-        block = source.block_at(one.named_at - 1)
-        outside = "\n".join(line for line in source.lines if not line.startswith(" "))
-        inside = "\n".join(source.lines[block.at : block.end]) if block else ""
+        inside, uses = self.block(source, one.named_at - 1)
         margin = re.match(" *", source.lines[one.named_at - 1])[0]
-        text = inside.split("{")[0] + "\n" + source.text_from(one.named_at - 1, margin)
-        return text, uses_in(outside + "\n" + inside), source.path, one.named_at
+        return inside.split("{")[0] + "\n" + source.text_from(one.named_at - 1, margin), uses, source.path, one.named_at
 
     def named(self, module: str, call: str) -> tuple:
         """The contract of a public call, `name` or `Type::name` of a module."""
@@ -193,13 +195,10 @@ class Reader:
 
     def ghosts(self, source):
         """The texts of the ghost members and fields of a source, and what their words mean."""
-        outside = "\n".join(line for line in source.lines if not line.startswith(" "))
         for at, line in enumerate(source.lines):
             if re.match(r"    ghost (?!use )", line):
-                block = source.block_at(at)
-                inside = "\n".join(source.lines[block.at : block.end]) if block else ""
                 end = next(it for it in range(at, len(source.lines)) if source.lines[it].endswith((";", ",", "}")))
-                yield "\n".join(source.lines[at : end + 1]), uses_in(outside + "\n" + inside)
+                yield "\n".join(source.lines[at : end + 1]), self.block(source, at)[1]
 
     def unreached(self, crates=LIBRARIES) -> list:
         """The definitions in the spec files of some crates to which no contract, ghost member or ghost field leads."""

@@ -63,12 +63,8 @@ def calls_by_error() -> dict[str, list[str]]:
     return {name: [call for call in docs if name in named[call]] for name in texts()}
 
 
-def main() -> int:
+if __name__ == "__main__":
     said = calls_by_error()
     failed = [f"{name}: {'returned by ' + ', '.join(calls) if calls else 'no call returns it'}"
               for name, calls in said.items() if bool(calls) == (name in UNUSED)]
-    return ended(failed, f"{len(said)} errors, {len(failed)} of which the docs of the calls don't say what they should")
-
-
-if __name__ == "__main__":
-    sys.exit(main())
+    sys.exit(ended(failed, f"{len(said)} errors, {len(failed)} of which the docs of the calls don't say what they should"))

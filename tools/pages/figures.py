@@ -68,7 +68,7 @@ def age(commit: str, command: str) -> str:
     return f"{count} commit{'' if count == 1 else 's'} since touched what it measures" if count else ""
 
 
-def main() -> int:
+if __name__ == "__main__":
     figures = warnings = 0
     for it in git("grep", "--untracked", "-nE", OTHER, "--", *PAGES).stdout.splitlines():
         place, line = re.match(r"(.*?:\d+):(.*)", it).groups()
@@ -81,8 +81,3 @@ def main() -> int:
             warnings += 1
             print(f"{place}: WARNING: no commit, command and machine in the form of tools/pages/figures.py: {line[:90]}")
     print(f"{figures} figures, {warnings} warnings")
-    return 0
-
-
-if __name__ == "__main__":
-    sys.exit(main())

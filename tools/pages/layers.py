@@ -24,7 +24,7 @@ LEFT_OUT = "Tests"
 SAID = """An arrow leads from a crate to each that it uses. The kit's crates and those of tests are left out. `tools/pages/layers.py` draws this from `crates.txt`."""
 
 
-def main() -> int:
+if __name__ == "__main__":
     text = PAGE.read_text(encoding="utf-8")
     if len(PLACE.findall(text)) != 1:
         sys.exit("CONTRIBUTING.md: no room between <!-- layers --> and <!-- /layers -->")
@@ -46,8 +46,4 @@ def main() -> int:
     lines += [f"  {name} --> {' & '.join(own)}" for name, own in used.items() if own]
     picture = "\n".join([SAID, "", *lines, "```"])
     faults = differing({PAGE: PLACE.sub(lambda _: picture, text)}, parser_of(__doc__).parse_args().check)
-    return ended(faults, f"CONTRIBUTING.md: the picture of the layers, {len(faults)} faults")
-
-
-if __name__ == "__main__":
-    sys.exit(main())
+    sys.exit(ended(faults, f"CONTRIBUTING.md: the picture of the layers, {len(faults)} faults"))

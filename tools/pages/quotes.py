@@ -1,14 +1,11 @@
 #!/usr/bin/env python3
-"""Wants each code block of the pages to stand in a file of the repository that the gate proves, and each
-link to lead somewhere.
+"""Wants each code block of the pages to stand in a file of the repository that the gate proves, and each link to lead somewhere.
 
-A block is told by its language, `rust` or `antt`. Its paragraphs must all stand in one source file of crates/, but for how their
-lines are broken. Of a paragraph of imports, `ghost use PATH.{NAME, NAME}`, the file must import each name by that path, and may
-import more. The pages of docs/api have a script of their own for their blocks.
-
-A link may name a heading of its page or of another, or a line of a file, as `specs/Text.antt#L12`. A path to a caller
-that a page names, as `callers::first::data_named`, must lead to one; without a crate before it, it is one of
-elf_callers. Each caller has a doc of its own, which says what it shows.
+The paragraphs of a block, `rust` or `antt`, must all stand in one source file of crates/, but for how their lines are broken. Of a
+paragraph of imports, `ghost use PATH.{NAME, NAME}`, the file must import each name by that path. The pages of docs/api have a script
+of their own for their blocks. A link may name a heading, or a line of a file, as `specs/Text.antt#L12`. A path to a caller that a page
+names, as `callers::first::data_named`, must lead to one; without a crate before it, it is one of elf_callers. Each caller has a doc of
+its own, which says what it shows.
 """
 import pathlib
 import re
@@ -53,7 +50,7 @@ def leads(page: pathlib.Path, link: str) -> bool:
     return inside in map(anchor, HEADING.findall(text))
 
 
-def main() -> int:
+if __name__ == "__main__":
     files = [it for it in ROOT.glob("crates/*/*/**/*") if it.suffix in ENDS.values() and "out" not in it.parts]
     texts = {it: one_line(it.read_text(encoding="utf-8")) for it in files}
     pages = [ROOT / "README.md", ROOT / "CONTRIBUTING.md", ROOT / "CALLING.md", *sorted((ROOT / "docs").rglob("*.md"))]
@@ -73,8 +70,4 @@ def main() -> int:
             parts = paragraphs(block)
             if not any(it.suffix == ENDS[language] and all(stands_in(part, text) for part in parts) for it, text in texts.items()):
                 faults.append(f"{name}: NOT QUOTED from one file: {parts[0][:90]}")
-    return ended(faults, f"{count} code blocks, {len(faults)} faults")
-
-
-if __name__ == "__main__":
-    sys.exit(main())
+    sys.exit(ended(faults, f"{count} code blocks, {len(faults)} faults"))

@@ -4,12 +4,9 @@
     tools/pages/reading.py            writes the definitions and the bytes into the page
     tools/pages/reading.py --check    fails where they aren't what the sources give; writes nothing
 
-Both print how many definitions the contracts of some calls lead to, and their lines, and fail where there are more than the
-call's bounds, and where no contract leads to a definition of a library's specs/.
-
-The page is written by hand but for two kinds of rooms. `<!-- read CRATE::MODULE CALL .. -->` takes the text of each definition that
-the clauses of these calls lead to (tools/pages/definitions.py), and a folded list of those that stand in a room above.
-`<!-- bytes FILE FIRST COUNT -->` takes bytes of a file of the repository in hexadecimal. A room ends with `<!-- end -->`.
+Both print how many definitions the contracts of some calls lead to, and fail where there are more than BOUNDS has, and where no
+contract leads to a definition of a library's specs/. `<!-- read CRATE::MODULE CALL .. -->` takes each definition that the clauses of
+these calls lead to, and links to those above; `<!-- bytes FILE FIRST COUNT -->` bytes of a file, up to `<!-- end -->`.
 """
 import pathlib
 import re
@@ -87,9 +84,8 @@ def bytes_of(named: str) -> str:
 
 
 def closures() -> int:
-    """Prints the definitions and the lines of each call beside its bounds, and each definition of the libraries to which no
-    contract leads, but for the names of types that other crates import; how many calls are above their bounds, and how many
-    such definitions there are."""
+    """Prints the definitions and the lines of each call beside its bounds, and each definition of the libraries to which no contract
+    leads, but for the names of types that other crates import; how many are above their bounds or led to by none."""
     reader, above = Reader(), 0
     for one in (it for it in reader.unreached() if it.path.name != "Types.antt"):
         above += 1
@@ -103,13 +99,9 @@ def closures() -> int:
     return above
 
 
-def main() -> int:
+if __name__ == "__main__":
     given, lists, text = parser_of(__doc__).parse_args(), Lists(), PAGE.read_text(encoding="utf-8")
     wanted = ROOM.sub(lambda room: room[1] + (lists.read(room[3]) if room[2] == "read" else bytes_of(room[3])) + room[4], text)
     faults = differing({PAGE: wanted}, given.check)
     status = ended(faults, f"docs/READING.md: {len(ROOM.findall(text))} rooms, {len(lists.above)} definitions, {len(faults)} faults")
-    return 1 if closures() else status
-
-
-if __name__ == "__main__":
-    sys.exit(main())
+    sys.exit(1 if closures() else status)

@@ -4,10 +4,8 @@
     for path, item in public_items(sources, "elf_base"):    path, item.kind, item.name, item.doc, item.text
     Crate(ROOT / "crates" / "elf_base").functions           each with its file, its lines and the path by which a check names it
 
-Also what scripts share that write files from the sources, and with --check compare them.
-
-An item begins at the left margin, a method four blanks further in, and the brace of a body stands alone on its line
-where a function has clauses.
+An item begins at the left margin, a method four blanks further in, and the brace of a body stands alone on its line where a function
+has clauses. Also what scripts share that write files from the sources, and with --check compare them.
 """
 import argparse
 import collections

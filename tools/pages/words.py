@@ -35,7 +35,7 @@ PARTS = (
 )
 
 
-def main() -> int:
+if __name__ == "__main__":
     pages = [it for names in PAGES for it in sorted(ROOT.glob(names)) if not OTHERS & set(it.relative_to(ROOT).parts)]
     sources = sorted([*ROOT.glob("crates/*/specs/**/*.antt"), *ROOT.glob("crates/*/src/**/*.rt"), ROOT / "bindings/exports.toml"])
     texts = []
@@ -50,8 +50,4 @@ def main() -> int:
         texts.append((path, "\n".join(re.sub(r"`[^`]*`", "", line[1] or line[2] or "") if line else "" for line in lines)))
     found = [f"{path.relative_to(ROOT)}:{number}: {word[0]}" for path, text in texts
              for number, line in enumerate(text.splitlines(), 1) for word in WORDS.finditer(line)]
-    return ended(found, f"{len(found)} of the words on {len(pages)} pages and in comments")
-
-
-if __name__ == "__main__":
-    sys.exit(main())
+    sys.exit(ended(found, f"{len(found)} of the words on {len(pages)} pages and in comments"))
