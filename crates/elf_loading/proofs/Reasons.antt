@@ -1,10 +1,10 @@
 -- A file passes exactly if no reason of one list applies.
-use Rattle.std.proofs.Common.{◌≡◌, ◌==◌, ℕ, Bool, true, false, List, [], ◌∷◌, ◌++◌, length, Option, Some, None, ok_or, Result, Ok, Err, if◌then◌else◌, refl, sym, ap, subst, ◌∙◌}
+use Rattle.std.proofs.Common.{◌≡◌, ℕ, Bool, true, false, List, [], ◌∷◌, ◌++◌, length, Option, Some, None, ok_or, Result, Ok, Err, if◌then◌else◌, refl, sym, ap, subst, ◌∙◌}
 use Rattle.std.specs.Prelude.{IsOk}
 use Rattle.elf_base.specs.Refusal.{and_then, unless}
 use Rattle.xmas_elf.specs.Types.{ElfFile}
 use Rattle.elf_loading.specs.Types.{LoadError, Segment}
-use Rattle.elf_loading.specs.FileCheck.{NoneApplies, all_rows, check_file, header_rows, segment_rows}
+use Rattle.elf_loading.specs.FileCheck.{NoneApplies, all_rows, check_file, has_no_load, header_rows, segment_rows}
 use Rattle.elf_loading.specs.LoadCheck.{check_load, check_loads, load_end, load_rows, loads_rows}
 use Rattle.elf_loading.specs.Segments.{loads_of}
 use Rattle.elf_loading.specs.Spans.{last_end}
@@ -49,10 +49,10 @@ module _ (page limit len : ℕ) where
 
 module _ (file : ElfFile) (page limit : ℕ) where
   abbrev rest_rows : List (Bool × LoadError)
-  rest_rows = (length (loads_of file) == 0, error.NoLoad) ∷ segment_rows file page
+  rest_rows = (has_no_load (loads_of file), error.NoLoad) ∷ segment_rows file page
 
   last_by : (loads : List Segment) → and_then (ok_or (end_after page None loads) error.NoLoad) (λ end. and_then (unless (segment_rows file page) (tt {0})) (λ passed. Ok end))
-      ≡ unless ((length loads == 0, error.NoLoad) ∷ segment_rows file page) (last_end page 0 loads)
+      ≡ unless ((has_no_load loads, error.NoLoad) ∷ segment_rows file page) (last_end page 0 loads)
   last_by [] = refl
   last_by (load ∷ loads) = sym (value_is (segment_rows file page) (last_end page (load_end page load) loads))
 

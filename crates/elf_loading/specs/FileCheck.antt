@@ -95,12 +95,17 @@ check_file file page limit =
     and_then (ok_or last error.NoLoad) (λ end.
     and_then (unless (segment_rows file page) (tt {0})) (λ passed. Ok end))))
 
+-- there is no load
+abbrev pub has_no_load : List Segment → Bool
+has_no_load [] = true
+has_no_load (load ∷ loads) = false
+
 -- all reasons why a file can't be loaded, in order: those of its header, of each load, that there is no load, and
 -- those of its other segments
 abbrev pub all_rows : ElfFile → ℕ → ℕ → List (Bool × LoadError)
 all_rows file page limit = header_rows file page
     ++ (loads_rows page limit (length file.input.now) None (loads_of file)
-    ++ ((length (loads_of file) == 0, error.NoLoad) ∷ segment_rows file page))
+    ++ ((has_no_load (loads_of file), error.NoLoad) ∷ segment_rows file page))
 
 -- no reason of a list applies
 abbrev pub NoneApplies : List (Bool × LoadError) → Type 0

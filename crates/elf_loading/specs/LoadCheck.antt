@@ -1,10 +1,9 @@
 -- Why a load can't be mapped, as Linux and glibc decide it (this project's own list).
-use Rattle.std.specs.Prelude.{ℕ, ◌+◌, ◌%◌, ◌==◌, ◌&&◌, ◌||◌, not, nat_le, nat_lt, Bool, List, [], ◌∷◌, ◌++◌, Option, Some, is_none, unwrap_or, Result, Ok}
+use Rattle.std.specs.Prelude.{ℕ, ◌+◌, ◌%◌, ◌==◌, ◌&&◌, ◌||◌, bit_and, not, nat_le, nat_lt, Bool, List, [], ◌∷◌, ◌++◌, Option, Some, is_none, unwrap_or, Result, Ok}
 use Rattle.std.specs.Int.{is_power_of_two}
 use Rattle.elf_base.specs.Refusal.{and_then, unless}
 use Rattle.elf_loading.specs.Types.{LoadError, Segment}
 use Rattle.elf_loading.specs.Pages.{down, up}
-use Rattle.elf_loading.specs.Segments.{has_flag}
 use Rattle.elf_loading.specs.declared.error.LoadError.TheVariants as error
 
 -- the first page of a load
@@ -40,7 +39,7 @@ is_past_data page len load = nat_lt len (load.offset + load.file_size)
 
 -- a load has zeros after its bytes, and is not both readable and writable (PF_R, PF_W)
 abbrev pub has_shut_zeros : Segment → Bool
-has_shut_zeros load = nat_lt load.file_size load.mem_size && not (has_flag 6 load)
+has_shut_zeros load = nat_lt load.file_size load.mem_size && not (bit_and load.flags.0 6 == 6)
 
 -- the reasons why a load can't be mapped, in order; `before` is the end of the load before it
 abbrev pub load_rows : ℕ → ℕ → ℕ → Option ℕ → Segment → List (Bool × LoadError)

@@ -32,10 +32,13 @@ fn check<T: PartialEq + Debug + Display + Copy>(
     found: Result<T, ElfError>,
     wanted: Result<(T, &str), ElfError>,
 ) -> Result<(), Fail> {
-    want_at(rt, number, found, wanted.map(|wanted| wanted.0));
-    if let Ok((meaning, text)) = wanted {
-        let printed = format!(in rt.alloc(); "{meaning}")?;
-        want(rt, printed.as_str(), text);
+    match wanted {
+        Ok((meaning, text)) => {
+            want_at(rt, number, found, Ok(meaning));
+            let printed = format!(in rt.alloc(); "{meaning}")?;
+            want(rt, printed.as_str(), text);
+        }
+        Err(error) => want_at(rt, number, found, Err(error)),
     }
     Ok(())
 }

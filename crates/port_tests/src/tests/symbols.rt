@@ -217,6 +217,24 @@ fn reads_symbols_of_ones_own(rt: HostRuntime) -> Result<(), ElfError> {
     Ok(())
 }
 
+// The name of a symbol of a table by the file.
+fn name_by_file<'a, E: Entry + Record>(
+    table: Table<'a, E>,
+    file: &ElfFile<'a>,
+    index: usize,
+) -> Option<Result<&'a str, ElfError>> {
+    SymbolTable::new(table, file).name(index)
+}
+
+// The same in these strings.
+fn name_by_strings<'a, E: Entry + Record>(
+    table: Table<'a, E>,
+    strings: &'a [u8],
+    index: usize,
+) -> Option<Result<&'a str, ElfError>> {
+    SymbolTable::with_strings(table, strings).name(index)
+}
+
 // Their names are in no string table of the file; in strings each has the name at 0.
 #[test]
 fn a_table_names_symbols_of_ones_own(rt: HostRuntime) -> Result<(), ElfError> {
@@ -224,12 +242,12 @@ fn a_table_names_symbols_of_ones_own(rt: HostRuntime) -> Result<(), ElfError> {
     let file = open(&rt, &bytes);
     let own = *OWN;
     let table = Table::<Numbered>::new(&own, Order::Big)?;
-    let by_file = SymbolTable::new(table, &file);
-    let by_strings = SymbolTable::with_strings(table, b"one\0two\0");
     for (index, &name) in OWN_NAMES.iter().enumerate() {
-        want_at(&rt, index, by_file.name(index), Some(name));
-        want_at(&rt, index, by_strings.name(index), Some(Ok("one")));
+        want_at(&rt, index, name_by_file(table, &file, index), Some(name));
+        let by_strings = name_by_strings(table, b"one\0two\0", index);
+        want_at(&rt, index, by_strings, Some(Ok("one")));
     }
-    want(&rt, (by_file.name(3), by_strings.name(3)), (None, None));
+    want(&rt, name_by_file(table, &file, 3), None);
+    want(&rt, name_by_strings(table, b"one\0two\0", 3), None);
     Ok(())
 }
