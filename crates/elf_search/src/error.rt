@@ -49,32 +49,12 @@ pub enum SearchError {
     CacheCount,
     /// The cache is of another byte order. Returned by `Cache::read`.
     CacheOrder,
+    /// The file of a need of versions is no object, and no missing one. Returned by the items of
+    /// `missing_versions`.
+    NoProvider,
     /// A part of the file can't be read.
     Link(LinkError),
 }
-
-// All errors but those in `Link`.
-const ERRORS: [SearchError; 19] = [
-    SearchError::FileData,
-    SearchError::ShortFile,
-    SearchError::Magic,
-    SearchError::ByteOrder,
-    SearchError::IdentVersion,
-    SearchError::OsAbi,
-    SearchError::AbiVersion,
-    SearchError::Padding,
-    SearchError::Version,
-    SearchError::Type,
-    SearchError::EntrySize,
-    SearchError::NoLoad,
-    SearchError::Executable,
-    SearchError::NoDynamic,
-    SearchError::SharedExecutable,
-    SearchError::EmptyToken,
-    SearchError::NotACache,
-    SearchError::CacheCount,
-    SearchError::CacheOrder,
-];
 
 impl SearchError {
     ghost use Rattle.elf_search.specs.declared.error.SearchError.{SearchError};
@@ -101,13 +81,29 @@ impl SearchError {
         ensures only { (error : SearchError) → search_number error ≡ number → 500 < number
             → result ≡ Some error }
     {
-        if number <= 500 {
-            return None;
+        match number {
+            501 => Some(SearchError::FileData),
+            502 => Some(SearchError::ShortFile),
+            503 => Some(SearchError::Magic),
+            504 => Some(SearchError::ByteOrder),
+            505 => Some(SearchError::IdentVersion),
+            506 => Some(SearchError::OsAbi),
+            507 => Some(SearchError::AbiVersion),
+            508 => Some(SearchError::Padding),
+            509 => Some(SearchError::Version),
+            510 => Some(SearchError::Type),
+            511 => Some(SearchError::EntrySize),
+            512 => Some(SearchError::NoLoad),
+            513 => Some(SearchError::Executable),
+            514 => Some(SearchError::NoDynamic),
+            515 => Some(SearchError::SharedExecutable),
+            516 => Some(SearchError::EmptyToken),
+            517 => Some(SearchError::NotACache),
+            518 => Some(SearchError::CacheCount),
+            519 => Some(SearchError::CacheOrder),
+            530 => Some(SearchError::NoProvider),
+            _ => None,
         }
-        ERRORS
-            .iter()
-            .find(|error| error.number() == number)
-            .copied()
     }
 
     // The number and the text.
@@ -120,10 +116,7 @@ impl SearchError {
             SearchError::ShortFile => (502, "file too short"),
             SearchError::Magic => (503, "invalid ELF header"),
             SearchError::ByteOrder => (504, "ELF file data encoding not little-endian"),
-            SearchError::IdentVersion => (
-                505,
-                "ELF file version ident does not match current one",
-            ),
+            SearchError::IdentVersion => (505, "ELF file version ident does not match current one"),
             SearchError::OsAbi => (506, "ELF file OS ABI invalid"),
             SearchError::AbiVersion => (507, "ELF file ABI version invalid"),
             SearchError::Padding => (508, "nonzero padding in e_ident"),
@@ -141,6 +134,7 @@ impl SearchError {
             SearchError::NotACache => (517, "not a cache of libraries"),
             SearchError::CacheCount => (518, "entries extend past the end of the cache"),
             SearchError::CacheOrder => (519, "cache is of another byte order"),
+            SearchError::NoProvider => (530, "file of a need of versions is no object"),
             SearchError::Link(error) => (error.number(), error.message()),
         }
     }

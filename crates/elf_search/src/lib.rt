@@ -6,11 +6,9 @@
 #![tactic(auto)]
 
 pub mod cache;
-pub mod candidates;
 pub mod error;
-pub mod fits;
+pub mod library;
 pub mod names;
 pub mod order;
-pub mod versions;
 
 pub use crate::error::SearchError;
