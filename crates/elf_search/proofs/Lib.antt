@@ -1,2 +1,4 @@
 pub mod NameEntries
 pub mod SegmentSearch
+pub mod TokenSteps
+pub mod VersionSteps

@@ -10,5 +10,7 @@ pub mod error;
 pub mod library;
 pub mod names;
 pub mod order;
+pub mod tokens;
+pub mod versions;
 
 pub use crate::error::SearchError;
