@@ -6,11 +6,17 @@
 #![tactic(auto)]
 
 pub mod cache;
+pub mod candidates;
+mod elements;
 pub mod error;
+pub mod fits;
 pub mod library;
+mod lists;
 pub mod names;
 pub mod order;
+mod paths;
 pub mod tokens;
 pub mod versions;
 
 pub use crate::error::SearchError;
+pub use crate::paths::PathBytes;
