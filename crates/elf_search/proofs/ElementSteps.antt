@@ -1,8 +1,8 @@
 -- The pieces of a text, one after the other.
-use Rattle.std.proofs.Common.{◌≡◌, ◌≢◌, ℕ, zero, suc, ◌+◌, ◌-◌, ◌<◌, ◌≤◌, ◌==◌, Bool, List, [], ◌∷◌, true, false, length, drop, take, Option, Some, None, if◌then◌else◌, refl, ap, ◌∙◌, sym, arith, subst}
+use Rattle.std.proofs.Common.{◌≡◌, ◌≢◌, ℕ, zero, suc, ◌+◌, ◌-◌, ◌<◌, ◌==◌, Bool, List, [], ◌∷◌, true, false, length, drop, take, Some, None, if◌then◌else◌, refl, ap, ◌∙◌, sym, arith}
 use Rattle.std.proofs.lemmas.Bool.{eq-eqb, eqb-false, eqb-true, ne_eqb}
 use Rattle.std.specs.Prelude.{slice_get}
-use Rattle.elf_search.specs.Elements.{first_end, in_front, is_end, pieces_of}
+use Rattle.elf_search.specs.Elements.{first_end, is_end, pieces_of}
 
 pub end_none : (separators text : List ℕ) → text ≡ [] → first_end separators text ≡ 0
 end_none separators text is = ap (first_end separators) is

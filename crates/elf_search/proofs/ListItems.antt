@@ -1,5 +1,5 @@
 -- Items of a list at an index, and the items before and behind it.
-use Rattle.std.proofs.Common.{◌≡◌, ℕ, zero, suc, ◌+◌, ◌<◌, ◌≤◌, ◌++◌, Bool, List, [], ◌∷◌, true, false, length, drop, take, Option, Some, None, refl, ap, ◌∙◌, sym, arith, add-one, subst}
+use Rattle.std.proofs.Common.{◌≡◌, ℕ, zero, suc, ◌+◌, ◌<◌, ◌++◌, Bool, List, [], ◌∷◌, true, false, length, drop, take, Some, None, refl, ap, ◌∙◌, sym, arith, add-one, subst}
 use Rattle.std.specs.List.{list_any}
 use Rattle.std.specs.Prelude.{◌||◌, slice_get}
 

@@ -7,7 +7,7 @@ use Rattle.std.specs.List.{list_any}
 use Rattle.std.specs.Prelude.{codes, slice_get}
 use Rattle.elf_search.specs.Elements.{elements_of}
 use Rattle.elf_search.specs.Candidates.{AskedParts, AskerParts, all_candidates, asked_parts, asker_parts, candidate_at, first_how, first_rpath, has_run_path, has_slash, is_under, left_from, later_lists, list_of, lists_behind, lists_of, next_how, r_path_lists, rest_of_elements, rest_of_list}
-use Rattle.elf_search.specs.Lists.{CandidateParts, ListParts, are_same, candidate_in, candidates_among, candidates_behind, candidates_in, candidates_of, elements_in, is_kept, is_repeated, repeats_at}
+use Rattle.elf_search.specs.Lists.{CandidateParts, ListParts, are_same, candidate_in, candidates_among, candidates_behind, candidates_of, elements_in, is_kept, is_repeated, repeats_at}
 use Rattle.elf_search.proofs.ListItems.{any_at, any_behind, any_here, any_more, any_past, drop_last, drop_none, drop_some, take_some}
 use Rattle.elf_search.specs.declared.candidates.Asker.{Asker}
 use Rattle.elf_search.specs.declared.candidates.Candidates.{Candidates}

@@ -1,11 +1,11 @@
 -- The names that an object asks for and the last entry of a tag, entry by entry.
-use Rattle.std.proofs.Common.{◌≡◌, ◌≢◌, ℕ, ◌==◌, List, [], ◌∷◌, Option, Some, None, Result, if◌then◌else◌, refl, ap, ◌∙◌}
+use Rattle.std.proofs.Common.{◌≡◌, ◌≢◌, ℕ, List, [], ◌∷◌, Option, Some, None, Result, refl, ap, ◌∙◌}
 use Rattle.std.proofs.lemmas.Bool.{eq-eqb, ne_eqb}
 use Rattle.elf_linking.specs.DynamicView.{bytes_in_strings}
 use Rattle.elf_linking.specs.declared.error.LinkError.{LinkError}
 use Rattle.elf_records.specs.Dynamic.{dynamic_tag, dynamic_value}
 use Rattle.elf_records.specs.declared.dynamic.Dynamic.{Dynamic}
-use Rattle.elf_search.specs.Names.{NameParts, behind_name, kind_of, last_number, names_in}
+use Rattle.elf_search.specs.Names.{behind_name, kind_of, last_number, names_in}
 use Rattle.elf_search.specs.declared.names.NameKind.{NameKind}
 
 pub names_none : (strings : Result (List ℕ) LinkError) (entries : List (Dynamic ℕ)) → entries ≡ [] → names_in strings entries ≡ []

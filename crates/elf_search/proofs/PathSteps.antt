@@ -1,10 +1,8 @@
 -- Directories and paths, byte by byte.
-use Rattle.std.proofs.Common.{◌≡◌, ◌≢◌, ℕ, ◌==◌, ◌&&◌, ◌++◌, Bool, List, [], ◌∷◌, true, false, if◌then◌else◌, nat_eq, refl, ap, ◌∙◌, sym}
+use Rattle.std.proofs.Common.{◌≡◌, ◌≢◌, ℕ, ◌==◌, ◌&&◌, Bool, List, [], ◌∷◌, true, false, if◌then◌else◌, nat_eq, refl, ap, ◌∙◌, sym}
 use Rattle.std.proofs.lemmas.Bool.{eq-eqb, ne_eqb}
 use Rattle.std.specs.Cmp.Lexicographic.{pointwise}
-use Rattle.elf_search.specs.Paths.{are_slashes, as_directory, directory_left, is_empty, with_slash}
-use Rattle.elf_search.specs.Tokens.{expanded_left}
-use Rattle.elf_search.specs.declared.paths.DirectoryBytes.{DirectoryBytes}
+use Rattle.elf_search.specs.Paths.{are_slashes, as_directory, is_empty, with_slash}
 
 pub slashes_end : (bytes : List ℕ) → bytes ≡ [] → are_slashes bytes ≡ true
 slashes_end bytes is = ap are_slashes is

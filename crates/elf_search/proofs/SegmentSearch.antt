@@ -1,9 +1,8 @@
 -- Searches among segments, segment by segment.
-use Rattle.std.proofs.Common.{◌≡◌, ◌≢◌, ℕ, ◌==◌, List, [], ◌∷◌, true, false, if◌then◌else◌, is_some, refl, ap, ◌∙◌}
+use Rattle.std.proofs.Common.{◌≡◌, ◌≢◌, ℕ, List, [], ◌∷◌, true, false, if◌then◌else◌, refl, ap, ◌∙◌}
 use Rattle.std.proofs.lemmas.Bool.{eq-eqb, ne_eqb}
-use Rattle.std.specs.List.{find}
 use Rattle.elf_linking.specs.declared.segments.Segment.{Segment}
-use Rattle.elf_search.specs.Library.{dynamic_address, has_load, is_dynamic_with_bytes, is_load}
+use Rattle.elf_search.specs.Library.{dynamic_address, has_load, is_dynamic_with_bytes}
 
 pub load_none : (segments : List Segment) → segments ≡ [] → has_load segments ≡ false
 load_none segments is = ap has_load is

@@ -1,7 +1,7 @@
 -- Tokens at the front of a text, and texts with their tokens replaced, byte by byte.
-use Rattle.std.proofs.Common.{◌≡◌, ◌≢◌, ℕ, zero, suc, ◌+◌, ◌≤◌, ◌==◌, List, [], ◌∷◌, ◌++◌, Option, Some, None, true, false, length, drop, if◌then◌else◌, refl, ap, arith, ◌∙◌, sym}
+use Rattle.std.proofs.Common.{◌≡◌, ◌≢◌, ℕ, zero, suc, List, [], ◌∷◌, ◌++◌, Some, None, true, false, length, drop, refl, ap, arith, ◌∙◌, sym}
 use Rattle.std.proofs.lemmas.Bool.{eq-eqb, ne_eqb}
-use Rattle.elf_search.specs.Tokens.{TokenParts, Values, at_dollar, begins_with_closed, begins_with_word, is_known, is_unknown_at, replaced, token_at, token_length, value_of}
+use Rattle.elf_search.specs.Tokens.{TokenParts, Values, is_known, is_unknown_at, replaced, token_at, token_length, value_of}
 
 pub length_none : (text name : List ℕ) → text ≡ [] → token_length text name ≡ 0
 length_none text name is = ap (λ xs. token_length xs name) is

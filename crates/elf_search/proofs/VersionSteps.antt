@@ -1,15 +1,14 @@
 -- Definitions, providers and needs, one after the other.
-use Rattle.std.proofs.Common.{◌≡◌, ◌≢◌, ℕ, ◌+◌, ◌<◌, ◌≤◌, ◌==◌, Bool, List, [], ◌∷◌, true, false, drop, get_or, length, map, Option, Some, None, Result, Ok, Err, if◌then◌else◌, refl, ap, sym, ◌∙◌}
+use Rattle.std.proofs.Common.{◌≡◌, ◌≢◌, ℕ, ◌+◌, ◌<◌, ◌≤◌, List, [], ◌∷◌, true, false, drop, get_or, length, map, Some, None, Result, Ok, Err, if◌then◌else◌, refl, ap, sym, ◌∙◌}
 use Rattle.std.proofs.lemmas.Bool.{eq-eqb, ne_eqb}
 use Rattle.std.proofs.lemmas.List.{drop_all, drop_more}
 use Rattle.std.specs.Borrow.{Bor}
 use Rattle.std.specs.Cmp.Lexicographic.{pointwise}
 use Rattle.std.specs.Prelude.{nat_eq}
 use Rattle.std.specs.Str.{bytes_eq}
-use Rattle.elf_base.specs.Refusal.{and_then}
 use Rattle.elf_linking.specs.VersionTables.{DefinitionParts, NeedParts}
 use Rattle.elf_linking.specs.declared.error.LinkError.{LinkError}
-use Rattle.elf_search.specs.MissingVersions.{MissingParts, ProviderParts, ProvidedParts, behind_missing, defines, has_bytes, has_name, missing_in, missing_of, provider_parts, provider_with}
+use Rattle.elf_search.specs.MissingVersions.{MissingParts, ProviderParts, behind_missing, defines, has_bytes, has_name, missing_in, missing_of, provider_parts, provider_with}
 use Rattle.elf_search.specs.declared.error.SearchError.{SearchError}
 use Rattle.elf_search.specs.declared.error.SearchError.TheVariants as fault
 use Rattle.elf_search.specs.declared.versions.Provider.{Provider}

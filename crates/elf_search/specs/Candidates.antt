@@ -1,9 +1,9 @@
 -- The paths at which the loader looks for a library, in order (`ld.so`'s manual page: DT_RPATH, LD_LIBRARY_PATH, DT_RUNPATH,
 -- the cache, the default directories; what each list depends on, as in glibc 2.36).
-use Rattle.std.specs.Prelude.{ℕ, zero, suc, ◌+◌, ◌-◌, ◌==◌, ◌&&◌, not, true, false, nat_eq, nat_lt, Bool, List, [], ◌∷◌, ◌++◌, codes, drop, is_some, length, map, Option, None, Some, option_map, slice_get, slice_index, take, unwrap_or, if◌then◌else◌}
+use Rattle.std.specs.Prelude.{ℕ, ◌+◌, ◌-◌, ◌==◌, ◌&&◌, true, false, nat_eq, nat_lt, Bool, List, [], ◌∷◌, ◌++◌, codes, drop, is_some, length, map, Option, None, Some, option_map, slice_get, slice_index, take, unwrap_or, if◌then◌else◌}
 use Rattle.std.specs.List.{list_any, range_with_len, starts_with}
 use Rattle.elf_search.specs.Elements.{elements_of}
-use Rattle.elf_search.specs.Lists.{CandidateParts, ListParts, candidate_in, candidates_among, candidates_behind, candidates_of, elements_in, is_kept}
+use Rattle.elf_search.specs.Lists.{CandidateParts, ListParts, candidates_among, candidates_behind, candidates_of, elements_in, is_kept}
 use Rattle.elf_search.specs.Tokens.{Values, values_of}
 use Rattle.elf_search.specs.declared.candidates.Asked.{Asked}
 use Rattle.elf_search.specs.declared.candidates.Asker.{Asker}
@@ -12,7 +12,6 @@ use Rattle.elf_search.specs.declared.candidates.Place.{Place}
 use Rattle.elf_search.specs.declared.candidates.Surroundings.{Surroundings}
 use Rattle.elf_search.specs.declared.lists.How.{How}
 use Rattle.elf_search.specs.declared.lists.How.TheVariants as how
-use Rattle.std.specs.Borrow.{Bor}
 
 -- what an object says about the search: its DT_RPATH and DT_RUNPATH, the values of its tokens, and whether it wants no
 -- default directories

@@ -1,6 +1,6 @@
 -- The elements of a list of directories (`ld.so`'s manual page, LD_LIBRARY_PATH and DT_RUNPATH: colons, and semicolons of the
 -- environment; that an empty list has no element, as in glibc 2.36).
-use Rattle.std.specs.Prelude.{ℕ, zero, suc, ◌+◌, ◌==◌, nat_eq, Bool, List, [], ◌∷◌, length, if◌then◌else◌}
+use Rattle.std.specs.Prelude.{ℕ, suc, ◌==◌, nat_eq, Bool, List, [], ◌∷◌, length, if◌then◌else◌}
 use Rattle.std.specs.List.{list_any}
 
 -- a byte ends an element

@@ -1,4 +1,4 @@
-use Rattle.std.proofs.Common.{◌≡◌, ◌+◌, ◌∙◌, Some, None, arith, false, length, rules, sym, true}
+use Rattle.std.proofs.Common.{◌≡◌, ◌+◌, ◌∙◌, None, arith, false, length, rules, sym, true}
 use Rattle.std.proofs.lemmas.Grind.{common_steps}
 use Rattle.std.specs.Prelude.{codes, slice_get}
 use Rattle.elf_search.specs.Candidates.{is_under}

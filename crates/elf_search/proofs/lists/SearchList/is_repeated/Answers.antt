@@ -1,4 +1,4 @@
-use Rattle.std.proofs.Common.{◌≡◌, ◌∙◌, arith, false, rules, sym, true}
+use Rattle.std.proofs.Common.{◌≡◌, arith, false, rules, sym, true}
 use Rattle.std.proofs.lemmas.Grind.{common_steps}
 use Rattle.elf_search.specs.Lists.{list_parts, repeats_at}
 use Rattle.elf_search.proofs.ListSteps.{repeated_hit, repeated_more}
