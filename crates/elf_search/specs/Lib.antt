@@ -1,0 +1,10 @@
+pub mod Message
+pub mod Fits
+pub mod Names
+pub mod Library
+pub mod Tokens
+pub mod Paths
+pub mod Elements
+pub mod Lists
+pub mod Candidates
+pub mod MissingVersions
