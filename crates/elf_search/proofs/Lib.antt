@@ -1,2 +1,5 @@
 pub mod NameEntries
 pub mod SegmentSearch
+pub mod NamePieces
+pub mod CacheRuns
+pub mod CacheSearch

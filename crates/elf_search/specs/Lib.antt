@@ -1,3 +1,5 @@
 pub mod Message
 pub mod Names
 pub mod Library
+pub mod Pieces
+pub mod Cache
