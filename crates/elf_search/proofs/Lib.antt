@@ -3,3 +3,6 @@ pub mod SegmentSearch
 pub mod NamePieces
 pub mod CacheRuns
 pub mod CacheSearch
+pub mod LoadOrders
+pub mod PlainOrders
+pub mod Starting

@@ -10,5 +10,6 @@ pub mod error;
 pub mod library;
 pub mod names;
 pub mod order;
+pub mod start;
 
 pub use crate::error::SearchError;
