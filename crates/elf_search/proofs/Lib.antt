@@ -6,3 +6,5 @@ pub mod CacheSearch
 pub mod LoadOrders
 pub mod PlainOrders
 pub mod Starting
+pub mod TokenSteps
+pub mod VersionSteps

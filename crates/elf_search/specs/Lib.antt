@@ -6,3 +6,5 @@ pub mod Cache
 pub mod LoadOrder
 pub mod Order
 pub mod Starts
+pub mod Tokens
+pub mod MissingVersions

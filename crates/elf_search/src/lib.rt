@@ -11,5 +11,7 @@ pub mod library;
 pub mod names;
 pub mod order;
 pub mod start;
+pub mod tokens;
+pub mod versions;
 
 pub use crate::error::SearchError;
