@@ -26,6 +26,8 @@ search_row error.EmptyToken = (516, codes "empty dynamic string token substituti
 search_row error.NotACache = (517, codes "not a cache of libraries")
 search_row error.CacheCount = (518, codes "entries extend past the end of the cache")
 search_row error.CacheOrder = (519, codes "cache is of another byte order")
+search_row error.FewWords = (520, codes "lent words are too few")
+search_row error.NoObject = (521, codes "no such object or entry")
 search_row error.NoProvider = (530, codes "file of a need of versions is no object")
 search_row (error.Link e) = (link_number e, link_message e)
 

@@ -49,6 +49,12 @@ pub enum SearchError {
     CacheCount,
     /// The cache is of another byte order. Returned by `Cache::read`.
     CacheOrder,
+    /// The words that are lent for a list of objects, or for their order, are too few. Returned by
+    /// `Order::new`, `add` and `add_before`, and by `start_order`.
+    FewWords,
+    /// No object has the number, or no entry is asked for. Returned by `Order::found`, `found_before`,
+    /// `add` and `add_before`.
+    NoObject,
     /// The file of a need of versions is no object, and no missing one. Returned by the items of
     /// `missing_versions`.
     NoProvider,
@@ -101,6 +107,8 @@ impl SearchError {
             517 => Some(SearchError::NotACache),
             518 => Some(SearchError::CacheCount),
             519 => Some(SearchError::CacheOrder),
+            520 => Some(SearchError::FewWords),
+            521 => Some(SearchError::NoObject),
             530 => Some(SearchError::NoProvider),
             _ => None,
         }
@@ -134,6 +142,8 @@ impl SearchError {
             SearchError::NotACache => (517, "not a cache of libraries"),
             SearchError::CacheCount => (518, "entries extend past the end of the cache"),
             SearchError::CacheOrder => (519, "cache is of another byte order"),
+            SearchError::FewWords => (520, "lent words are too few"),
+            SearchError::NoObject => (521, "no such object or entry"),
             SearchError::NoProvider => (530, "file of a need of versions is no object"),
             SearchError::Link(error) => (error.number(), error.message()),
         }

@@ -15,6 +15,7 @@ mod lists;
 pub mod names;
 pub mod order;
 mod paths;
+pub mod start;
 pub mod tokens;
 pub mod versions;
 
