@@ -13,7 +13,8 @@ this cache. A program that misses nothing is also run, for the order of initiali
 
 The model of searching.py is compared too, or with --model alone. Where elftree differs, the line says what the model has: if that
 is as ld.so's, the fault is elftree's, and else the rules are others. Where ld.so crashes or trips over an assertion of its own,
-the tree is counted, and not compared. The exit status is 1 if something differs.
+the tree is counted, and not compared. The exit status is 1 if something differs. On another machine than x86-64 the
+script says so, and passes.
 """
 import os
 import pathlib
@@ -287,6 +288,9 @@ def main() -> int:
     given = parser.parse_args()
     tally, elftree = Tally("elftree"), None if given.model else given.elftree
     machines = {number: machine_of(it) for number, it in LINKERS.items() if os.path.exists(it)}
+    if 62 not in machines:
+        print("0 files, 0 differences: there is no ld.so for x86-64 here")
+        return 0
     cache = Cache(pathlib.Path("/etc/ld.so.cache").read_bytes())
     for path in filter(read_elf, files_of(given.files)):
         compare_file(path, machines, elftree, cache, tally)

@@ -1,6 +1,7 @@
 """A model of how ld.so of glibc 2.36 finds the libraries of a program (x86-64 and 386), with its own reading of ELF files and of
 ld.so.cache. Texts are Python's, with the bytes that aren't UTF-8 as surrogates."""
 import functools
+import itertools
 import mmap
 import os
 import re
@@ -59,18 +60,13 @@ class Elf:
 
     def __init__(self, content: bytes):
         self.content, wide = content, content[4] == 2
-        place, count = (struct.unpack_from(form, content, at)[0] for form, at in (("<Q", 32), ("<H", 56)) if wide) if wide else (
-            struct.unpack_from("<I", content, 28)[0], struct.unpack_from("<H", content, 44)[0])
+        place, count = struct.unpack_from("<Q16xH" if wide else "<I12xH", content, 32 if wide else 28)
         self.kind = struct.unpack_from("<H", content, 16)[0]
         self.segments = [struct.unpack_from("<I4xQQ8xQ" if wide else "<IIIxxxxI", content, place + at * (56 if wide else 32)) for at in range(count)]
         dynamic = next(((address, size) for kind, _, address, size in self.segments if kind == 2), None)
-        self.is_dynamic, self.entries = dynamic is not None, []
-        step, form = (16, "<QQ") if wide else (8, "<II")
-        for at in range(0, (dynamic or (0, 0))[1] - step + 1, step):
-            tag, value = struct.unpack_from(form, content, self.at(dynamic[0]) + at)
-            if tag == 0:
-                break
-            self.entries.append((tag, value))
+        self.is_dynamic, step = dynamic is not None, 16 if wide else 8
+        rows = (struct.unpack_from("<QQ" if wide else "<II", content, self.at(dynamic[0]) + at) for at in range(0, dynamic[1] - step + 1, step)) if dynamic else ()
+        self.entries = [*itertools.takewhile(lambda it: it[0] != 0, rows)]
         self.values = dict(self.entries)
         self.interpreter = next((text_of(content, place) for kind, place, _, _ in self.segments if kind == 3), None)
 
@@ -119,7 +115,7 @@ def fits(content: bytes, wide: bool, machine: int) -> str | None:
         return ""
     kind, number, version = struct.unpack_from("<HHI", content, 16)
     place, step, count = struct.unpack_from("<Q14xHH" if wide else "<I10xHH", content, 32 if wide else 28)
-    of_ident = (
+    of_ident = (  # the tests before which another machine is told
         (content[5] == 1, "ELF file data encoding not little-endian"), (content[6] == 1, "ELF file version ident does not match current one"),
         (content[7] in (0, 3), "ELF file OS ABI invalid"),
         (content[8] == 0 or (content[7] == 3 and content[8] < 4), "ELF file ABI version invalid"), (not any(content[9:16]), "nonzero padding in e_ident"))
@@ -171,20 +167,14 @@ class Cache:
     def named(self, place: int):
         """The names of tag 1; None if the extension is damaged."""
         found, whole = [], self.whole
-        if not place:
-            return found
-        if place % 4 or place + 8 > len(whole):
+        magic, count = struct.unpack_from("<II", whole, place) if place % 4 == 0 and place + 8 <= len(whole) else (0, 0)
+        if place and (magic != 0xEAA42174 or place + 8 + 16 * count > len(whole)):
             return None
-        magic, count = struct.unpack_from("<II", whole, place)
-        if magic != 0xEAA42174 or place + 8 + 16 * count > len(whole):
-            return None
-        for at in range(count):
+        for at in range(count if place else 0):
             tag, _, inner, size = struct.unpack_from("<IIII", whole, place + 8 + 16 * at)
-            if inner + size > len(whole):
+            if inner + size > len(whole) or tag == 1 and (inner % 4 or size % 4):
                 return None
             if tag == 1:
-                if inner % 4 or size % 4:
-                    return None
                 found = [it for it, in struct.iter_unpack("<I", whole[inner : inner + size])]
         return [text_of(whole, it) if it < len(whole) else None for it in found]
 
@@ -229,7 +219,7 @@ class Cache:
                 break
             elif not words & ~(machine.words | 0xF << 48) and words >> 48 & 0xF in (0, {"haswell": 4, "i686": 2}.get(machine.platform)):
                 return value.decode("utf-8", "surrogateescape")
-        return named and named.decode("utf-8", "surrogateescape")
+        return None if named is None else named.decode("utf-8", "surrogateescape")
 
 
 class Object:
@@ -353,12 +343,11 @@ class Search:
                 it.names.add(name)
                 return it
         file = Elf(found[0])
-        for holds, said in (
+        if said := next((said for holds, said in (
                 (any(it[0] == 1 for it in file.segments), "object file has no loadable segments"),
                 (file.kind == 3, "cannot dynamically load executable"), (file.is_dynamic, "object file has no dynamic section"),
-                (not file.flags(PIE), "cannot dynamically load position-independent executable")):
-            if not holds:
-                raise Failed(path, said)
+                (not file.flags(PIE), "cannot dynamically load position-independent executable")) if not holds), None):
+            raise Failed(path, said)
         self.loaded.append(Object(path, file, asker, [name], found[1]))
         if file.flags(INITFIRST):
             self.first = self.loaded[-1]
