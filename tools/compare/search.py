@@ -16,6 +16,7 @@ is as ld.so's, the fault is elftree's, and else the rules are others. Where ld.s
 the tree is counted, and not compared. The exit status is 1 if something differs. On another machine than x86-64 the
 script says so, and passes.
 """
+import functools
 import os
 import pathlib
 import random
@@ -223,7 +224,7 @@ class Forest:
             for _ in range(chance.choice((1, 1, 2, 3))):
                 words = chance.choice((0, 0, 0, 2, 4, 1, 1 << 50, 1 << 49, *(0x40000000 + level << 32 | chance.randrange(4) for level in (0, 1, 3, 4, 40))))
                 rows.append((name, f"{self.tree}/{chance.choice(self.FOLDERS)}/{chance.choice((name, name, 'libe.so'))}", chance.choice((0x303,) * 6 + (3, 0x803)), words))
-        key = searching.functools.cmp_to_key(lambda a, b: searching.compare(b[0].encode(), a[0].encode()))
+        key = functools.cmp_to_key(lambda a, b: searching.compare(b[0].encode(), a[0].encode()))
         content = bytearray(cache_of(sorted(rows, key=key), ["x86-64-v2", "x86-64-v3", "x86-64-v4"]))
         if chance.random() < 0.5:
             for _ in range(chance.choice((1, 2, 4))):

@@ -1,6 +1,5 @@
 """A model of how ld.so of glibc 2.36 finds the libraries of a program (x86-64 and 386), with its own reading of ELF files and of
 ld.so.cache. Texts are Python's, with the bytes that aren't UTF-8 as surrogates."""
-import functools
 import itertools
 import mmap
 import os
