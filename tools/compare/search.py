@@ -242,7 +242,7 @@ class Forest:
             for folder in sorted({*chance.sample(self.FOLDERS, chance.choice((1, 1, 2, 3))), *["lib"] * self.is_whole}):
                 path, kind = pathlib.Path(folder, name), 1 if self.is_whole and folder == "lib" else chance.random()
                 if kind < 0.1:
-                    path.symlink_to(f"{self.tree}/lib/{chance.choice(self.NAMES)}")
+                    path.symlink_to(chance.choice((*[f"{self.tree}/lib/{it}" for it in self.NAMES], self.linker)))
                 elif kind < 0.13:
                     path.mkdir()
                 else:

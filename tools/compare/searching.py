@@ -244,7 +244,7 @@ class Search:
         linker = program.interpreter or machine.linker
         self.interpreter = Object(linker, Elf(mapped(linker)[0]), None, [linker])
         self.library_path = self.elements(library_path, ":;", self.program)
-        # In the order of loading.
+        # In the order of loading. The interpreter has no identity, nor has a program that the kernel starts.
         self.loaded, self.first = [self.program, self.interpreter], None
 
     def expand(self, text: str, asker: Object) -> str:
