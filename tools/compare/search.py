@@ -222,7 +222,7 @@ class Forest:
         chance, rows = self.chance, []
         for name in chance.sample([*self.NAMES, "libc.so.6"], 4):
             for _ in range(chance.choice((1, 1, 2, 3))):
-                words = chance.choice((0, 0, 0, 2, 4, 1, 1 << 50, 1 << 49, *(0x40000000 + level << 32 | chance.randrange(4) for level in (0, 1, 3, 4, 40))))
+                words = chance.choice((0, 0, 0, 2, 4, 1, 1 << 50, 1 << 49, *(0x40000000 + level << 32 | chance.randrange(4) for level in (0, 1, 3, 4, 40, 128))))
                 rows.append((name, f"{self.tree}/{chance.choice(self.FOLDERS)}/{chance.choice((name, name, 'libe.so'))}", chance.choice((0x303,) * 6 + (3, 0x803)), words))
         key = functools.cmp_to_key(lambda a, b: searching.compare(b[0].encode(), a[0].encode()))
         content = bytearray(cache_of(sorted(rows, key=key), ["x86-64-v2", "x86-64-v3", "x86-64-v4"]))

@@ -210,7 +210,7 @@ class Cache:
             if flags not in machine.flags or value is None:
                 continue
             if words >> 32 & ~0x3FF == 0x40000000:
-                index, level = words & 0xFFFFFFFF, words >> 32 & 0x3FF
+                index, level = words & 0xFFFFFFFF, words >> 32 & 0x1F
                 word = self.names[index] if self.names and index < len(self.names) else None
                 if word in machine.active and level <= machine.level and (rank is None or machine.active.index(word) < rank):
                     named, rank = value, machine.active.index(word)
