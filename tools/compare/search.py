@@ -259,13 +259,15 @@ def compare_tree(forest: Forest, number: int, machine: Machine, elftree, tally: 
     """Makes a tree, and compares what becomes of its program, which the kernel starts."""
     path = forest.make(number)
     variables = {"LD_LIBRARY_PATH": forest.list().replace(":", forest.chance.choice(":;"))} if forest.chance.random() < 0.3 else {}
-    library_path, content = variables.get("LD_LIBRARY_PATH", ""), pathlib.Path(forest.cache).read_bytes()
+    library_path, cache = variables.get("LD_LIBRARY_PATH", ""), Cache(pathlib.Path(forest.cache).read_bytes())
     wanted = linker_said([path], path, **variables)
     tally["trees"] += 1
-    if wanted is None:
-        tally["trees in which ld.so ends itself"] += 1
+    # By its extension ld.so goes through the cache's names as through a list that rises.
+    held = [it.encode("utf-8", "surrogateescape") for it in cache.names or () if it is not None]
+    if wanted is None or held != sorted(held):
+        tally["trees with a cache that isn't in order" if wanted else "trees in which ld.so ends itself"] += 1
         return
-    modelled = model(path, machine, library_path, Cache(content), True)
+    modelled = model(path, machine, library_path, cache, True)
     options = ["--cache", forest.cache, *(["--library-path", library_path] if library_path else [])]
     says = elftree and elftree_said(elftree, path, *options)
     names = ["paths", "missing", "messages", "error", "tried"]
