@@ -67,7 +67,7 @@ ORACLES = {
     "loads": Oracle([*PROGRAMS, "--damaged", "4000"], [*TWO, "--damaged", "60"], (built("elfload"), "readelf", "llvm-readelf")),
     "memory": Oracle(PROGRAMS, TWO, (built("elfload"), "readelf", "llvm-readelf")),
     "memory_lazy": Oracle(["--lazy", "1", "--step", "8", *PROGRAMS], ["--lazy", "1", *TWO[:1]], (built("elfload"), "readelf", "llvm-readelf"), script="memory"),
-    "search": Oracle(["--model", "--trees", "4000", *SYSTEM], ["--model", "--trees", "40", *FEW]),
+    "search": Oracle(["--trees", "4000", *SYSTEM], ["--trees", "40", *FEW]),
     "fuzz_bindings": Oracle(["--seed", "1", "--count", "2500"], ["--seed", "1", "--count", "100"], (built("elfbind"), built("elfsym"), "gcc")),
     "rust": Oracle([*FROM, "--damaged", "1", "--worked", "2000", "/usr/bin", "/usr/lib"], [*FROM, "--worked", "40", *LIBRARIES[:1]],
         (built("elfanswers"), "cargo"), ("oracle/build.sh", *CRATE)),

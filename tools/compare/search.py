@@ -1,7 +1,7 @@
 #!/usr/bin/env python3
-"""Compare the libraries that elftree finds for programs with those that ld.so finds.
+"""Compare a model of how ld.so finds the libraries of a program with ld.so, and a program that prints them with both.
 
-    tools/compare/search.py [--elftree PATH | --model] [--trees N] [--seed N] [FILE..]
+    tools/compare/search.py [--elftree PATH] [--trees N] [--seed N] [FILE..]
 
 Each dynamically linked program and library among the files, and in the folders among them, is given to ld.so, which lists its
 libraries and runs nothing (LD_TRACE_LOADED_OBJECTS). Compared are the paths in the order of the scope, missing names, messages of
@@ -11,8 +11,8 @@ versions, errors, and with LD_DEBUG=libs each path tried.
 sonames of other files, filters, versions, damaged headers, and a cache, of which half are damaged. Their ld.so is a copy that reads
 this cache. A program that misses nothing is also run, for the order of initialisers and finalisers (LD_DEBUG=files).
 
-The model of searching.py is compared too, or with --model alone. Where elftree differs, the line says what the model has: if that
-is as ld.so's, the fault is elftree's, and else the rules are others. Where ld.so crashes or trips over an assertion of its own,
+--elftree compares a program of that name too. Where it differs, the line says what the model has: if that is as ld.so's, the fault
+is the program's, and else the rules are others. Where ld.so crashes or trips over an assertion of its own,
 the tree is counted, and not compared. The exit status is 1 if something differs. On another machine than x86-64 the
 script says so, and passes.
 """
@@ -286,10 +286,10 @@ def compare_tree(forest: Forest, number: int, machine: Machine, elftree, tally: 
 
 
 def main() -> int:
-    parser = parser_of(__doc__, "elftree", files="*", trees=0, seed=1)
-    parser.add_argument("--model", action="store_true")
+    parser = parser_of(__doc__, files="*", trees=0, seed=1)
+    parser.add_argument("--elftree", metavar="PATH")
     given = parser.parse_args()
-    tally, elftree = Tally("elftree"), None if given.model else given.elftree
+    tally, elftree = Tally("elftree"), given.elftree and os.path.abspath(given.elftree)
     machines = {number: machine_of(it) for number, it in LINKERS.items() if os.path.exists(it)}
     if 62 not in machines:
         print("0 files, 0 differences: there is no ld.so for x86-64 here")
