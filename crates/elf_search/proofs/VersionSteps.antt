@@ -1,17 +1,22 @@
 -- Definitions, providers and needs, one after the other.
-use Rattle.std.proofs.Common.{◌≡◌, ◌≢◌, ℕ, ◌+◌, ◌<◌, ◌≤◌, List, [], ◌∷◌, true, false, drop, get_or, length, map, Some, None, Result, Ok, Err, if◌then◌else◌, refl, ap, sym, ◌∙◌}
+use Rattle.std.proofs.Common.{◌≡◌, ◌≢◌, ℕ, ◌+◌, ◌<◌, ◌≤◌, List, [], ◌∷◌, true, false, Bool, drop, get_or, length, map, Some, None, Result, Ok, Err, if◌then◌else◌, refl, ap, sym, ◌∙◌}
 use Rattle.std.proofs.lemmas.Bool.{eq-eqb, ne_eqb}
 use Rattle.std.proofs.lemmas.List.{drop_all, drop_more}
 use Rattle.std.specs.Borrow.{Bor}
 use Rattle.std.specs.Cmp.Lexicographic.{pointwise}
+use Rattle.std.specs.List.{list_any}
 use Rattle.std.specs.Prelude.{nat_eq}
 use Rattle.std.specs.Str.{bytes_eq}
 use Rattle.elf_linking.specs.VersionTables.{DefinitionParts, NeedParts}
 use Rattle.elf_linking.specs.declared.error.LinkError.{LinkError}
-use Rattle.elf_search.specs.MissingVersions.{MissingParts, ProviderParts, behind_missing, defines, has_bytes, has_name, missing_in, missing_of, provider_parts, provider_with}
+use Rattle.elf_search.specs.MissingVersions.{MissingParts, ProviderParts, behind_missing, defines, has_name, missing_in, missing_of, provider_parts, provider_with}
 use Rattle.elf_search.specs.declared.error.SearchError.{SearchError}
 use Rattle.elf_search.specs.declared.error.SearchError.TheVariants as fault
 use Rattle.elf_search.specs.declared.versions.Provider.{Provider}
+
+-- some names have these bytes
+abbrev pub has_bytes : List ℕ → List (Bor (List ℕ)) → Bool
+has_bytes name names = list_any (λ other. pointwise nat_eq other name) (map (λ other. other.now) names)
 
 module _ (name : List ℕ) (names : List (Bor (List ℕ))) (place : ℕ) where
   pub name_end : length names ≤ place → has_bytes name (drop place names) ≡ false

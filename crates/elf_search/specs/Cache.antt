@@ -25,7 +25,7 @@ use Rattle.elf_search.specs.declared.error.SearchError.TheVariants.{CacheCount, 
 abbrev pub word_at : List ℕ → ℕ → ℕ
 word_at bytes place = number Little 4 place bytes
 
--- the place of the header: that of the older format may stand before it, with entries of 12 bytes and padding to 8
+-- the place of the header: that of the older format may come before it, with entries of 12 bytes and padding to 8
 abbrev pub header_place : List ℕ → ℕ
 header_place bytes = if starts_with nat_eq bytes OLD_MAGIC.now then (16 + 12 * word_at bytes 12 + 7) / 8 * 8 else 0
 
@@ -257,18 +257,18 @@ unfoldable pub is_entry_good : Cache → ℕ → Bool
 is_entry_good cache i = is_inside cache (key_place cache i) && is_inside cache (value_place cache i)
     && are_small (pieces (key_of cache i))
 
--- entries may stand in this order: the keys downwards, and of equal keys those of named entries first
+-- entries may be in this order: the keys downwards, and of equal keys those of named entries first
 abbrev pub may_follow : Ordering → Bool → Bool → Bool
 may_follow Less one other = false
 may_follow Equal one other = one || not other
 may_follow Greater one other = true
 
--- entry i may stand before the next one
+-- entry i may come before the next one
 unfoldable pub is_pair_good : Cache → ℕ → Bool
 is_pair_good cache i = may_follow (name_order (key_of cache i) (key_of cache (i + 1)))
     (is_named (hwcap_of cache i)) (is_named (hwcap_of cache (i + 1)))
 
--- the entries of a cache stand in order, and all that they say is in the file
+-- the entries of a cache are in order, and all that they say is in the file
 pub record IsGood (cache : Cache) : Type 0 where
   pub entries : (i : ℕ) → i < cache.count → is_entry_good cache i ≡ true
   pub pairs : (i : ℕ) → i + 1 < cache.count → is_pair_good cache i ≡ true

@@ -195,7 +195,7 @@ next_how asked how.Cache = Some how.Conf
 next_how asked how.Conf = Some how.Default
 next_how asked how.Default = None
 
--- the lists behind one
+-- the lists after one
 abbrev pub lists_behind : AskedParts → How → List ListParts
 lists_behind asked how.Itself = []
 lists_behind asked (how.Rpath place) = r_path_lists asked (place + 1) (length asked.chain - (place + 1)) ++ later_lists asked
@@ -210,7 +210,7 @@ abbrev pub candidate_at : ListParts → List ℕ → ℕ → ℕ → Option Cand
 candidate_at list element index subdirectory = if is_kept list (take index (elements_in list)) element
     then slice_get (candidates_of list element) subdirectory else None
 
--- the candidates of some elements behind others, of which the first has given some already
+-- the candidates of some elements after others, of which the first has given some already
 abbrev pub rest_of_elements : ListParts → List (List ℕ) → List (List ℕ) → ℕ → List CandidateParts
 rest_of_elements list before [] given = []
 rest_of_elements list before (element ∷ elements) given = (if is_kept list before element then drop given (candidates_of list element) else [])
@@ -220,7 +220,7 @@ rest_of_elements list before (element ∷ elements) given = (if is_kept list bef
 abbrev pub rest_of_list : ListParts → Place → List CandidateParts
 rest_of_list list place = rest_of_elements list (take place.element (elements_in list)) (drop place.element (elements_in list)) place.subdirectory
 
--- the candidates of the lists behind one
+-- the candidates of the lists after one
 abbrev pub behind_how : AskedParts → Option How → List CandidateParts
 behind_how asked None = []
 behind_how asked (Some how) = candidates_among (lists_behind asked how)

@@ -9,7 +9,7 @@ use Rattle.elf_search.specs.declared.error.SearchError.TheVariants as error
 use Rattle.elf_search.specs.declared.fits.Fit.{Fit}
 use Rattle.elf_search.specs.declared.fits.Fit.TheVariants as fit
 
--- the answer of the first row whose condition is true, or else the last answer
+-- the value of the first row whose condition is true, or else the last value
 abbrev pub first_row : {A : Type 0} → List (Bool × A) → A → A
 first_row [] last = last
 first_row (row ∷ rows) last = if row.0 then row.1 else first_row rows last
@@ -102,7 +102,7 @@ front_rows class machine head =
     ∷ (is_ident_other head && is_machine_other machine head, Ok fit.PassedOver)
     ∷ []
 
--- the answer of the first test that fails, of those at the front, of the bytes 5 to 15 and of the later ones; a file that
+-- the result of the first test that fails, of those at the front, of the bytes 5 to 15 and of the later ones; a file that
 -- fails none is taken
 abbrev pub fits_of : ℕ → ℕ → ℕ → List ℕ → Result Fit SearchError
 fits_of class machine len head = first_row (front_rows class machine head)

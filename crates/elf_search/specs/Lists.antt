@@ -10,8 +10,8 @@ use Rattle.elf_search.specs.declared.lists.Candidate.{Candidate}
 use Rattle.elf_search.specs.declared.lists.How.{How}
 use Rattle.elf_search.specs.declared.lists.SearchList.{SearchList}
 
--- a list: the text of its directories and the bytes that end one, the values of tokens, the subdirectories, and what stands
--- behind them; or one path, which is the text
+-- a list: the text of its directories and the bytes that end one, the values of tokens, the subdirectories, and the
+-- name after them; or one path, which is the text
 pub record ListParts : Type 0 where
   pub how : How
   pub text : List ℕ
@@ -95,7 +95,7 @@ candidate_parts candidate = record {
 abbrev pub candidates_of : ListParts → List ℕ → List CandidateParts
 candidates_of list element = map (candidate_in list element) list.subdirectories
 
--- those of some elements behind others, element by element
+-- those of some elements after others, element by element
 abbrev pub candidates_behind : ListParts → List (List ℕ) → List (List ℕ) → List CandidateParts
 candidates_behind list before [] = []
 candidates_behind list before (element ∷ elements) = (if is_kept list before element then candidates_of list element else [])

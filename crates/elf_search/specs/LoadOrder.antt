@@ -3,13 +3,13 @@
 use Rattle.std.specs.Prelude.{◌≡◌, ◌≢◌, ◌⊎◌, ℕ, ◌+◌, ◌*◌, ◌<◌, ◌≤◌, ◌==◌, true, List, slice_index, if◌then◌else◌}
 use Rattle.elf_search.specs.declared.order.TheConstants.{NO_OBJECT}
 
--- entry p is the first that found an object; the entries of all objects stand in a row, by (place of the object, entry)
+-- entry p is the first that found an object; the entries of all objects are in one row, by (place of the object, entry)
 pub record IsFirst (edges : List ℕ) (answered object p : ℕ) : Type 0 where
   pub within : p < answered
   pub found : slice_index edges p ≡ object
   pub earlier : (q : ℕ) → q < p → slice_index edges q ≢ object
 
--- each entry up to `answered` found one of the objects or none, and each object but 0 stands in the list once, by the
+-- each entry up to `answered` found one of the objects or none, and each object but 0 is in the list once, by the
 -- first entry that found it
 pub record IsLoadOrder (edges : List ℕ) (answered count : ℕ) : Type 0 where
   pub each : (p : ℕ) → p < answered → (slice_index edges p ≡ NO_OBJECT) ⊎ (slice_index edges p < count)
@@ -25,7 +25,7 @@ abbrev pub end_of : List ℕ → ℕ → ℕ → ℕ → ℕ
 end_of objects count used k = if k + 1 == count then used else start_of objects (k + 1)
 
 -- the entries of object `current` are asked for, in the words from `start` to `end`, and the words of all objects before it
--- are answered, so that the words up to `place` are a load order
+-- say what was found, so that the words up to `place` are a load order
 pub record IsPlain (objects edges : List ℕ) (count used current start place end : ℕ) : Type 0 where
   pub rising : (k : ℕ) → k + 1 < count → start_of objects k ≤ start_of objects (k + 1)
   pub below : (k : ℕ) → k < count → start_of objects k ≤ used

@@ -1,7 +1,6 @@
 -- Versions that an object needs of libraries that lack them (LSB, "Symbol Versioning": Verneed, Vernaux, Verdef; what is said
 -- of each, as in glibc 2.36).
 use Rattle.std.specs.Prelude.{ℕ, ◌+◌, ◌==◌, ◌/◌, ◌%◌, nat_eq, true, false, Bool, List, [], ◌∷◌, map, Option, None, Some, option_map, Result, Ok, Err, if◌then◌else◌}
-use Rattle.std.specs.Borrow.{Bor}
 use Rattle.std.specs.Cmp.Lexicographic.{pointwise}
 use Rattle.std.specs.List.{list_any}
 use Rattle.std.specs.Str.{bytes_eq}
@@ -39,10 +38,6 @@ pub record ProviderParts : Type 0 where
 -- that of a value of the code
 abbrev pub provider_parts : Provider → ProviderParts
 provider_parts provider = record { names = map (λ name. name.now) provider.names.now; provided = provided_parts provider.provided }
-
--- some names have these bytes
-abbrev pub has_bytes : List ℕ → List (Bor (List ℕ)) → Bool
-has_bytes name names = list_any (λ other. pointwise nat_eq other name) (map (λ other. other.now) names)
 
 -- an object has a name
 abbrev pub has_name : List ℕ → ProviderParts → Bool
@@ -107,7 +102,7 @@ missing_from need (Some found) = and_then (as_search_error (lack_in found.1 need
 abbrev pub missing_of : List ProviderParts → NeedParts → Result (Option MissingParts) SearchError
 missing_of providers need = and_then (as_search_error need.file) (λ file. missing_from need (provider_with file 0 providers))
 
--- some items behind a version that is missing, or behind an error
+-- a version that is missing or an error, and some items after it
 abbrev pub behind_missing : Result (Option MissingParts) SearchError → List (Result MissingParts SearchError) → List (Result MissingParts SearchError)
 behind_missing (Ok None) items = items
 behind_missing (Ok (Some missing)) items = Ok missing ∷ items

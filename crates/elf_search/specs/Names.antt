@@ -22,7 +22,7 @@ abbrev pub kind_of : ℕ → Option NameKind
 kind_of tag = if tag == DT_NEEDED then Some Needed else (if tag == DT_AUXILIARY then Some Auxiliary
     else (if tag == DT_FILTER then Some Filter else None))
 
--- some names behind that of an entry, if it asks for a library
+-- the name of an entry, if it asks for a library, and some names after it
 abbrev pub behind_name : Option NameKind → Result (List ℕ) LinkError → List NameParts → List NameParts
 behind_name None name names = names
 behind_name (Some kind) name names = record { kind = kind; name = name } ∷ names

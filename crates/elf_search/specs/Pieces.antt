@@ -28,7 +28,7 @@ pieces bytes = pieces_after None bytes
 abbrev pub number_order : ℕ → ℕ → Ordering
 number_order m n = if m == n then Equal else (if nat_lt ((m + 2 ^ 32 - n) % 2 ^ 32) (2 ^ 31) then Greater else Less)
 
--- the order of two pieces: numbers by the sign of their difference modulo 2 to the 32, a number behind all bytes, and bytes
+-- the order of two pieces: numbers by the sign of their difference modulo 2 to the 32, a number after all bytes, and bytes
 -- as signed numbers
 abbrev pub piece_order : Piece → Piece → Ordering
 piece_order (Number m) (Number n) = number_order m n

@@ -25,7 +25,7 @@ values_of values = record {
 abbrev pub is_word : ℕ → Bool
 is_word byte = is_ascii_alphanumeric byte || byte == 95
 
--- a text begins with a name behind which no such byte follows
+-- a text begins with a name, and no such byte follows it
 abbrev pub begins_with_word : List ℕ → List ℕ → Bool
 begins_with_word text name = starts_with nat_eq text name
     && (length text == length name || not (is_word (slice_index text (length name))))
@@ -35,7 +35,7 @@ abbrev pub begins_with_closed : List ℕ → List ℕ → Bool
 begins_with_closed text name = starts_with nat_eq text name
     && (nat_lt (length name) (length text) && slice_index text (length name) == 125)
 
--- the number of bytes of a name at the front of the text behind a dollar sign, with its braces if it has some (123 is the
+-- the number of bytes of a name at the front of the text after a dollar sign, with its braces if it has some (123 is the
 -- opening one); 0 if it is not there
 abbrev pub token_length : List ℕ → List ℕ → ℕ
 token_length [] name = 0
@@ -43,7 +43,7 @@ token_length (byte ∷ inner) name = if byte == 123
     then (if begins_with_closed inner name then length name + 2 else 0)
     else (if begins_with_word (byte ∷ inner) name then length name else 0)
 
--- a token: the number of its bytes behind the dollar sign, and its value if that is known
+-- a token: the number of its bytes after the dollar sign, and its value if that is known
 pub record TokenParts : Type 0 where
   pub length : ℕ
   pub value : Option (List ℕ)
@@ -52,7 +52,7 @@ pub record TokenParts : Type 0 where
 abbrev pub token_parts : Token → TokenParts
 token_parts token = record { length = token.length; value = option_map (λ value. value.now) token.value }
 
--- the first of some tokens at the front of the text behind a dollar sign
+-- the first of some tokens at the front of the text after a dollar sign
 abbrev pub token_among : List (List ℕ × Option (List ℕ)) → List ℕ → Option TokenParts
 token_among [] text = None
 token_among (row ∷ rows) text = if token_length text row.0 == 0 then token_among rows text
@@ -76,12 +76,12 @@ abbrev pub is_known : Values → List ℕ → Bool
 is_known values [] = true
 is_known values (byte ∷ text) = if byte == 36 && is_unknown_at values text then false else is_known values text
 
--- what stands in place of a token, which is nothing where its value is not known
+-- what a token is replaced by, which is nothing where its value is not known
 abbrev pub value_of : Option (List ℕ) → List ℕ
 value_of None = []
 value_of (Some value) = value
 
--- a dollar sign, or the value of the token that it begins, and then what is made of the text behind
+-- a dollar sign, or the value of the token that it begins, and then what is made of the text after it
 abbrev pub at_dollar : Option TokenParts → (ℕ → List ℕ) → List ℕ
 at_dollar None later = 36 ∷ later 0
 at_dollar (Some token) later = value_of token.value ++ later token.length

@@ -71,7 +71,7 @@ impl<'a> Cache<'a> {
     ghost use Rattle.elf_search.specs.Cache.{IsGood, LooksUp, cache_bytes, cache_of, entry_count};
     ghost use Rattle.elf_search.specs.Cache.{header_place, looked_up, name_words, value_of};
 
-    /// The cache in the bytes of a file. The older format may stand before it.
+    /// The cache in the bytes of a file. The older format may come before it.
     ///
     /// Errors, those of files that the loader ignores: `NotACache` if there are fewer than 49 bytes,
     /// or the header is cut off or does not begin with `glibc-ld.so.cache1.1`; `CacheCount` if the
@@ -123,8 +123,8 @@ impl<'a> Cache<'a> {
         Some(self.value(entry))
     }
 
-    /// Whether the cache is good: keys and values are in the file, keys stand downwards in the order
-    /// of `compare`, of entries with equal keys those in subdirectories of hwcaps come first, and no
+    /// Whether the cache is good: keys and values are in the file, keys are in descending
+    /// order by `compare`, of entries with equal keys those in subdirectories of hwcaps come first, and no
     /// number in a key is 2 to the 31 or more. (`compare` is no order if there are such numbers.)
     ///
     /// The time is that of a comparison for each two neighbours.

@@ -49,7 +49,7 @@ pub enum SearchError {
     CacheCount,
     /// The cache is of another byte order. Returned by `Cache::read`.
     CacheOrder,
-    /// The words that are lent for a list of objects, or for their order, are too few. Returned by
+    /// The words of the caller for a list of objects, or for their order, are too few. Returned by
     /// `Order::new`, `add` and `add_before`, and by `start_order`.
     FewWords,
     /// No object has the number, or no entry is asked for. Returned by `Order::found`, `found_before`,

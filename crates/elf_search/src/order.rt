@@ -101,7 +101,7 @@ impl<'w> Order<'w> {
     }
 
     /// The entry that is to be found next: the number of its object, and its own among the entries of
-    /// the object. `None` if all are answered. Until it is answered, it is the same. The time of all
+    /// the object. `None` if all have been found or are missing. It stays the same until one of those calls. The time of all
     /// calls together is linear in the numbers of objects and entries.
     pub fn next(&mut self) -> Option<(u32, u32)>
         ensures plain { IsPlainOrder self.old → IsPlainOrder self.new
@@ -227,8 +227,8 @@ impl<'w> Order<'w> {
         Ok(())
     }
 
-    /// As `found`, for an auxiliary or a filter entry: an object that stands behind the one whose entry
-    /// it is, is moved in the list, directly before that one.
+    /// As `found`, for an auxiliary or a filter entry: an object that comes after the one whose
+    /// entry it is, is moved in the list, directly before that one.
     ///
     /// Error: `NoObject` if no object has this number, or no entry is asked for.
     pub fn found_before(&mut self, number: u32) -> Result<(), SearchError>
@@ -237,6 +237,8 @@ impl<'w> Order<'w> {
         ensures edge { OnOk result (self.new.edges.now
             ≡ slice_set self.old.edges.now self.old.place number) }
         ensures step { OnOk result (self.new.place ≡ self.old.place + 1) }
+        ensures same { OnErr result (KeepsLists self.old self.new
+            × (self.new.place ≡ self.old.place)) }
     {
         if self.place >= self.end || number as usize >= self.count {
             return Err(SearchError::NoObject);
@@ -247,13 +249,21 @@ impl<'w> Order<'w> {
     }
 
     /// As `add`, for an auxiliary or a filter entry: the new object is put directly before the one whose
-    /// entry it is, and behind those that were put there before.
+    /// entry it is, and after those that were put there before.
     ///
     /// The errors are those of `add`.
     pub fn add_before(&mut self, entries: u32) -> Result<u32, SearchError>
+        ensures accepts { IsOk result ↔ ((self.old.place < self.old.end)
+            × (4 * self.old.count + 4 ≤ length self.old.objects.now)
+            × (self.old.used + entries ≤ length self.old.edges.now)
+            × (self.old.used + entries + 1 < 2 ^ 32) × (self.old.count + 2 < 2 ^ 32)) }
         ensures number { IfOk result (λ number. (number ≡ self.old.count)
             × (self.new.count ≡ self.old.count + 1)
-            × (self.new.edges.now ≡ slice_set self.old.edges.now self.old.place number)) }
+            × (self.new.used ≡ self.old.used + entries)
+            × (self.new.edges.now ≡ slice_set self.old.edges.now self.old.place number)
+            × (self.new.place ≡ self.old.place + 1)) }
+        ensures same { OnErr result (KeepsLists self.old self.new
+            × (self.new.place ≡ self.old.place)) }
     {
         let number = self.add(entries)?;
         self.move_before(number as usize);
@@ -307,6 +317,7 @@ impl<'w> Order<'w> {
         self.record(number as u32);
         Ok(number as u32)
     }
+
     // The last object in the list.
     pub(crate) fn last(&self) -> usize
         ensures { result ≡ last_of self.now }
@@ -368,7 +379,7 @@ impl<'w> Order<'w> {
         self.last = number;
     }
 
-    // Puts an object directly before the current one in the list, unless it stands before it or is it.
+    // Puts an object directly before the current one in the list, unless it comes before it or is it.
     fn move_before(&mut self, number: usize)
         requires { number < self.old.count }
         ensures { KeepsFields self.old self.new }
@@ -462,8 +473,8 @@ impl<'w> Order<'w> {
         }
     }
 
-    /// What the entries of an object found: an object each, or `NO_OBJECT`. Those that are not answered
-    /// are words as they were lent. Empty if no object has the number.
+    /// What the entries of an object found: an object each, or `NO_OBJECT`. Those not yet
+    /// asked for are words as the caller gave them. Empty if no object has the number.
     pub fn edges(&self, number: u32) -> &[u32]
         ensures edges { result.now ≡ edges_of self.now number }
         ensures few { length result.now ≤ self.now.used }

@@ -1,5 +1,5 @@
 use Rattle.std.proofs.Common.{◌≡◌, drop}
-use Rattle.elf_search.specs.MissingVersions.{has_bytes}
+use Rattle.elf_search.proofs.VersionSteps.{has_bytes}
 use Rattle.elf_search.proofs.versions.has_name.Given as goal
 
 abbrev pub invariant-loop-place : goal.invariant-loop-place
