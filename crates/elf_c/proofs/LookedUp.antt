@@ -2,7 +2,7 @@
 use Rattle.std.proofs.Common.{◌≡◌, ◌<◌, ℕ, List, length, slice_get, Option, None, Some, Result, Ok, Err, IsOk, MatchResult, refl, sym, ap, subst, ◌∙◌, arith}
 use Rattle.std.proofs.lemmas.Option.{slice_get-get_or, slice_get_within}
 use Rattle.elf_base.specs.declared.error.ElfError.{ElfError}
-use Rattle.elf_linking.specs.AnyTable.{LooksByRecord as LooksAmong}
+use Rattle.elf_linking.specs.AnyTable.{LooksBy as LooksAmong}
 use Rattle.elf_linking.specs.declared.any_table.AnyTable.{AnyTable}
 use Rattle.elf_linking.specs.declared.error.LinkError.{LinkError}
 use Rattle.xmas_elf.specs.Ranges.{range_of}
