@@ -1,6 +1,6 @@
 -- Lemmas on the entries of a cache that compare equal, and on those used among them.
-use Rattle.std.proofs.Common.{◌≡◌, ℕ, zero, suc, ◌+◌, ◌-◌, ◌*◌, ◌/◌, ◌<◌, ◌≤◌, ◌&&◌, Bool, true, false, List, [], ◌∷◌, length, drop, take, refl, sym, ◌∙◌, ap, subst, Option, None, Some, IfSome, arith, add-one}
-use Rattle.std.specs.Prelude.{nat_le, nat_lt, option_map, unwrap_or, is_none, if◌then◌else◌, Result, Ok, Err}
+use Rattle.std.proofs.Common.{◌≡◌, ℕ, zero, suc, ◌+◌, ◌-◌, ◌*◌, ◌<◌, ◌≤◌, ◌&&◌, Bool, true, false, List, [], ◌∷◌, length, drop, take, refl, Option, None, Some, IfSome, arith, add-one}
+use Rattle.std.specs.Prelude.{nat_le, nat_lt, option_map, unwrap_or, is_none, if◌then◌else◌, Ok, Err}
 use Rattle.std.proofs.lemmas.Grind.{common_steps}
 use Rattle.std.proofs.lemmas.Bool.{ltb-false, ltb-true}
 use Rattle.std.specs.declared.cmp.Ordering.{Ordering}
@@ -8,7 +8,7 @@ use Rattle.elf_base.specs.Refusal.{unless}
 use Rattle.elf_base.specs.Text.{before_zero, bytes_up_to_zero_of}
 use Rattle.elf_base.specs.declared.error.ElfError.{ElfError}
 use Rattle.elf_base.specs.declared.error.ElfError.TheVariants.{TextStart, TextEnd}
-use Rattle.elf_search.specs.Cache.{are_within, better, first_same, is_last, is_same, next_best, run_from, tagged_words, text_from, used_after, word_at}
+use Rattle.elf_search.specs.Cache.{are_within, first_same, is_last, is_same, next_best, run_from, tagged_words, text_from, used_after, word_at}
 use Rattle.elf_search.specs.declared.cache.Usage.{Usage}
 use Rattle.elf_search.specs.declared.cache.Usage.TheVariants.{Foreign, Named, Plain, Unfit}
 

@@ -1,18 +1,18 @@
 -- A binary search in a good cache finds what a look-up among all entries finds.
-use Rattle.std.proofs.Common.{◌≡◌, ℕ, zero, suc, ◌+◌, ◌-◌, ◌*◌, ◌/◌, ◌%◌, ◌^◌, ◌<◌, ◌≤◌, ◌&&◌, Bool, true, false, List, [], ◌∷◌, length, drop, refl, sym, ◌∙◌, ap, subst, Option, None, Some, arith}
+use Rattle.std.proofs.Common.{◌≡◌, ℕ, zero, suc, ◌+◌, ◌-◌, ◌/◌, ◌%◌, ◌^◌, ◌<◌, ◌≤◌, ◌&&◌, Bool, true, false, List, [], ◌∷◌, refl, sym, ◌∙◌, ap, subst, Option, None, Some, arith}
 use Rattle.std.specs.Prelude.{◌==◌, nat_lt, if◌then◌else◌}
 use Rattle.std.proofs.lemmas.Bool.{both_ways, eqb-false, eqb-true, ltb-false, ltb-true}
 use Rattle.std.proofs.lemmas.Cmp.{nat_list_cmp_total}
 use Rattle.std.specs.Cmp.{IsTotalOrder, nat_cmp_is}
 use Rattle.std.specs.Cmp.Derive.{both_true}
 use Rattle.std.specs.Cmp.Lexicographic.{slice_cmp}
-use Rattle.std.specs.Ordering.{MatchOrdering, nat_cmp, ordering_reverse, ordering_then}
+use Rattle.std.specs.Ordering.{MatchOrdering, nat_cmp, ordering_then}
 use Rattle.std.specs.declared.cmp.Ordering.{Ordering}
 use Rattle.std.specs.declared.cmp.Ordering.TheVariants.{Less, Equal, Greater}
-use Rattle.elf_search.specs.Pieces.{are_small, name_order, number_order, piece_order, pieces, pieces_order}
+use Rattle.elf_search.specs.Pieces.{are_small, name_order, piece_order, pieces, pieces_order}
 use Rattle.elf_search.specs.declared.cache.pieces.Piece.{Piece}
 use Rattle.elf_search.specs.declared.cache.pieces.Piece.TheVariants.{Number, Byte}
-use Rattle.elf_search.specs.Cache.{IsGood, Searches, all_same, first_same, is_entry_good, is_inside, is_named, is_pair_good, is_same, hwcap_of, key_of, key_place, looked_up, may_follow, order_at, run_around, run_from, usage_of, used, value_place}
+use Rattle.elf_search.specs.Cache.{IsGood, Searches, all_same, first_same, is_entry_good, is_inside, is_pair_good, is_same, key_of, key_place, looked_up, may_follow, order_at, run_around, run_from, usage_of, used}
 use Rattle.elf_search.specs.Cache.Searches.{none, outside, here, after, before}
 use Rattle.elf_search.specs.declared.cache.Cache.{Cache}
 use Rattle.elf_search.specs.declared.cache.Machine.{Machine}

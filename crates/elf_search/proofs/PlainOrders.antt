@@ -1,8 +1,8 @@
 -- Lemmas on the state of a plain list.
-use Rattle.std.proofs.Common.{◌≡◌, ◌⊎◌, ℕ, ◌+◌, ◌-◌, ◌*◌, ◌<◌, ◌≤◌, Bool, true, false, List, [], length, take, drop, length-take, refl, sym, ◌∙◌, ap, subst, arith}
+use Rattle.std.proofs.Common.{◌≡◌, ◌⊎◌, ℕ, ◌+◌, ◌-◌, ◌<◌, ◌≤◌, Bool, true, false, List, [], length, take, drop, length-take, sym, ◌∙◌, ap, arith}
 use Rattle.std.specs.Prelude.{max, min, nat_lt, if◌then◌else◌}
 use Rattle.std.proofs.Math.ListN.{set}
-use Rattle.elf_search.specs.LoadOrder.{IsPlain, end_of, start_of}
+use Rattle.elf_search.specs.LoadOrder.{end_of, start_of}
 use Rattle.elf_search.specs.Order.{IsPlainOrder, KeepsLists, KeepsOthers, KeepsPlace, KeepsState, edges_of}
 use Rattle.elf_search.specs.declared.order.Order.{Order}
 use Rattle.elf_search.proofs.LoadOrders.{plain_add, plain_answer, plain_last, plain_next}

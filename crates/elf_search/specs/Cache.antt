@@ -1,6 +1,6 @@
 -- The cache of libraries that `ldconfig` writes, and what the loader finds there for a name (glibc, `dl-cache.h` and
 -- `ld.so`'s `search_cache`). A search of any bytes, and which caches are good, are this project's own.
-use Rattle.std.specs.Prelude.{◌≡◌, ◌≢◌, ℕ, zero, suc, ◌+◌, ◌-◌, ◌*◌, ◌/◌, ◌%◌, ◌^◌, ◌<◌, ◌≤◌, ◌==◌, ◌&&◌, ◌||◌, Bool, true, false, not, nat_eq, nat_le, nat_lt, IsTrue, List, [], ◌∷◌, length, drop, map, position, slice_index, unwrap_or, option_map, Option, None, Some, Result, if◌then◌else◌, bit_and, bit_or, is_some}
+use Rattle.std.specs.Prelude.{◌≡◌, ℕ, zero, suc, ◌+◌, ◌-◌, ◌*◌, ◌/◌, ◌%◌, ◌^◌, ◌<◌, ◌≤◌, ◌==◌, ◌&&◌, ◌||◌, Bool, true, false, not, nat_eq, nat_le, nat_lt, List, [], ◌∷◌, length, drop, position, unwrap_or, option_map, Option, None, Some, Result, if◌then◌else◌, bit_and, bit_or, is_some}
 use Rattle.std.specs.Cmp.Lexicographic.{pointwise}
 use Rattle.std.specs.Int.{bit_at}
 use Rattle.std.specs.List.{starts_with}

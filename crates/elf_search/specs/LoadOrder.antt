@@ -1,6 +1,6 @@
 -- The order in which objects are loaded: breadth first (glibc, `_dl_map_object_deps`). How it is kept in words is this
 -- project's own.
-use Rattle.std.specs.Prelude.{◌≡◌, ◌≢◌, ◌⊎◌, ℕ, ◌+◌, ◌*◌, ◌<◌, ◌≤◌, ◌==◌, true, List, slice_index, if◌then◌else◌}
+use Rattle.std.specs.Prelude.{◌≡◌, ◌≢◌, ◌⊎◌, ℕ, ◌+◌, ◌*◌, ◌<◌, ◌≤◌, ◌==◌, List, slice_index, if◌then◌else◌}
 use Rattle.elf_search.specs.declared.order.TheConstants.{NO_OBJECT}
 
 -- entry p is the first that found an object; the entries of all objects are in one row, by (place of the object, entry)

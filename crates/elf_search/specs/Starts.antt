@@ -1,5 +1,5 @@
 -- The order in which objects start (glibc, `_dl_sort_maps`): depth first over the edges, from the last object to the first.
-use Rattle.std.specs.Prelude.{◌≡◌, ◌⊎◌, ℕ, zero, suc, ◌+◌, ◌-◌, ◌*◌, ◌<◌, ◌≤◌, ◌==◌, ◌&&◌, ◌||◌, not, nat_lt, Bool, true, false, List, [], ◌∷◌, ◌++◌, slice_index, length, if◌then◌else◌, eqb, take}
+use Rattle.std.specs.Prelude.{◌≡◌, ◌⊎◌, ℕ, zero, suc, ◌+◌, ◌<◌, ◌≤◌, ◌==◌, not, nat_lt, Bool, true, false, List, [], ◌∷◌, ◌++◌, slice_index, length, if◌then◌else◌, eqb}
 use Rattle.std.specs.List.{list_any}
 use Rattle.elf_search.specs.Order.{before_of, edges_of, last_of}
 use Rattle.elf_search.specs.declared.order.Order.{Order}

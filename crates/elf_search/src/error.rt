@@ -142,7 +142,7 @@ impl SearchError {
             SearchError::NotACache => (517, "not a cache of libraries"),
             SearchError::CacheCount => (518, "entries extend past the end of the cache"),
             SearchError::CacheOrder => (519, "cache is of another byte order"),
-            SearchError::FewWords => (520, "lent words are too few"),
+            SearchError::FewWords => (520, "too few words for the objects"),
             SearchError::NoObject => (521, "no such object or entry"),
             SearchError::NoProvider => (530, "file of a need of versions is no object"),
             SearchError::Link(error) => (error.number(), error.message()),

@@ -270,11 +270,13 @@ impl<'w> Order<'w> {
         Ok(number)
     }
 
-    /// The entry that is asked for found nothing. No more than `next` if no entry is asked for.
+    /// The entry that is asked for found nothing. Nothing changes if no entry is asked for.
     pub fn missing(&mut self)
         ensures edge { self.old.place < self.old.end → self.new.edges.now
             ≡ slice_set self.old.edges.now self.old.place NO_OBJECT }
         ensures step { self.old.place < self.old.end → self.new.place ≡ self.old.place + 1 }
+        ensures same { self.old.end ≤ self.old.place → KeepsLists self.old self.new
+            × (self.new.place ≡ self.old.place) }
         ensures plain { IsPlainOrder self.old → IsPlainOrder self.new }
     {
         if self.place >= self.end {

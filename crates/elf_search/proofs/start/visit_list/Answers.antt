@@ -1,4 +1,4 @@
-use Rattle.std.proofs.Common.{◌≡◌, ◌-◌, [], ◌∷◌, inl, inr, take, arith}
+use Rattle.std.proofs.Common.{◌-◌, [], ◌∷◌, inl, inr, take, arith}
 use Rattle.elf_search.specs.Order.{before_of, edges_of, last_of}
 use Rattle.elf_search.specs.Starts.{Visits, back_from}
 use Rattle.elf_search.proofs.Starting.{between_room, list_begins, list_ends, list_goes}

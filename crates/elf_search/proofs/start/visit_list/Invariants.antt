@@ -1,4 +1,4 @@
-use Rattle.std.proofs.Common.{ℕ, ◌+◌, ◌-◌, ◌*◌, ◌<◌, ◌≤◌, List, [], ◌∷◌, length, get_or, take}
+use Rattle.std.proofs.Common.{ℕ, ◌-◌, List, [], ◌∷◌, take}
 use Rattle.elf_search.specs.Order.{before_of, edges_of, last_of}
 use Rattle.elf_search.specs.Starts.{IsBetween, Visits, back_from}
 use Rattle.elf_search.proofs.start.visit_list.Given as goal

@@ -1,4 +1,4 @@
-use Rattle.std.proofs.Common.{◌∙◌, sym, arith}
+use Rattle.std.proofs.Common.{sym}
 use Rattle.elf_search.specs.Cache.Searches.{after, before, here, none, outside}
 use Rattle.elf_search.proofs.cache.Cache.+search.Goals as goal
 

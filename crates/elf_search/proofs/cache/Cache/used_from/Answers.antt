@@ -1,7 +1,7 @@
-use Rattle.std.proofs.Common.{◌≡◌, ◌∙◌, true, false, sym, ap, subst, arith, rules, IfSome}
+use Rattle.std.proofs.Common.{◌≡◌, ◌∙◌, true, false, sym, ap, arith}
 use Rattle.std.proofs.lemmas.Grind.{common_steps}
-use Rattle.elf_search.specs.Cache.{is_last, next_best, order_at, run_from, usage_of, used_after, is_same}
-use Rattle.elf_search.proofs.CacheRuns.{best_inside, of_inside, or_inside, used_end, used_last, used_more, used_stop}
+use Rattle.elf_search.specs.Cache.{is_last, order_at, usage_of}
+use Rattle.elf_search.proofs.CacheRuns.{best_inside, used_more}
 use Rattle.elf_search.proofs.cache.Cache.used_from.Goals as goal
 
 pub loop-index-preserved : goal.loop-index-preserved

@@ -1,6 +1,6 @@
 use Rattle.elf_search.proofs.NamePieces.{starts_byte, starts_empty, starts_number}
 use Rattle.elf_search.proofs.cache.pieces.first_piece.Goals as goal
-use Rattle.std.proofs.Common.{rules, arith, ◌∙◌, ap, sym}
+use Rattle.std.proofs.Common.{arith, ◌∙◌, sym}
 
 pub returns-in-empty : goal.returns-in-empty
 returns-in-empty c = starts_empty c.args.bytes.now c.in-empty.len_below

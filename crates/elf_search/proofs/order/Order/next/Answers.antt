@@ -1,5 +1,5 @@
-use Rattle.std.proofs.Common.{◌∙◌, refl, arith}
-use Rattle.elf_search.proofs.PlainOrders.{keeps_on, plain_ends, plain_goes}
+use Rattle.std.proofs.Common.{◌∙◌, arith}
+use Rattle.elf_search.proofs.PlainOrders.{keeps_on, plain_goes}
 use Rattle.elf_search.proofs.order.Order.next.Goals as goal
 
 pub objects-preserved : goal.objects-preserved
