@@ -131,6 +131,33 @@ const NO_DEFAULT: Asker<'static> = Asker {
     no_default: true,
 };
 
+// A program, a library that it loads, and one with a list in which the third element is the first again.
+const LOADER: Asker<'static> = Asker {
+    r_path: Some(b"$ORIGIN/../lib:/t/none"),
+    run_path: None,
+    values: PROGRAM,
+    no_default: false,
+};
+
+const LOADED: TokenValues<'static> = TokenValues {
+    origin: Some(b"/t/bin/../lib"),
+    ..PROGRAM
+};
+
+const NO_PATH: Asker<'static> = Asker {
+    r_path: None,
+    run_path: None,
+    values: LOADED,
+    no_default: false,
+};
+
+const TWICE: Asker<'static> = Asker {
+    r_path: None,
+    run_path: Some(b"$ORIGIN/x::$ORIGIN/x/"),
+    values: LOADED,
+    no_default: false,
+};
+
 // A chain of loaders, the path of the cache, and the paths that are tried.
 const CHAINS: &[(&[Asker<'static>], &[u8], &[u8])] = &[
     (&[R_PATH], b"", b"/r1/l\n/e/l\n/d/l\n"),
@@ -142,6 +169,12 @@ const CHAINS: &[(&[Asker<'static>], &[u8], &[u8])] = &[
     ),
     (&[RUN_PATH, OTHER], b"", b"/e/l\n/run/l\n/d/l\n"),
     (&[EMPTY_RUN_PATH, OTHER], b"", b"/e/l\n/d/l\n"),
+    (
+        &[NO_PATH, LOADER],
+        b"",
+        b"/t/bin/../lib/l\n/t/none/l\n/e/l\n/d/l\n",
+    ),
+    (&[TWICE, LOADER], b"", b"/e/l\n/t/bin/../lib/x/l\nl\n/d/l\n"),
     (&[R_PATH], b"/d/cached", b"/r1/l\n/e/l\n/d/cached\n/d/l\n"),
     (&[NO_DEFAULT], b"/d/cached", b"/r1/l\n/e/l\n"),
     (&[NO_DEFAULT], b"/dd/cached", b"/r1/l\n/e/l\n/dd/cached\n"),

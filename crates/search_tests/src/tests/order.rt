@@ -48,6 +48,20 @@ const CASES: &[Case] = &[
         list: &[0, 1, 2, 3],
         starts: &[2, 1, 3],
     },
+    // the same with the entries of the program exchanged
+    Case {
+        entries: 2,
+        found: &[
+            ((0, 0), Found::New(1)),
+            ((0, 1), Found::New(2)),
+            ((1, 0), Found::New(1)),
+            ((2, 0), Found::Known(3)),
+            ((2, 1), Found::Known(1)),
+            ((3, 0), Found::Known(2)),
+        ],
+        list: &[0, 1, 2, 3],
+        starts: &[1, 2, 3],
+    },
     // a missing name, and a library that needs the program and itself
     Case {
         entries: 2,
