@@ -1,2 +1,3 @@
 pub mod FilePieces
 pub mod LentAnswers
+pub mod ObjectStrings

@@ -2,8 +2,8 @@
 //! segment.
 
 ghost use Rattle.std.specs.Prelude.{MatchResult};
-ghost use Rattle.elf_addresses.specs.OfFile.{AreDynamic, AreFileSymbols, AreOfEitherClass};
-ghost use Rattle.elf_addresses.specs.OfFile.{HasNoSymbols, HasNone};
+ghost use Rattle.elf_addresses.specs.OfFile.{AreDynamic, AreAddressSymbols, AreOfEitherClass};
+ghost use Rattle.elf_addresses.specs.OfFile.{HasNoSymbols, HasNoneOfEitherClass};
 ghost use Rattle.elf_linking.specs.DynamicObject.{IsObjectRefused};
 
 use crate::symbols::AddressSymbols;
@@ -18,10 +18,10 @@ impl<'a, E: LinkedSymbol> AddressSymbols<'a, E> {
     /// The symbols of a file of the class of `E`: those of the first section of type `SHT_SYMTAB`; if
     /// there is none, those of the dynamic segment, as many as its hash table counts.
     ///
-    /// Errors: `UnknownClass` if the file has the other class; `Elf` with those of `symtab_at`; those
-    /// of `DynamicObject::read`.
+    /// Errors, the first of these: `UnknownClass` if the file has the other class; `Elf` with those of
+    /// `symtab_at`; those of `DynamicObject::read`.
     pub fn of_file(file: &ElfFile<'a>) -> Result<Self, LinkError>
-        ensures { MatchResult result (AreFileSymbols E.CLASS E.SIZE file.now)
+        ensures { MatchResult result (AreAddressSymbols E.CLASS E.SIZE file.now)
             (HasNoSymbols E.CLASS E.SIZE file.now) }
     {
         if file.header.pt1.class.raw() != E::CLASS {
@@ -60,22 +60,22 @@ impl<'a, E: LinkedSymbol> AddressSymbols<'a, E> {
 
 /// The symbols of a file of either class.
 #[derive(Drop)]
-pub enum FileSymbols<'a> {
+pub enum AnyAddressSymbols<'a> {
     /// Of class 32.
     Narrow(AddressSymbols<'a, DynEntry32>),
     /// Of class 64.
     Wide(AddressSymbols<'a, DynEntry64>),
 }
 
-impl<'a> FileSymbols<'a> {
+impl<'a> AnyAddressSymbols<'a> {
     /// The symbols of a file that name addresses: those of `.symtab`, or else those of its dynamic
     /// segment. The errors are those of `AddressSymbols::of_file` for the class of the file.
     pub fn of(file: &ElfFile<'a>) -> Result<Self, LinkError>
-        ensures { MatchResult result (AreOfEitherClass file.now) (HasNone file.now) }
+        ensures { MatchResult result (AreOfEitherClass file.now) (HasNoneOfEitherClass file.now) }
     {
         if file.header.pt1.class.raw() == 1 {
-            return Ok(FileSymbols::Narrow(AddressSymbols::of_file(file)?));
+            return Ok(AnyAddressSymbols::Narrow(AddressSymbols::of_file(file)?));
         }
-        Ok(FileSymbols::Wide(AddressSymbols::of_file(file)?))
+        Ok(AnyAddressSymbols::Wide(AddressSymbols::of_file(file)?))
     }
 }

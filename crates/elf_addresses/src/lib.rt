@@ -34,7 +34,7 @@ pub use crate::claim::Claim;
 pub use crate::claims::{Claims, innermost, nearest};
 pub use crate::error::IndexError;
 pub use crate::file_claims::{SectionClaims, SegmentClaims};
-pub use crate::file_symbols::FileSymbols;
+pub use crate::file_symbols::AnyAddressSymbols;
 pub use crate::find::{At, open_below, symbol_at};
 pub use crate::index::{ClaimIndex, build_index, index_words};
 pub use crate::owner::{Owner, owner_of};

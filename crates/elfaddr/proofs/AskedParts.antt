@@ -12,7 +12,7 @@ use Rattle.elf_linking.specs.declared.object.DynamicObject.{DynamicObject}
 use Rattle.elfaddr.specs.Asked.{AreDynamicParts, ArePartsAt, FromFile, claims_of, from_dynamic, from_symtab, in_no_symtab, in_symtab, kind, parts_in}
 use Rattle.elfaddr.specs.Lines.{name_in}
 use Rattle.elf_addresses.specs.OfFile as files
-use Rattle.elf_addresses.specs.OfFile.{AreDynamic, AreFileSymbols}
+use Rattle.elf_addresses.specs.OfFile.{AreDynamic, AreAddressSymbols}
 use Rattle.elf_addresses.specs.Symtab.{IsSymtab}
 use Rattle.xmas_elf.specs.Symbol.{SymbolFields}
 use Rattle.xmas_elf.specs.Types.{ElfFile}
@@ -45,7 +45,7 @@ dynamic_parts {E} {r} class fields file symbols are = record {
   machine_is = are.machine;
 }
 
-pub from_file : {E : Type 0} {r : _} (class : ℕ) (fields : E → SymbolFields) (file : ElfFile) (symbols : AddressSymbols E r) → AreFileSymbols class r.SIZE file symbols
+pub from_file : {E : Type 0} {r : _} (class : ℕ) (fields : E → SymbolFields) (file : ElfFile) (symbols : AddressSymbols E r) → AreAddressSymbols class r.SIZE file symbols
     → FromFile class (kind r.SIZE r.value fields) file (claims_of fields (parts_in symbols)) (name_in fields (parts_in symbols).items (parts_in symbols).strings)
 from_file class fields file symbols (files.in_symtab index same first is lie) = in_symtab index first (from_symtab (parts_in symbols) (parts_at fields file index symbols is))
 from_file class fields file symbols (files.in_dynamic same none are) = in_no_symtab none (from_dynamic (parts_in symbols) (dynamic_parts class fields file symbols are))

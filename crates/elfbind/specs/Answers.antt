@@ -15,6 +15,7 @@ use Rattle.linking_programs.specs.declared.Refused.{Refused}
 use Rattle.program_ends.specs.Appended.{AppendsSome}
 use Rattle.program_ends.specs.Stops.{HasBegun, IsStop}
 use Rattle.program_ends.specs.declared.Fault.{Fault}
+use Rattle.program_ends.specs.declared.Fault.TheVariants as faults
 use Rattle.program_ends.specs.declared.Stop as stops
 use Rattle.xmas_elf.specs.Symbol.{SymbolFields, dyn_entry_32_fields, dyn_entry_64_fields}
 use Rattle.xmas_elf.specs.Types.{DynEntry32, DynEntry64}
@@ -89,8 +90,9 @@ pub data IsEnd (narrow_record wide_record : _) (inputs : List Input) (question :
       → IsEndOf {E = DynEntry64} wide_record dyn_entry_64_fields 2 24 inputs question end
       → IsEnd narrow_record wide_record inputs question end
 
--- the exit status: 0 if nothing is wrong; if there is a fault, and nobody reads the output, that of a closed pipe; and
+-- the exit status: 0 if nothing is wrong; if a write failed since nobody reads the output, that of a closed pipe; and
 -- otherwise 1
 abbrev pub status_of : Result Bool (Fault LinkError) → Bool → ℕ
 status_of (Ok wrong) closed = cond wrong 1 0
-status_of (Err fault) closed = cond closed CLOSED 1
+status_of (Err faults.Write) closed = cond closed CLOSED 1
+status_of (Err fault) closed = 1

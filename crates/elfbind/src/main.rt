@@ -93,7 +93,7 @@ pub fn run<W: Write, E: Write>(
     match answer(alloc, question, inputs, &mut *out) {
         Ok(false) => 0,
         Ok(true) => 1,
-        Err(_) if out.is_closed() => CLOSED,
+        Err(Fault::Write) if out.is_closed() => CLOSED,
         Err(fault) => say(NAME, &fault, err),
     }
 }
@@ -237,8 +237,8 @@ fn main(rt: HostRuntime) -> ExitCode {
 fn run_on_arguments(rt: &HostRuntime) -> io::Result<u8> {
     let words = arguments(rt)?;
     let (mut out, mut err) = (Watched::new(rt.stdout()), rt.stderr());
-    if write_about(NAME, USAGE, HELP, &words, &mut out)? {
-        return Ok(0);
+    if let Some(status) = write_about(NAME, USAGE, HELP, &words, &mut out, &mut err) {
+        return Ok(status);
     }
     let Some((question, paths)) = asked(&words) else {
         return Ok(say("usage", &USAGE, &mut out));

@@ -1,6 +1,6 @@
 //! A writer that knows whether its reader has gone, as `head` after its last line.
 
-ghost use Rattle.std.specs.Prelude.{◌≡◌};
+ghost use Rattle.std.specs.Prelude.{◌≡◌, false};
 
 use std::io;
 use std::io::{ErrorKind, Write};
@@ -14,7 +14,9 @@ pub struct Watched<W> {
 
 impl<W> Watched<W> {
     /// A writer to which nothing is written yet.
-    pub fn new(to: W) -> Watched<W> {
+    pub fn new(to: W) -> Watched<W>
+        ensures { result.closed ≡ false }
+    {
         Watched { to, closed: false }
     }
 

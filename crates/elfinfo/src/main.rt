@@ -151,8 +151,16 @@ fn main(rt: HostRuntime) -> ExitCode {
 // The status, or why the arguments can't be read: for want of memory, or since one is not UTF-8.
 fn run_on_arguments(rt: &HostRuntime) -> io::Result<u8> {
     let words = arguments(rt)?;
-    if write_about(NAME, USAGE, HELP, &words, &mut rt.stdout())? {
-        return Ok(0);
+    let about = write_about(
+        NAME,
+        USAGE,
+        HELP,
+        &words,
+        &mut rt.stdout(),
+        &mut rt.stderr(),
+    );
+    if let Some(status) = about {
+        return Ok(status);
     }
     let path = words.first().map(|path| path.as_str());
     let file = path.and_then(|path| File::open(rt, path).ok());

@@ -170,8 +170,8 @@ fn main(rt: HostRuntime) -> ExitCode {
 fn run_on_arguments(rt: &HostRuntime) -> io::Result<u8> {
     let words = arguments(rt)?;
     let (mut out, mut err) = (rt.stdout(), rt.stderr());
-    if write_about(NAME, USAGE, HELP, &words, &mut out)? {
-        return Ok(0);
+    if let Some(status) = write_about(NAME, USAGE, HELP, &words, &mut out, &mut err) {
+        return Ok(status);
     }
     let Some((path, question)) = asked(&words) else {
         return Ok(say("usage", &USAGE, &mut out));

@@ -1,7 +1,7 @@
 //! How the programs read arguments and files, write names, write to their end, and say why they stop.
 #![tactic(auto)]
 
-ghost use Rattle.std.specs.Prelude.{◌≡◌, ◌+◌, ◌^◌, ◌<◌, [], IfSome, IsSomeAnd, List};
+ghost use Rattle.std.specs.Prelude.{◌≡◌, ◌+◌, ◌^◌, ◌<◌, ◌≤◌, [], IfSome, IsSomeAnd, List};
 ghost use Rattle.std.specs.Prelude.{MatchResult, OnOk, Option, length, ℕ, ⊤};
 ghost use Rattle.std.specs.Io.Buffered.{writer_buffer, writer_inner};
 ghost use Rattle.std.specs.Io.KnownBytes.{Appends, Keeps};
@@ -140,21 +140,28 @@ pub fn arguments(rt: &HostRuntime) -> io::Result<Vec<String>> {
 pub const VERSION: &str = "0.1.0";
 
 /// Writes the help of a program if its first argument is `--help`, and its name and version if it is
-/// `--version`, and returns whether it is one of them. `usage` is the name with the arguments, and
-/// `help` what the program prints, and its options, in lines. The error is that of the writer.
-pub fn write_about<S: AsStr, W: Write>(
+/// `--version`, and returns the exit status: 0, or 1 with a message on `err` if the write fails. With
+/// other arguments it returns `None`. `usage` is the name with the arguments, and `help` what the
+/// program prints, and its options, in lines.
+pub fn write_about<S: AsStr, W: Write, E: Write>(
     name: &str,
     usage: &str,
     help: &str,
     arguments: &[S],
     out: &mut W,
-) -> io::Result<bool> {
-    match arguments.first().map(|word| word.as_str()) {
-        Some("--help") => writeln!(out, "usage: {usage}\n{help}")?,
-        Some("--version") => writeln!(out, "{name} {VERSION}")?,
-        _ => return Ok(false),
+    err: &mut E,
+) -> Option<u8>
+    ensures { IfSome result (λ status. status ≤ 1) }
+{
+    let written = match arguments.first()?.as_str() {
+        "--help" => writeln!(out, "usage: {usage}\n{help}"),
+        "--version" => writeln!(out, "{name} {VERSION}"),
+        _ => return None,
+    };
+    match written {
+        Ok(()) => Some(0),
+        Err(_) => Some(say(name, &"cannot write", err)),
     }
-    Ok(true)
 }
 
 /// Writes a line with the name of a program and why it ends with status 1, if the writer doesn't fail,

@@ -3,7 +3,7 @@
 use crate::callers::{linked_name, print_backtrace, symbol_name};
 use crate::tests::rows::{F, Row, symbols, table_bytes};
 use crate::tests::want::want_at;
-use elf_addresses::SymbolIndex;
+use elf_addresses::{AnyAddressSymbols, SymbolIndex};
 use std::test::Fail;
 use worked_files::files::{
     put_header_32, put_header_64, put_section_32, put_section_64, put_symbol, strtab_file,
@@ -89,6 +89,28 @@ fn names_dynamic_symbols(rt: HostRuntime) -> Result<(), Fail> {
         let found = linked_name::<DynEntry64>(&file, address)?;
         want_at(&rt, address, found, name);
     }
+    Ok(())
+}
+
+// The class of the symbols of a file, and their number.
+fn symbols_in(file: &ElfFile<'_>) -> Option<(u8, usize)> {
+    match AnyAddressSymbols::of(file).ok()? {
+        AnyAddressSymbols::Narrow(symbols) => Some((1, symbols.table.len())),
+        AnyAddressSymbols::Wide(symbols) => Some((2, symbols.table.len())),
+    }
+}
+
+// `readelf` lists five dynamic symbols of the shared object, which has no sections.
+#[test]
+fn reads_the_symbols_of_either_class(rt: HostRuntime) -> Result<(), Fail> {
+    let (narrow, wide, neither) = (symtab_file(1), symtab_file(2), strtab_file(LITTLE));
+    let (narrow, wide) = (ElfFile::new(&narrow)?, ElfFile::new(&wide)?);
+    want_at(&rt, "class 32", symbols_in(&narrow), Some((1, 4)));
+    want_at(&rt, "class 64", symbols_in(&wide), Some((2, 4)));
+    let linked = ElfFile::new(SMALL)?;
+    want_at(&rt, "no sections", symbols_in(&linked), Some((2, 5)));
+    let neither = ElfFile::new(&neither)?;
+    want_at(&rt, "no symbols", symbols_in(&neither), None);
     Ok(())
 }
 

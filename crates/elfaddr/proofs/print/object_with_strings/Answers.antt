@@ -1,5 +1,6 @@
-use Rattle.std.proofs.Common.{sym}
+use Rattle.std.proofs.Common.{Some, sym}
 use Rattle.std.proofs.lemmas.Result.{err_from_is_err_and}
+use Rattle.elf_addresses.proofs.lemmas.ObjectStrings.{strings_of_object}
 use Rattle.elfaddr.specs.Tables.{no_count, no_object}
 use Rattle.elfaddr.proofs.print.object_with_strings.Goals as goal
 
@@ -12,6 +13,12 @@ pub returns-in_err-object : goal.returns-in_err-object
 returns-in_err-object g c =
     let p = err_from_is_err_and c.from_residual-in_err-object.result c.from_residual-in_err-object.ensures.1 in
     rw (p.1, p.2) (no_object c.in_ok-count.count c.in_ok-count.ensures c.in_err-object.ensures)
+
+pub unreachable-requires : goal.unreachable-requires
+unreachable-requires g c =
+    let exact = c.in_default.ensures.exact in
+    let strings = strings_of_object (Some c.in_ok-count.count) g.D.LinkedSymbol.CLASS g.D.Record.SIZE c.args.file.now c.in_ok-object.object c.in_ok-object.ensures in
+    cc
 
 pub returns : goal.returns
 returns g c = (

@@ -1,5 +1,12 @@
-use Rattle.std.proofs.Common.{rules, sym, ◌∙◌}
+use Rattle.std.proofs.Common.{None, rules, sym, ◌∙◌}
+use Rattle.elf_addresses.proofs.lemmas.ObjectStrings.{strings_of_object}
 use Rattle.elf_addresses.proofs.symbols.AddressSymbols.of_dynamic.Goals as goal
+
+pub unreachable-requires : goal.unreachable-requires
+unreachable-requires g c =
+    let exact = c.in_default.ensures.exact in
+    let strings = strings_of_object None g.E.LinkedSymbol.CLASS g.E.Record.SIZE c.args.file.now c.in_ok-object.object c.in_ok-object.ensures in
+    cc
 
 pub returns : goal.returns
 returns g c = record {
