@@ -9,7 +9,7 @@ use worked_files::files::{
     put_header_32, put_header_64, put_section_32, put_section_64, put_symbol, strtab_file,
 };
 use worked_files::linked::small::SMALL;
-use worked_files::places::put;
+use worked_files::places::{put, section_32, section_64, set};
 use worked_files::rows;
 use xmas_elf::ElfFile;
 use xmas_elf::bytes::Order;
@@ -103,13 +103,16 @@ fn symbols_in(file: &ElfFile<'_>) -> Option<(u8, usize)> {
 // `readelf` lists five dynamic symbols of the shared object, which has no sections.
 #[test]
 fn reads_the_symbols_of_either_class(rt: HostRuntime) -> Result<(), Fail> {
-    let (narrow, wide, neither) = (symtab_file(1), symtab_file(2), strtab_file(LITTLE));
+    let (mut narrow, mut wide) = (symtab_file(1), symtab_file(2));
+    set(&mut narrow, 132, section_32::LINK, 1, LITTLE);
+    set(&mut wide, 192, section_64::LINK, 1, LITTLE);
     let (narrow, wide) = (ElfFile::new(&narrow)?, ElfFile::new(&wide)?);
     want_at(&rt, "class 32", symbols_in(&narrow), Some((1, 4)));
     want_at(&rt, "class 64", symbols_in(&wide), Some((2, 4)));
     let linked = ElfFile::new(SMALL)?;
     want_at(&rt, "no sections", symbols_in(&linked), Some((2, 5)));
-    let neither = ElfFile::new(&neither)?;
+    let bytes = strtab_file(LITTLE);
+    let neither = ElfFile::new(&bytes)?;
     want_at(&rt, "no symbols", symbols_in(&neither), None);
     Ok(())
 }

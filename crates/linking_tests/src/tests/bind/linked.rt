@@ -77,17 +77,24 @@ fn loaded<'a, E: LinkedSymbol>(
     Ok(object)
 }
 
+// A program and its two libraries. An array with references can't be returned by itself.
+#[derive(Drop)]
+struct ThreeObjects<'a, E: LinkedSymbol> {
+    objects: [DynamicObject<'a, E>; 3],
+}
+
 // The same of a program and its two libraries.
 fn loaded_all<'a, E: LinkedSymbol>(
     rt: &impl Abort,
     files: [&'a [u8]; 3],
-) -> Result<[DynamicObject<'a, E>; 3], LinkError> {
+) -> Result<ThreeObjects<'a, E>, LinkError> {
     let [program, first, second] = files;
-    Ok([
+    let objects = [
         loaded(rt, program)?,
         loaded(rt, first)?,
         loaded(rt, second)?,
-    ])
+    ];
+    Ok(ThreeObjects { objects })
 }
 
 // Wants these references of each file.
@@ -196,7 +203,7 @@ fn check_bound<E: LinkedSymbol>(
     files: [&[u8]; 3],
     bindings: Bindings,
 ) -> Result<(), LinkError> {
-    let objects = loaded_all::<E>(rt, files)?;
+    let objects = loaded_all::<E>(rt, files)?.objects;
     check_bindings(rt, &objects, bindings)?;
     check_checked_bindings(rt, &objects, bindings)?;
     check_scope(rt, &objects, bindings)
@@ -310,7 +317,7 @@ fn bound_at<E: LinkedSymbol>(
     files: [&[u8]; 3],
     (from, place): (usize, usize),
 ) -> Answer {
-    let objects = loaded_all::<E>(rt, files)?;
+    let objects = loaded_all::<E>(rt, files)?.objects;
     let Some(asking) = objects.get(from) else {
         return Ok(None);
     };
