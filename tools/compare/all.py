@@ -37,7 +37,7 @@ def built(name: str) -> str:
     return f"crates/{name}/out/{name}"
 
 
-class Oracle(collections.namedtuple("Oracle", "whole sample needs first script", defaults=[(), ""])):
+class Oracle(collections.namedtuple("Oracle", "whole sample needs first script", defaults=[(), (), ""])):
     """A comparison: what its script, of that name if it names none, runs on whole and as a sample, the programs and files that it
     needs, and what builds or fetches something that it needs, and fails where that can't be had."""
 
@@ -66,6 +66,7 @@ ORACLES = {
     "loads": Oracle([*PROGRAMS, "--damaged", "4000"], [*TWO, "--damaged", "60"], (built("elfload"), "readelf", "llvm-readelf")),
     "memory": Oracle(PROGRAMS, TWO, (built("elfload"), "readelf", "llvm-readelf")),
     "memory_lazy": Oracle(["--lazy", "1", "--step", "8", *PROGRAMS], ["--lazy", "1", *TWO[:1]], (built("elfload"), "readelf", "llvm-readelf"), script="memory"),
+    "search": Oracle(["--trees", "4000", *SYSTEM], ["--trees", "40", *FEW]),
     "fuzz_bindings": Oracle(["--seed", "1", "--count", "2500"], ["--seed", "1", "--count", "100"], (built("elfbind"), built("elfsym"), "gcc")),
     "rust": Oracle([*FROM, "--damaged", "1", "--worked", "2000", "/usr/bin", "/usr/lib"], [*FROM, "--worked", "40", *LIBRARIES[:1]],
         (built("elfanswers"), "cargo"), ("oracle/build.sh", *CRATE)),

@@ -22,7 +22,7 @@ from pages.definitions import uses_in
 PAGES = ROOT / "docs" / "api"
 
 # The libraries that have a page: first those that a user names.
-LIBRARIES = ("xmas_elf", "elf_linking", "elf_addresses", "elf_loading", "elf_base", "elf_records", "elf_c")
+LIBRARIES = ("xmas_elf", "elf_linking", "elf_addresses", "elf_loading", "elf_search", "elf_base", "elf_records", "elf_c")
 
 TITLE = {"struct": "a struct", "enum": "an enum", "trait": "a trait", "type": "a type"}
 

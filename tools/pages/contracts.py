@@ -22,7 +22,7 @@ from pages.sources import ROOT, Crate, ended, parser_of
 REASONS = ROOT / "docs" / "contracts.toml"
 
 # The libraries whose contracts users read, and the crates of callers.
-LIBRARIES = ("elf_base", "elf_records", "xmas_elf", "elf_linking", "elf_addresses", "elf_loading")
+LIBRARIES = ("elf_base", "elf_records", "xmas_elf", "elf_linking", "elf_addresses", "elf_loading", "elf_search")
 CALLERS = ("elf_callers", "linking_callers")
 
 # Words of a clause that speak of Ok or Some alone.

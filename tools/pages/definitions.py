@@ -11,7 +11,7 @@ import re
 
 from pages.sources import ROOT, read
 
-LIBRARIES = ("elf_base", "elf_records", "xmas_elf", "elf_linking", "elf_addresses", "elf_loading")
+LIBRARIES = ("elf_base", "elf_records", "xmas_elf", "elf_linking", "elf_addresses", "elf_loading", "elf_search")
 
 USE = re.compile(r"^\s*(?:ghost )?(?:pub )?use ((?:Rattle|lib)\.[\w.]+?)(?:\.\{([^}]*)\}| as (\w+))?;?$", re.M)
 WORD = re.compile(r"(?<![.\w])[\w◌][\w◌'-]*(?:\.[\w]+)?|[^\s\w(){}\[\],;.:\"]+")

@@ -37,6 +37,10 @@ BOUNDS = {
     "elf_loading::load_scope LoadScope::words": (150, 560),
     "elf_loading::load_scope LoadScope::check_image": (378, 1450),
     "elf_loading::load_scope LoadScope::relocate": (385, 1505),
+    "elf_search::candidates Candidates::new": (80, 310),
+    "elf_search::cache Cache::look_up": (55, 190),
+    "elf_search::start start_order": (12, 45),
+    "elf_search::versions missing_versions": (70, 355),
 }
 ROOM = re.compile(r"(<!-- (read|bytes) ([^>]*) -->\n).*?(<!-- end -->)", re.S)
 

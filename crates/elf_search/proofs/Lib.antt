@@ -1,0 +1,14 @@
+pub mod NameEntries
+pub mod SegmentSearch
+pub mod NamePieces
+pub mod CacheRuns
+pub mod CacheSearch
+pub mod LoadOrders
+pub mod PlainOrders
+pub mod Starting
+pub mod TokenSteps
+pub mod PathSteps
+pub mod ElementSteps
+pub mod VersionSteps
+pub mod ListItems
+pub mod ListSteps

@@ -1,0 +1,78 @@
+-- Items of a list at an index, and the items before and behind it.
+use Rattle.std.proofs.Common.{◌≡◌, ℕ, zero, suc, ◌+◌, ◌<◌, ◌++◌, Bool, List, [], ◌∷◌, true, false, length, drop, take, Some, None, refl, ap, ◌∙◌, sym, arith, add-one, subst}
+use Rattle.std.specs.List.{list_any}
+use Rattle.std.specs.Prelude.{◌||◌, slice_get}
+
+none_behind : {X : Type 0} (xs : List X) (i : ℕ) → slice_get xs i ≡ None → drop i xs ≡ []
+none_behind [] zero is = refl
+none_behind [] (suc i) is = refl
+none_behind (x ∷ xs) zero is = cc
+none_behind (x ∷ xs) (suc i) is = none_behind xs i is
+
+some_behind : {X : Type 0} (xs : List X) (i : ℕ) (x : X) → slice_get xs i ≡ Some x → drop i xs ≡ x ∷ drop (suc i) xs
+some_behind [] i x is = cc
+some_behind (y ∷ xs) zero x is = let same : y ≡ x = cc in ap (λ z. z ∷ xs) same
+some_behind (y ∷ xs) (suc i) x is = some_behind xs i x is
+
+some_before : {X : Type 0} (xs : List X) (i : ℕ) (x : X) → slice_get xs i ≡ Some x → take (suc i) xs ≡ take i xs ++ x ∷ []
+some_before [] i x is = cc
+some_before (y ∷ xs) zero x is = let same : y ≡ x = cc in ap (λ z. z ∷ []) same
+some_before (y ∷ xs) (suc i) x is = ap (λ zs. y ∷ zs) (some_before xs i x is)
+
+-- the same at i + 1
+pub drop_none : {X : Type 0} (xs : List X) (i : ℕ) → slice_get xs i ≡ None → drop i xs ≡ []
+drop_none xs i is = none_behind xs i is
+
+pub drop_some : {X : Type 0} (xs : List X) (i : ℕ) (x : X) → slice_get xs i ≡ Some x → drop i xs ≡ x ∷ drop (i + 1) xs
+drop_some xs i x is = subst (λ n. drop i xs ≡ x ∷ drop n xs) (sym (add-one i)) (some_behind xs i x is)
+
+pub take_some : {X : Type 0} (xs : List X) (i : ℕ) (x : X) → slice_get xs i ≡ Some x → take (i + 1) xs ≡ take i xs ++ x ∷ []
+take_some xs i x is = subst (λ n. take n xs ≡ take i xs ++ x ∷ []) (sym (add-one i)) (some_before xs i x is)
+
+-- whether some item of a list passes a test
+pub any_pushed : {X : Type 0} (test : X → Bool) (xs : List X) (x : X) → list_any test xs ≡ false → test x ≡ false → list_any test (xs ++ x ∷ []) ≡ false
+any_pushed test [] x none fails = rw fails refl
+any_pushed test (y ∷ xs) x none fails = by_first (test y) (λ rest. any_pushed test xs x rest fails) none
+  where
+    by_first : (b : Bool) → (list_any test xs ≡ false → list_any test (xs ++ x ∷ []) ≡ false) → (b || list_any test xs) ≡ false → (b || list_any test (xs ++ x ∷ [])) ≡ false
+    by_first true later is = is
+    by_first false later is = later is
+
+pub any_at : {X : Type 0} (test : X → Bool) (xs : List X) (i n : ℕ) (x : X) → slice_get xs i ≡ Some x → i < n → test x ≡ true → list_any test (take n xs) ≡ true
+any_at test [] i n x is below hit = cc
+any_at test (y ∷ xs) i zero x is below hit = absurd (omega (arith, below))
+any_at test (y ∷ xs) zero (suc n) x is below hit = let same : y ≡ x = cc in rw (ap test same ∙ hit) refl
+any_at test (y ∷ xs) (suc i) (suc n) x is below hit = by_first (test y) (any_at test xs i n x is (omega (arith, below)) hit)
+  where
+    by_first : (b : Bool) → list_any test (take n xs) ≡ true → (b || list_any test (take n xs)) ≡ true
+    by_first true later = refl
+    by_first false later = later
+
+pub any_more : {X : Type 0} (test : X → Bool) (xs : List X) (i : ℕ) (x : X) → slice_get xs i ≡ Some x → list_any test (take i xs) ≡ false → test x ≡ false → list_any test (take (i + 1) xs) ≡ false
+any_more test xs i x is none fails = ap (list_any test) (take_some xs i x is) ∙ any_pushed test (take i xs) x none fails
+
+past_same : {X : Type 0} (xs : List X) (i : ℕ) → slice_get xs i ≡ None → take (suc i) xs ≡ take i xs
+past_same [] zero is = refl
+past_same [] (suc i) is = refl
+past_same (x ∷ xs) zero is = cc
+past_same (x ∷ xs) (suc i) is = ap (λ zs. x ∷ zs) (past_same xs i is)
+
+pub any_past : {X : Type 0} (test : X → Bool) (xs : List X) (i : ℕ) → slice_get xs i ≡ None → list_any test (take i xs) ≡ false → list_any test (take (i + 1) xs) ≡ false
+any_past test xs i is none = ap (list_any test) (subst (λ n. take n xs ≡ take i xs) (sym (add-one i)) (past_same xs i is)) ∙ none
+
+-- the same of the items from an index on
+pub any_behind : {X : Type 0} (test : X → Bool) (xs : List X) (i : ℕ) (x : X) → slice_get xs i ≡ Some x → test x ≡ false → list_any test (drop i xs) ≡ list_any test (drop (i + 1) xs)
+any_behind test xs i x is fails = ap (list_any test) (drop_some xs i x is) ∙ rw fails refl
+
+pub any_here : {X : Type 0} (test : X → Bool) (xs : List X) (i : ℕ) (x : X) → slice_get xs i ≡ Some x → test x ≡ true → list_any test (drop i xs) ≡ true
+any_here test xs i x is hit = ap (list_any test) (drop_some xs i x is) ∙ rw hit refl
+
+pub any_end : {X : Type 0} (test : X → Bool) (xs : List X) (i : ℕ) → drop i xs ≡ [] → list_any test (drop i xs) ≡ false
+any_end test xs i is = ap (list_any test) is
+
+all_behind : {X : Type 0} (xs : List X) → drop (length xs) xs ≡ []
+all_behind [] = refl
+all_behind (x ∷ xs) = all_behind xs
+
+pub drop_last : {X : Type 0} (xs : List X) (i : ℕ) → length xs ≡ i + 1 → drop (i + 1) xs ≡ []
+drop_last xs i is = subst (λ n. drop n xs ≡ []) is (all_behind xs)

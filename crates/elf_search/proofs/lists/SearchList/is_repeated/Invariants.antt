@@ -1,0 +1,7 @@
+use Rattle.std.proofs.Common.{◌≡◌, false, take}
+use Rattle.elf_search.specs.Lists.{elements_in, is_repeated, list_parts}
+use Rattle.elf_search.proofs.lists.SearchList.is_repeated.Given as goal
+
+-- none of the elements so far names the same directory
+abbrev pub invariant-loop-place : goal.invariant-loop-place
+invariant-loop-place l = is_repeated (list_parts l.self) (take l.place (elements_in (list_parts l.self))) l.element ≡ false

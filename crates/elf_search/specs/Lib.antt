@@ -1,0 +1,15 @@
+pub mod Message
+pub mod Fits
+pub mod Names
+pub mod Library
+pub mod Pieces
+pub mod Cache
+pub mod LoadOrder
+pub mod Order
+pub mod Starts
+pub mod Tokens
+pub mod Paths
+pub mod Elements
+pub mod Lists
+pub mod Candidates
+pub mod MissingVersions

@@ -1,0 +1,5 @@
+//! Tests of the search for libraries.
+#![tactic(auto)]
+
+#[cfg(test)]
+mod tests;
