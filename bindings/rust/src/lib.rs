@@ -1,7 +1,7 @@
 //! A reader of ELF files that lie in a byte slice, over the proved static library `elf_c`.
 //!
 //! Every slice and text is a part of the input. No call panics or fails otherwise, whatever the bytes are, and none but
-//! `symbol_map`, `pieces` and `symbol_pieces` of [`ElfFile`] and [`Section`] allocate. Every result of the archive is proved;
+//! `symbol_map`, `pieces`, `symbol_pieces` and `section_symbols` of [`ElfFile`] and [`Section`] allocate. Every result of the archive is proved;
 //! this crate, which slices the input at the ranges that the archive returns, is tested.
 //!
 //! Numbers of headers, symbols and entries are fields, with the names of the standard in [`constants`]; `get_type` and

@@ -11,7 +11,8 @@ const ROOM: usize = 512;
 impl ElfFile<'_> {
     /// The relocations of all sections of type SHT_RELA or SHT_REL, in their order: a symbol's index is one of the section
     /// `link`. Of a file without such sections those of the dynamic segment (DT_RELA, DT_REL, DT_JMPREL), whose symbols are
-    /// [`ElfFile::dynamic_symbols`].
+    /// [`ElfFile::dynamic_symbols`]. Those of the dynamic segment are read 512 at a time, each time from the first on: the
+    /// time grows with the square of their number.
     pub fn relocations(&self) -> Result<impl Iterator<Item = Relocation> + '_, Error> {
         let tables = self.sections()?.filter(|section| [SHT_RELA, SHT_REL].contains(&section.type_));
         tables.clone().try_for_each(|section| section.relocations().map(|_| ()))?;
@@ -27,7 +28,7 @@ impl ElfFile<'_> {
     }
 
     /// The addresses in the packed relative relocations of all sections of type SHT_RELR; of a file without such sections
-    /// those of the dynamic segment (DT_RELR).
+    /// those of the dynamic segment (DT_RELR), whose time grows with the square of their number, as that of `relocations`.
     pub fn packed_relocations(&self) -> Result<impl Iterator<Item = u64> + '_, Error> {
         let tables = self.sections()?.filter(|section| section.type_ == SHT_RELR);
         tables.clone().try_for_each(|section| section.packed_relocations().map(|_| ()))?;
