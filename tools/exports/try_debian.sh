@@ -12,7 +12,7 @@ chmod 755 "$room"
 root="$room/root"
 mmdebstrap --quiet --variant=apt --include=python3,python3-venv,man-db bookworm "$root"
 cp "$dist"/xmas-elf_*_amd64.deb "$root/tmp/xmas-elf.deb"
-inside() { env -i PATH=/usr/bin:/bin HOME=/root LC_ALL=C.UTF-8 chroot "$root" "$@"; }
+inside() { /usr/sbin/chroot "$root" /usr/bin/env -i PATH=/usr/sbin:/usr/bin:/sbin:/bin HOME=/root LC_ALL=C.UTF-8 "$@"; }
 inside apt-get install -y -qq /tmp/xmas-elf.deb > /dev/null
 for name in gcc cc cargo rt; do ! inside sh -c "command -v $name" > /dev/null || { echo "$name is in the root" >&2; exit 1; }; done
 
