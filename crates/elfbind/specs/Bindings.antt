@@ -73,7 +73,7 @@ is_missing weak (Some bound) = false
 
 -- of a reference of the object at index `from`, which may be weak, by what it gets and what it asks for: whether it is
 -- missing its symbol, and its line; or the index of the object, and the error. The line is empty if the reference gets
--- the symbol that it names without a look-up, or if only those are asked for that are missing their symbols
+-- the symbol that it names without a look-up, or if it isn't missing its symbol and only those that are, are asked for
 abbrev pub line_by : {E : Type 0} → (E → SymbolFields) → List Input → Bool → ℕ → Bool → Result (Option (Bound E)) LinkError → Result (Asked E) LinkError → Result (Bool × List ℕ) (ℕ × LinkError)
 line_by fields inputs only_missing from weak (Err error) asked = Err (from, error)
 line_by fields inputs only_missing from weak (Ok bound) (Err error) = Err (from, error)
