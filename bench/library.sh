@@ -9,7 +9,7 @@ here="$(cd "$(dirname "$0")" && pwd)"
 top="$(dirname "$here")"
 mkdir -p "$1"
 room="$(cd "$1" && pwd)"
-crates=(elf_base elf_records xmas_elf elf_linking elf_addresses elf_loading "${@:2}")
+crates=(elf_base elf_records xmas_elf elf_linking elf_library elf_addresses elf_loading "${@:2}")
 
 copy="$room/repository"
 rm -rf "$copy/crates/here/src"

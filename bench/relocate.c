@@ -1,6 +1,6 @@
 /* relocate RUNS PROGRAM [LIBRARY ..]: the cycles of the time stamp counter that relocation takes for a program and its libraries, in
- * the order in which they are loaded, with all symbols bound: all calls, the reading of the files in them, and the calls of the
- * check; the least of RUNS. `relocate.py` runs it. */
+ * the order in which they are loaded, with all symbols bound: the call for all of them, the reading of the files in it, and the calls
+ * of the check; the least of RUNS. `relocate.py` runs it. */
 #include <stdio.h>
 #include <stdlib.h>
 #include <string.h>
@@ -10,8 +10,8 @@
 #define LARGEST 64 /* objects */
 
 static xmas_elf_load_object_t loads[LARGEST];
-static uint8_t *planned[LARGEST], *images[LARGEST], *marks;
-static size_t sizes[LARGEST], count;
+static uint8_t *planned, *images, *marks; /* the images of all objects, one after another */
+static size_t sizes[LARGEST], count, whole;
 
 static void check(uint32_t status, size_t index)
 {
@@ -35,30 +35,29 @@ static void read_file(size_t index, const char *path)
     check(xmas_elf_open(bytes, size, &header), index);
     check(xmas_elf_load_plan(bytes, size, &header, 4096, 0, &plan), index);
     sizes[index] = plan.span.end - plan.span.start;
-    planned[index] = malloc(sizes[index]), images[index] = malloc(sizes[index]);
-    check(xmas_elf_load_image(bytes, size, &header, 4096, 0, index != 0, planned[index], sizes[index]), index);
+    planned = realloc(planned, whole + sizes[index]);
+    check(xmas_elf_load_image(bytes, size, &header, 4096, 0, index != 0, planned + whole, sizes[index]), index);
+    whole += sizes[index];
     uint64_t base = header.type == 2 ? 0 : (index + 1) << 40;
     loads[index] = (xmas_elf_load_object_t){bytes, size, NULL, 0, base, index + 1, -(index + 1) * 4096};
 }
 
 static uint64_t relocate(void)
 {
-    uint64_t left;
-    for (size_t i = 0; i < count; i++) memcpy(images[i], planned[i], sizes[i]), loads[i].image = NULL, loads[i].image_size = 0;
+    uint64_t left, failed = 0;
+    memcpy(images, planned, whole);
     uint64_t began = __rdtsc();
-    for (size_t i = count; i-- > 0;) {
-        check(xmas_elf_relocate(loads, count, i, 0, 4096, 0, images[i], sizes[i], &left), i);
-        loads[i].image = images[i], loads[i].image_size = sizes[i];
-    }
-    return __rdtsc() - began;
+    uint32_t status = xmas_elf_relocate_all(loads, count, 0, 4096, 0, images, whole, &left, &failed);
+    uint64_t ended = __rdtsc();
+    check(status, failed);
+    return ended - began;
 }
 
-/* There is no object after the last one, so that each of these calls reads all files and no more. */
+/* Images of another size are an error after all files are read, and before words are written. */
 static uint64_t read_all(void)
 {
-    uint64_t left, began = __rdtsc();
-    for (size_t i = 0; i < count; i++)
-        if (xmas_elf_relocate(loads, count, count, 0, 4096, 0, images[i], sizes[i], &left) != XMAS_ELF_LINK_OBJECT_INDEX) exit(1);
+    uint64_t left, failed, began = __rdtsc();
+    if (xmas_elf_relocate_all(loads, count, 0, 4096, 0, images, whole - 1, &left, &failed) != XMAS_ELF_LOAD_IMAGE_SIZE) exit(1);
     return __rdtsc() - began;
 }
 
@@ -77,7 +76,7 @@ int main(int argc, char **argv)
     count = (size_t)argc - 2;
     for (size_t i = 0; i < count; i++) read_file(i, argv[i + 2]);
     for (size_t i = 0; i < count; i++) most = sizes[i] > most ? sizes[i] : most;
-    marks = malloc(most / 8 + 1);
+    marks = malloc(most / 8 + 1), images = malloc(whole);
     for (int run = atoi(argv[1]); run > 0; run--) {
         uint64_t one = relocate(), other = read_all(), third = check_all();
         least = one < least ? one : least, reading = other < reading ? other : reading, checks = third < checks ? third : checks;

@@ -67,8 +67,8 @@ groups+=("dynamic=$room/files/dynamic.o" "notes=$room/files/notes.o")
 # The C library: its names have versions.
 groups+=("versions=$(realpath "$(gcc -print-file-name=libc.so.6)")")
 
-# Where one contender answers something else, the times would be of different work.
-"$bench" --answers "${groups[@]}"
+# Where one contender results something else, the times would be of different work.
+"$bench" --results "${groups[@]}"
 for run in $(seq "$runs"); do
     "$bench" --seconds "$seconds" "${groups[@]}" > "$room/run_$run.tsv"
 done

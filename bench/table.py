@@ -47,7 +47,7 @@ def read(room: pathlib.Path) -> tuple:
 
 
 def row_of(*cells: str) -> str:
-    """A row of a table; its cells stand close, as a page counts what stands between blanks as a word."""
+    """A row of a table; without blanks in its cells, between which a page counts words."""
     return "|" + "|".join(cells) + "|"
 
 

@@ -1,5 +1,5 @@
 #!/usr/bin/env bash
-# Builds the program that prints the Rust crate's answers, and prints its path on the last line.
+# Builds the program that prints the Rust crate's results, and prints its path on the last line.
 #
 #   oracle/build.sh            takes xmas-elf 0.10.0 from Cargo's registry
 #   oracle/build.sh FOLDER     takes its files from a folder without a registry: either as the crate has them

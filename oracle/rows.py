@@ -1,13 +1,13 @@
 #!/usr/bin/env python3
-"""Writes the rows that `crates/elfanswers` reads: small files, and the answers that are wanted of them.
+"""Writes the rows that `crates/elfanswers` reads: small files, and the results that are wanted of them.
 
     oracle/rows.py            writes crates/elfanswers/data/*.rows and the files that they are of, and what args and
                               stdout say of them
     oracle/rows.py --check    fails where those are others
 
-`oracle/wanted` has the rows. Each answer there is worked out by hand from the format, and none is the program's.
+`oracle/wanted` has the rows. Each result there is worked out by hand from the format, and none is the program's.
 `crates/elfanswers/src/rows.rt` says how they are read; `rt ci` runs the program, which names each row whose
-answer is another on standard error.
+result is another on standard error.
 """
 import pathlib
 import sys
@@ -23,7 +23,7 @@ PARTS = (headers, sections, names, symbols, segments, data, links, hash_tables, 
 
 
 def written() -> dict:
-    """Each file by its path in the crate, with what is to stand there."""
+    """Each file by its path in the crate, with what is to be there."""
     files = {f"data/{name}.elf": bytes(base) for name, base in BASES.items()}
     parts = {}
     for part in PARTS:

@@ -1,11 +1,11 @@
 #!/usr/bin/env python3
-"""Makes the fixed sample that `rt ci` compares: small files, and the Rust crate's answers over them.
+"""Makes the fixed sample that `rt ci` compares: small files, and the Rust crate's results over them.
 
     oracle/sample.py [FOLDER]        FOLDER: where the crate's files are, as for build.sh
 
-The files and the list of them go to crates/elfanswers/data and args, the crate's answers as they are to
-oracle/sample/NAME.txt. crates/elfanswers/stdout has the same lines, but for those where the library answers
-otherwise: a panic is a refusal there, and the like. `tools/compare/rust.py` has to know each of these
+The files and the list of them go to crates/elfanswers/data and args, the crate's results as they are to
+oracle/sample/NAME.txt. crates/elfanswers/stdout has the same lines, but for those where the library does
+otherwise: a panic is an error there, and the like. `tools/compare/rust.py` has to know each of these
 differences by name, or nothing is written.
 """
 import pathlib
@@ -20,7 +20,7 @@ import damage
 CRATE = TOP / "crates" / "elfanswers"
 TEXTS = TOP / "oracle" / "sample"
 
-# What stands in each file beside the names of its sections.
+# What is in each file beside the names of its sections.
 FILES = {
     "symbols": (".strtab", ".symtab"),
     "dynamic": (".dynstr", ".dynsym", ".hash", ".dynamic"),
@@ -50,14 +50,14 @@ def main() -> int:
         path.write_bytes(data)
         ran = [subprocess.run([it, path.name], cwd=path.parent, capture_output=True, check=False).stdout for it in programs]
         told[name] = [it.decode("utf-8", "replace") for it in ran]
-        tally.compare(name, *(rust.answers(it)[0] for it in told[name]))
+        tally.compare(name, *(rust.results_in(it)[0] for it in told[name]))
     tally.told()
     if tally.left:
         return 1
     TEXTS.mkdir(exist_ok=True)
     for name, (theirs, _) in told.items():
         (TEXTS / f"{name}.txt").write_text(theirs)
-    # The rows of `oracle/rows.py` stand behind the sample.
+    # The rows of `oracle/rows.py` come after the sample.
     for name, own in (("stdout", "".join(ours for _, ours in told.values())), ("args", "".join(f"{name}.elf\n" for name in held))):
         rows = [line for line in (CRATE / name).read_text().splitlines(True) if ".rows" in line]
         (CRATE / name).write_text("".join([own, *rows]))

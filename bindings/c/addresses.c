@@ -8,7 +8,7 @@
 
 enum { MOST = 256 };
 
-static int refused(const char *path, uint32_t status)
+static int failed(const char *path, uint32_t status)
 {
     fprintf(stderr, "%s: %s\n", path, xmas_elf_status_text(status).text);
     return 1;
@@ -33,16 +33,18 @@ static uint32_t find_symbols(const uint8_t *bytes, size_t size, const xmas_elf_h
                              xmas_elf_range_t *indices)
 {
     static const uint32_t types[] = {2, 11};
+    xmas_elf_counts_t counts;
     xmas_elf_section_t section;
-    uint64_t index, wide;
-    for (size_t i = 0; i < 2; i++)
-        for (index = 0; xmas_elf_section(bytes, size, header, index, &section) == XMAS_ELF_OK; index++) {
-            if (section.type != types[i]) continue;
-            for (wide = 0; xmas_elf_section(bytes, size, header, wide, &section) == XMAS_ELF_OK; wide++)
+    uint32_t status = xmas_elf_counts(bytes, size, header, &counts);
+    for (size_t i = 0; status == XMAS_ELF_OK && i < 2; i++)
+        for (uint64_t index = 0; status == XMAS_ELF_OK && index < counts.sections; index++) {
+            status = xmas_elf_section(bytes, size, header, index, &section);
+            if (status != XMAS_ELF_OK || section.type != types[i]) continue;
+            for (uint64_t wide = 0; xmas_elf_section(bytes, size, header, wide, &section) == XMAS_ELF_OK; wide++)
                 if (section.type == 18 && section.link == index) indices->offset = section.offset, indices->size = section.size;
             return xmas_elf_symbols_open(bytes, size, header, index, table);
         }
-    return xmas_elf_dynamic_symbols_open(bytes, size, header, table);
+    return status == XMAS_ELF_OK ? xmas_elf_dynamic_symbols_open(bytes, size, header, table) : status;
 }
 
 static void print_symbol(const uint8_t *bytes, size_t size, const xmas_elf_symbol_table_t *table, const xmas_elf_symbol_at_t *at)
@@ -64,18 +66,23 @@ int main(int argc, char **argv)
     FILE *stream = argc < 2 ? NULL : fopen(argv[1], "rb");
     uint8_t *bytes = stream ? read_all(stream, &size) : NULL;
     uint32_t status, *words;
+    uint64_t *numbers;
+    size_t words_count, numbers_count;
     if (bytes == NULL || count > MOST) return fprintf(stderr, "%s: %s\n", argc < 2 ? "usage" : argv[1], argc < 2 ? "addresses FILE ADDRESS.." : strerror(errno)), 1;
     for (size_t i = 0; i < count; i++) addresses[i] = strtoull(argv[i + 2], NULL, 16);
-    if ((status = xmas_elf_open(bytes, size, &header))) return refused(argv[1], status);
-    if ((status = find_symbols(bytes, size, &header, &table, &indices))) return refused(argv[1], status);
-    /* How many words the index takes, and then the index. */
-    if ((status = xmas_elf_address_index(bytes, size, &header, &table, &indices, 0, NULL, 0, &index))) return refused(argv[1], status);
-    words = malloc((size_t)index.words * sizeof *words + 1);
-    if (words == NULL) return fprintf(stderr, "%s: no memory\n", argv[1]), 1;
-    if ((status = xmas_elf_address_index(bytes, size, &header, &table, &indices, 0, words, (size_t)index.words, &index))) return refused(argv[1], status);
-    if ((status = xmas_elf_symbols_at(bytes, size, &index, words, (size_t)index.words, addresses, count, found, count))) return refused(argv[1], status);
+    if ((status = xmas_elf_open(bytes, size, &header))) return failed(argv[1], status);
+    if ((status = find_symbols(bytes, size, &header, &table, &indices))) return failed(argv[1], status);
+    /* A symbol without a name names no address. */
+    if (table.strings_status) return failed(argv[1], table.strings_status);
+    /* How many words and numbers the index takes, and then the index. */
+    if ((status = xmas_elf_address_index(bytes, size, &header, &table, &indices, 0, NULL, 0, NULL, 0, &index))) return failed(argv[1], status);
+    words_count = (size_t)index.words, numbers_count = (size_t)index.numbers;
+    words = malloc(words_count * sizeof *words + 1), numbers = malloc(numbers_count * sizeof *numbers + 1);
+    if (words == NULL || numbers == NULL) return fprintf(stderr, "%s: no memory\n", argv[1]), 1;
+    if ((status = xmas_elf_address_index(bytes, size, &header, &table, &indices, 0, words, words_count, numbers, numbers_count, &index))) return failed(argv[1], status);
+    if ((status = xmas_elf_symbols_at(bytes, size, &index, words, words_count, numbers, numbers_count, addresses, count, found, count))) return failed(argv[1], status);
     for (size_t i = 0; i < count; i++) print_symbol(bytes, size, &table, &found[i]);
-    free(words);
+    free(words), free(numbers);
     free(bytes);
     return 0;
 }

@@ -103,7 +103,7 @@ static uint32_t print_relocations(const struct input *input, uint64_t address_ta
 }
 
 /* The addresses of packed relocations (gABI, "Relative Relocation Table"): an even word is an address, and each bit of an odd one
- * but the lowest stands for one of the words that follow in memory. */
+ * but the lowest means one of the words that follow in memory. */
 static uint32_t print_packed(const struct input *input)
 {
     xmas_elf_range_t table;

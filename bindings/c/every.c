@@ -20,6 +20,8 @@ struct asked {
     xmas_elf_address_index_t address_index; /* of the table */
     const uint32_t *words; /* of the index */
     size_t words_count;
+    const uint64_t *index_numbers;
+    size_t index_numbers_count;
     uint64_t numbers[2]; /* addresses; for a row the first is that of the symbol with the name */
 };
 
@@ -43,7 +45,7 @@ struct outputs {
         xmas_elf_dynamic_t dynamics[3];
         uint64_t addresses[3];
         xmas_elf_note_t note;
-        xmas_elf_answer_t answers[3];
+        xmas_elf_answer_t results[3];
         xmas_elf_version_t versions[3];
         xmas_elf_found_symbol_t found_symbol;
         xmas_elf_address_index_t address_index;
@@ -61,7 +63,7 @@ struct outputs {
 #define TABLE_OF(asked) (asked)->bytes, (asked)->size, &(asked)->table
 #define CALL(name) static uint32_t name##_call(const struct asked *a, struct outputs *out)
 
-/* A call for many: with no room it answers the same status, and that there are none. */
+/* A call for many: with no room it returns the same status, and that there are none. */
 #define CALL_MANY_OF(name, array, ...) \
     CALL(name) \
     { \
@@ -150,34 +152,38 @@ CALL(check_hash) /* both tables */
     (void)out;
     return xmas_elf_check_hash(a->bytes, a->size, &a->hash) == status ? status : 999;
 }
-CALL(look_ups) /* answers nothing: the status of the first answer stands for it; both tables find the same symbol */
+CALL(look_ups) /* returns nothing: its status is that of the first result; both tables find the same symbol */
 {
     const xmas_elf_range_t ranges[2] = {{0, a->name_size}, {0, a->name_size}};
     struct outputs untouched = *out;
     xmas_elf_answer_t sysv;
-    xmas_elf_look_ups(a->bytes, a->size, &a->hash, a->name, a->name_size, NULL, 0, out->of.answers, 2);
+    xmas_elf_look_ups(a->bytes, a->size, &a->hash, a->name, a->name_size, NULL, 0, out->of.results, 2);
     xmas_elf_look_ups(a->bytes, a->size, &a->hash, a->name, a->name_size, ranges, 2, NULL, 0);
     if (memcmp(&untouched, out, sizeof untouched) != 0) return 999;
-    xmas_elf_look_ups(a->bytes, a->size, &a->hash, a->name, a->name_size, ranges, 2, out->of.answers, 2);
+    xmas_elf_look_ups(a->bytes, a->size, &a->hash, a->name, a->name_size, ranges, 2, out->of.results, 2);
     xmas_elf_look_ups(a->bytes, a->size, &a->sysv, a->name, a->name_size, ranges, 2, &sysv, 1);
-    uint32_t status = out->of.answers[0].status;
-    if (status != out->of.answers[1].status || status != sysv.status) return 998;
-    if (out->of.answers[0].found != (status == XMAS_ELF_OK) || out->of.answers[0].index != sysv.index) return 997;
+    uint32_t status = out->of.results[0].status;
+    if (status != out->of.results[1].status || status != sysv.status) return 998;
+    if (out->of.results[0].found != (status == XMAS_ELF_OK) || out->of.results[0].index != sysv.index) return 997;
     if (status != XMAS_ELF_OK) *out = untouched;
     return status;
 }
-CALL(address_index) /* without words it says how many it takes; a word less is refused */
+CALL(address_index) /* without words it says how many it takes; a word less, or a number less, is an error */
 {
     uint32_t words[WORDS];
+    uint64_t numbers[WORDS];
+    const size_t most = a->words_count, count = a->index_numbers_count;
     const xmas_elf_range_t indices = {a->index, 0};
-    xmas_elf_address_index_t sized;
-    uint32_t status = xmas_elf_address_index(FILE_OF(a), &a->table, &indices, 0, NULL, 0, &sized);
-    if (status != XMAS_ELF_OK) return xmas_elf_address_index(FILE_OF(a), &a->table, &indices, 0, words, WORDS, &out->of.address_index);
-    if (sized.words != a->words_count || sized.sized_count != 0 || sized.open_count != 0) return 999;
-    status = xmas_elf_address_index(FILE_OF(a), &a->table, &indices, 0, words, a->words_count - 1, &out->of.address_index);
+    xmas_elf_address_index_t sized, *index = &out->of.address_index;
+    uint32_t status = xmas_elf_address_index(FILE_OF(a), &a->table, &indices, 0, NULL, 0, NULL, 0, &sized);
+    if (status != XMAS_ELF_OK) return xmas_elf_address_index(FILE_OF(a), &a->table, &indices, 0, words, WORDS, numbers, WORDS, index);
+    if (sized.words != most || sized.numbers != count || sized.sized_count != 0 || sized.open_count != 0) return 999;
+    status = xmas_elf_address_index(FILE_OF(a), &a->table, &indices, 0, words, most - 1, numbers, count, index);
     if (status != XMAS_ELF_INDEX_FEW_WORDS) return 998;
-    status = xmas_elf_address_index(FILE_OF(a), &a->table, &indices, 0, words, a->words_count, &out->of.address_index);
-    if (memcmp(words, a->words, a->words_count * sizeof *words) != 0) return 997;
+    status = xmas_elf_address_index(FILE_OF(a), &a->table, &indices, 0, words, most, numbers, count - 1, index);
+    if (status != XMAS_ELF_INDEX_FEW_WORDS) return 995;
+    status = xmas_elf_address_index(FILE_OF(a), &a->table, &indices, 0, words, most, numbers, count, index);
+    if (memcmp(words, a->words, most * sizeof *words) != 0 || memcmp(numbers, a->index_numbers, count * sizeof *numbers) != 0) return 997;
     return 2 * out->of.address_index.sized_count + out->of.address_index.open_count == a->words_count ? status : 996;
 }
 CALL(symbols_at) /* the symbol of its last byte, and none where no symbol is */
@@ -188,44 +194,51 @@ CALL(symbols_at) /* the symbol of its last byte, and none where no symbol is */
     xmas_elf_symbol_t symbol;
     uint64_t one;
     index.indices.offset = a->index;
-    uint32_t status = xmas_elf_symbols_at(a->bytes, a->size, &index, a->words, a->words_count, addresses, 2, NULL, 0);
-    if (xmas_elf_symbols_at(a->bytes, a->size, &index, a->words, a->words_count, addresses, 2, found, 2) != status) return 999;
+    const uint64_t *numbers = a->index_numbers;
+    const size_t count = a->index_numbers_count;
+    uint32_t status = xmas_elf_symbols_at(a->bytes, a->size, &index, a->words, a->words_count, numbers, count, addresses, 2, NULL, 0);
+    if (xmas_elf_symbols_at(a->bytes, a->size, &index, a->words, a->words_count, numbers, count, addresses, 2, found, 2) != status) return 999;
     if (status != XMAS_ELF_OK) return status;
     if (found[0].found != 1 || found[0].offset != 3 || found[0].is_open != 0 || found[0].symbol.value != a->numbers[0]) return 998;
     if (xmas_elf_symbols(TABLE_OF(a), found[0].index, &symbol, 1, &one) != XMAS_ELF_OK) return 997;
     return memcmp(&symbol, &found[0].symbol, sizeof symbol) == 0 && found[1].found == 0 && found[1].symbol.value == 0 ? status : 996;
 }
-CALL(pieces) /* they follow each other to the end of the file; a word less is refused */
+CALL(pieces) /* they follow each other to the end of the file; a word less, or a number less, is an error */
 {
     uint32_t words[WORDS];
+    uint64_t numbers[WORDS];
     xmas_elf_piece_t all[256];
     xmas_elf_piece_sizes_t sizes, again;
     uint64_t end = 0;
-    uint32_t status = xmas_elf_pieces(FILE_OF(a), 0, NULL, 0, NULL, 0, &sizes);
-    if (status != XMAS_ELF_OK || sizes.words > WORDS) return 999;
-    if (sizes.words > 0 && xmas_elf_pieces(FILE_OF(a), 0, words, (size_t)sizes.words - 1, all, 256, &again) != XMAS_ELF_INDEX_FEW_WORDS) return 998;
-    status = xmas_elf_pieces(FILE_OF(a), 0, words, (size_t)sizes.words, all, 256, &again);
+    uint32_t status = xmas_elf_pieces(FILE_OF(a), 0, NULL, 0, NULL, 0, NULL, 0, &sizes);
+    const size_t most = (size_t)sizes.words, count = (size_t)sizes.numbers;
+    if (status != XMAS_ELF_OK || most > WORDS || count > most) return 999;
+    if (most > 0 && xmas_elf_pieces(FILE_OF(a), 0, words, most - 1, numbers, count, all, 256, &again) != XMAS_ELF_INDEX_FEW_WORDS) return 998;
+    if (count > 0 && xmas_elf_pieces(FILE_OF(a), 0, words, most, numbers, count - 1, all, 256, &again) != XMAS_ELF_INDEX_FEW_WORDS) return 993;
+    status = xmas_elf_pieces(FILE_OF(a), 0, words, most, numbers, count, all, 256, &again);
     if (status != XMAS_ELF_OK || again.words != sizes.words || again.count > 256) return 997;
     for (uint64_t i = 0; i < again.count; end = all[i++].end)
         if (all[i].begin != end || all[i].end <= end || all[i].owner > 6) return 996;
     if (end != a->size) return 995;
-    status = xmas_elf_pieces(FILE_OF(a), a->index, words, a->index > again.count ? 1 : (size_t)sizes.words, out->of.pieces, 2, &sizes);
+    status = xmas_elf_pieces(FILE_OF(a), a->index, words, a->index > again.count ? 1 : most, numbers, count, out->of.pieces, 2, &sizes);
     if (status == XMAS_ELF_OK) out->count = sizes.count;
     return status != XMAS_ELF_OK || a->size == 0 || out->of.pieces[0].begin == all[a->index].begin ? status : 994;
 }
-CALL(symbol_pieces) /* the addresses of a symbol are its own; a word less is refused */
+CALL(symbol_pieces) /* the addresses of a symbol are its own; a word less is an error */
 {
     xmas_elf_address_index_t index = a->address_index;
     uint32_t words[WORDS];
+    uint64_t numbers[WORDS];
+    const size_t most = a->words_count, room = a->index_numbers_count;
     const xmas_elf_piece_t *pieces = out->of.pieces;
     xmas_elf_symbol_t symbol;
     uint64_t count, begin = a->numbers[0];
     index.indices.offset = a->index;
-    uint32_t status = xmas_elf_symbol_pieces(a->bytes, a->size, &index, begin, begin + 4, 0, words, a->words_count, out->of.pieces, 2, &out->count);
+    uint32_t status = xmas_elf_symbol_pieces(a->bytes, a->size, &index, begin, begin + 4, 0, words, most, numbers, room, out->of.pieces, 2, &out->count);
     if (status != XMAS_ELF_OK) return status;
     if (out->count != 1 || pieces[0].begin != begin || pieces[0].end != begin + 4 || pieces[0].owner != 7) return 999;
     if (xmas_elf_symbols(TABLE_OF(a), pieces[0].index, &symbol, 1, &count) != XMAS_ELF_OK || symbol.value != begin) return 998;
-    status = xmas_elf_symbol_pieces(a->bytes, a->size, &index, begin, begin + 4, 0, words, a->words_count - 1, NULL, 0, &count);
+    status = xmas_elf_symbol_pieces(a->bytes, a->size, &index, begin, begin + 4, 0, words, most - 1, numbers, room, NULL, 0, &count);
     return status == XMAS_ELF_INDEX_FEW_WORDS ? XMAS_ELF_OK : 997;
 }
 CALL(load_plan) { return xmas_elf_load_plan(FILE_OF(a), a->index, 0, &out->of.load_plan); }
@@ -233,7 +246,7 @@ CALL_MANY(load_mappings, load_mappings, 4096, 0, 0, a->index)
 #define LARGEST ((size_t)1 << 24)
 static uint8_t *image, *marks; /* of the file in memory, which has them in no segment */
 #define OBJECT_OF(asked) &(xmas_elf_load_object_t){.file = (asked)->bytes, .file_size = (asked)->size}, 1
-CALL(load_image) /* a byte less is refused */
+CALL(load_image) /* a byte less is an error */
 {
     xmas_elf_load_plan_t plan = {.span = {0, 1}};
     uint32_t status = xmas_elf_load_plan(FILE_OF(a), a->index, 0, &plan);
@@ -258,6 +271,19 @@ CALL(relocate) /* without its library the program has a symbol that nothing has 
     status = xmas_elf_relocate(OBJECT_OF(a), a->index, 0, 0, 0, image, size, &out->count);
     return status == XMAS_ELF_LOAD_UNRESOLVED ? XMAS_ELF_OK : status;
 }
+CALL(relocate_all) /* the same, by one call for all */
+{
+    xmas_elf_load_plan_t plan;
+    uint32_t status = xmas_elf_load_plan(FILE_OF(a), a->index, 0, &plan);
+    size_t size = status == XMAS_ELF_OK ? (size_t)(plan.span.end - plan.span.start) : 0;
+    uint64_t failed = 7, none = 7;
+    if (status == XMAS_ELF_OK && xmas_elf_load_image(FILE_OF(a), a->index, 0, 0, image, size) != XMAS_ELF_OK) return 999;
+    if (xmas_elf_relocate_all(OBJECT_OF(a), 0, a->index, 0, image, size + 1, &out->count, &none) == XMAS_ELF_OK) return 998;
+    if (xmas_elf_relocate_all(NULL, 0, 0, a->index, 0, NULL, 0, &out->count, &none) != XMAS_ELF_LINK_OBJECT_INDEX) return 997;
+    status = xmas_elf_relocate_all(OBJECT_OF(a), 0, a->index, 0, image, size, &out->count, &failed);
+    if (status != XMAS_ELF_OK && failed != 0) return 996;
+    return status == XMAS_ELF_LOAD_UNRESOLVED ? XMAS_ELF_OK : status;
+}
 CALL(message) /* OK where the status `index` has a text */
 {
     size_t whole = xmas_elf_message((uint32_t)a->index, NULL, 0);
@@ -270,14 +296,14 @@ enum table { NONE, SYMBOLS = 11, RELOCATIONS = 4, DYNAMIC = 6, NOTES = 7, PACKED
 #define FAR (UINT64_C(1) << 40)
 #define SHORT XMAS_ELF_SHORT_SECTION_HEADER
 
-/* For each export the index that is good and one that is not, and the statuses of the refused call and of a call over no
- * bytes. The refused call has a damaged header and another table and name, too. */
+/* For each export the index that is good and one that is not, and the statuses of the bad call and of a call over no
+ * bytes. The bad call has a damaged header and another table and name, too. */
 static const struct row {
     const char *name;
     uint32_t (*call)(const struct asked *, struct outputs *);
     enum table table;
     uint64_t good, bad;
-    uint32_t refused, empty;
+    uint32_t bad_status, empty;
 } rows[] = {
     {"open", open_call, NONE, FAR, 15, XMAS_ELF_SHORT_PART_1, XMAS_ELF_SHORT_PART_1},
     {"check_header", check_header_call, NONE, 0, 0, XMAS_ELF_HEADER_SIZE, XMAS_ELF_PH_TABLE_RANGE},
@@ -326,12 +352,13 @@ static const struct row {
     {"load_image", load_image_call, NONE, 0, FAR, XMAS_ELF_LOAD_OVERLAP, XMAS_ELF_LOAD_TABLE},
     {"check_image", check_image_call, NONE, 0, FAR, XMAS_ELF_LINK_OBJECT_INDEX, XMAS_ELF_SHORT_PART_1},
     {"relocate", relocate_call, NONE, 0, FAR, XMAS_ELF_LINK_OBJECT_INDEX, XMAS_ELF_SHORT_PART_1},
+    {"relocate_all", relocate_all_call, NONE, 0, FAR, XMAS_ELF_LOAD_OVERLAP, XMAS_ELF_SHORT_PART_1},
     {"message", message_call, NONE, XMAS_ELF_NOT_FOUND, 0, XMAS_ELF_NOT_FOUND, XMAS_ELF_OK},
 };
 
 static int faults;
 
-/* A call with outputs filled by a pattern: its status is the wanted one, and a refused call leaves the pattern. */
+/* A call with outputs filled by a pattern: its status is the wanted one, and a call with an error leaves the pattern. */
 static void expect(const struct row *row, const char *how, const struct asked *asked, uint32_t wanted, struct outputs *out)
 {
     struct outputs before;
@@ -340,7 +367,7 @@ static void expect(const struct row *row, const char *how, const struct asked *a
     uint32_t status = row->call(asked, out);
     int changed = memcmp(&before, out, sizeof before) != 0;
     if (status != wanted) printf("%s, %s: status %u and not %u\n", row->name, how, status, wanted), faults++;
-    if (status != XMAS_ELF_OK && changed) printf("%s, %s: refused, and it wrote\n", row->name, how), faults++;
+    if (status != XMAS_ELF_OK && changed) printf("%s, %s: an error, and it wrote\n", row->name, how), faults++;
 }
 
 static uint64_t section_of_type(const struct asked *asked, uint32_t type)
@@ -364,7 +391,7 @@ static void visit(const struct row *row, struct asked good, const uint8_t *unali
     struct asked moved = good;
     moved.bytes = unaligned;
     expect(row, "unaligned", &moved, XMAS_ELF_OK, &again);
-    if (memcmp(&out, &again, sizeof out) != 0) printf("%s: the answer depends on the address\n", row->name), faults++;
+    if (memcmp(&out, &again, sizeof out) != 0) printf("%s: the result depends on the address\n", row->name), faults++;
 
     struct asked bad = good;
     bad.index = row->bad;
@@ -372,7 +399,7 @@ static void visit(const struct row *row, struct asked good, const uint8_t *unali
     bad.header.sh_str_index = 0xff00;
     bad.name = (const uint8_t *)"\xff";
     bad.name_size = 1;
-    expect(row, "bad", &bad, row->refused, &out);
+    expect(row, "bad", &bad, row->bad_status, &out);
 
     struct asked empty = good;
     empty.bytes = empty.name = NULL;
@@ -382,16 +409,16 @@ static void visit(const struct row *row, struct asked good, const uint8_t *unali
 
 static int is_listed(const struct any *any, uint32_t status)
 {
-    for (size_t i = 0; i < any->answers_count; i++)
-        if (any->answers[i] == status) return 1;
+    for (size_t i = 0; i < any->results_count; i++)
+        if (any->results[i] == status) return 1;
     return 0;
 }
 
-/* Two calls with outputs that are filled by a pattern, the second over the bytes at another address: they answer the same,
- * a status of the list, and a refused call leaves the pattern. */
+/* Two calls with outputs that are filled by a pattern, the second over the bytes at another address: they return the same,
+ * a status of the list, and a call with an error leaves the pattern. */
 static void try_any(const struct any *any, const struct asked *asked, const uint8_t *elsewhere)
 {
-    union output before[3], out[3], again[3];
+    union output before[4], out[4], again[4];
     struct asked moved = *asked;
     moved.bytes = elsewhere;
     memset(before, 0xa5, sizeof before);
@@ -399,9 +426,9 @@ static void try_any(const struct any *any, const struct asked *asked, const uint
     memset(again, 0xa5, sizeof again);
     uint32_t status = any->call(asked, out);
     if (!is_listed(any, status)) printf("%s: status %u is not listed\n", any->name, status), faults++;
-    if (status != XMAS_ELF_OK && memcmp(before, out, sizeof out) != 0) printf("%s: refused, and it wrote\n", any->name), faults++;
+    if (status != XMAS_ELF_OK && memcmp(before, out, sizeof out) != 0) printf("%s: an error, and it wrote\n", any->name), faults++;
     if (any->call(&moved, again) != status || memcmp(out, again, sizeof out) != 0)
-        printf("%s: the answer depends on the address\n", any->name), faults++;
+        printf("%s: the result depends on the address\n", any->name), faults++;
 }
 
 /* Each export over the sections and segments of the file, over no bytes, and with indices that are past all. */
@@ -464,11 +491,14 @@ int main(int argc, char **argv)
     if (xmas_elf_hash_open(FILE_OF(&file), section_of_type(&file, GNU_HASH), &file.hash) != XMAS_ELF_OK) return 2;
     if (xmas_elf_hash_open(FILE_OF(&file), section_of_type(&file, HASH), &file.sysv) != XMAS_ELF_OK) return 2;
     static uint32_t words[WORDS];
+    static uint64_t numbers[WORDS];
     const xmas_elf_range_t none = {0, 0};
     xmas_elf_found_symbol_t found;
-    if (xmas_elf_address_index(FILE_OF(&file), &file.table, &none, 0, words, WORDS, &file.address_index) != XMAS_ELF_OK) return 2;
+    if (xmas_elf_address_index(FILE_OF(&file), &file.table, &none, 0, words, WORDS, numbers, WORDS, &file.address_index) != XMAS_ELF_OK) return 2;
     file.words = words;
     file.words_count = (size_t)file.address_index.words;
+    file.index_numbers = numbers;
+    file.index_numbers_count = (size_t)file.address_index.numbers;
     if (xmas_elf_find_symbol(FILE_OF(&file), (const uint8_t *)"every_finds_this", 16, NULL, 0, &found) != XMAS_ELF_OK) return 2;
     file.numbers[0] = found.symbol.value;
     for (size_t i = 0; i < sizeof rows / sizeof *rows; i++) visit(&rows[i], file, unaligned);

@@ -107,6 +107,7 @@ int main(int argc, char **argv)
         uint32_t found = find_build_id(&input, &id);
         printf("build id %s", found == XMAS_ELF_OK ? "" : "none\n");
         if (found == XMAS_ELF_OK) print_range(&input, id);
+        else if (found != XMAS_ELF_NOT_FOUND) status = found;
     }
     for (int i = 2; i < argc && status == XMAS_ELF_OK; i++) status = find(&input, argv[i]);
     if (status != XMAS_ELF_OK) fprintf(stderr, "%s: %s\n", argv[1], xmas_elf_status_text(status).text);

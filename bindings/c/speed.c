@@ -60,7 +60,7 @@ static uint64_t names_many_pass(const struct input *input, uint64_t *sum)
     return first;
 }
 
-/* Where the bytes of each section stand. */
+/* Where the bytes of each section are. */
 static uint64_t data_pass(const struct input *input, uint64_t *sum)
 {
     xmas_elf_range_t data;
@@ -153,7 +153,7 @@ static uint64_t check_pass(const struct input *input, uint64_t *sum)
     return input->names;
 }
 
-/* Where the names of the symbols stand that GNU's hash table is for. */
+/* Where the names of the symbols are that GNU's hash table has. */
 static void find_names(struct input *input, uint64_t table)
 {
     xmas_elf_name_t name;

@@ -210,12 +210,16 @@ enum xmas_elf_status {
     XMAS_ELF_LINK_RELOCATION_KIND = 116,
     /* Object index is out of range. */
     XMAS_ELF_LINK_OBJECT_INDEX = 117,
+    /* Version records are more or fewer than told. */
+    XMAS_ELF_LINK_VERSION_CHAIN = 118,
     /* A section holds other data than what is asked for. */
     XMAS_ELF_OTHER_DATA = 201,
     /* A table has no record with this index. */
     XMAS_ELF_NO_RECORD = 202,
     /* Nothing has this name. */
     XMAS_ELF_NOT_FOUND = 203,
+    /* There are more than 64 objects. */
+    XMAS_ELF_MANY_OBJECTS = 204,
     /* Type is neither executable nor shared object. */
     XMAS_ELF_LOAD_TYPE = 301,
     /* Program headers are not of the size of the class. */
@@ -282,6 +286,42 @@ enum xmas_elf_status {
     XMAS_ELF_LOAD_UNRESOLVED = 332,
     /* Bytes to copy are not in the image of their object. */
     XMAS_ELF_LOAD_COPY_SOURCE = 333,
+    /* Byte order is not little-endian. */
+    XMAS_ELF_LOAD_BYTE_ORDER = 334,
+    /* Version in the first bytes is not 1. */
+    XMAS_ELF_LOAD_IDENT_VERSION = 335,
+    /* ABI of the operating system is neither System V nor GNU. */
+    XMAS_ELF_LOAD_OS_ABI = 336,
+    /* Version of the ABI is not known. */
+    XMAS_ELF_LOAD_ABI_VERSION = 337,
+    /* Bytes 9 to 15 are not zero. */
+    XMAS_ELF_LOAD_PADDING = 338,
+    /* Version of the file is not 1. */
+    XMAS_ELF_LOAD_VERSION = 339,
+    /* Program at a fixed address is no library. */
+    XMAS_ELF_LOAD_EXECUTABLE = 340,
+    /* No dynamic segment. */
+    XMAS_ELF_LOAD_NO_DYNAMIC = 341,
+    /* Entry point is past the address limit. */
+    XMAS_ELF_LOAD_ENTRY = 342,
+    /* Relocations without addends in a file of class 64. */
+    XMAS_ELF_LOAD_NO_ADDENDS = 343,
+    /* No table of the procedure linkage table for its kind of relocations. */
+    XMAS_ELF_LOAD_NO_SLOTS = 344,
+    /* First packed relocation is not an address. */
+    XMAS_ELF_LOAD_FIRST_PACKED = 345,
+    /* Fewer relative relocations than are counted. */
+    XMAS_ELF_LOAD_RELATIVE_COUNT = 346,
+    /* Type of a relocation is not for the procedure linkage table. */
+    XMAS_ELF_LOAD_SLOT_TYPE = 347,
+    /* Size of a symbol that is in no object. */
+    XMAS_ELF_LOAD_NO_SIZE = 348,
+    /* Symbol to copy is absolute or an indirect function. */
+    XMAS_ELF_LOAD_COPY_KIND = 349,
+    /* Relocation by a function that names a symbol. */
+    XMAS_ELF_LOAD_CALL_SYMBOL = 350,
+    /* Relocations with addends in a file of class 32. */
+    XMAS_ELF_LOAD_ADDENDS = 351,
     /* Table has 2^32 symbols or more. */
     XMAS_ELF_INDEX_MANY_SYMBOLS = 401,
     /* Too few words for the index. */
@@ -538,6 +578,8 @@ typedef struct xmas_elf_address_index_t {
     xmas_elf_range_t indices;
     /* The number of words that the index takes. */
     uint64_t words;
+    /* The number of numbers of 64 bits that the index takes. */
+    uint64_t numbers;
     /* The number of symbols with a size in the index; 0 if it is not built. */
     uint64_t sized_count;
     /* The number of symbols of size 0 in the index; 0 if it is not built. */
@@ -640,7 +682,9 @@ typedef struct xmas_elf_piece_t {
 typedef struct xmas_elf_piece_sizes_t {
     /* The number of words that the call takes. */
     uint64_t words;
-    /* The number of all pieces of the file; 0 if the call only found the number of words. */
+    /* The number of numbers of 64 bits that the call takes. */
+    uint64_t numbers;
+    /* The number of all pieces of the file; 0 if the call only found how many words and numbers it takes. */
     uint64_t count;
 } xmas_elf_piece_sizes_t;
 
@@ -818,9 +862,9 @@ XMAS_ELF_NODISCARD uint32_t xmas_elf_dynamics(const uint8_t *input, size_t input
     const xmas_elf_header_t *header, uint64_t section, uint64_t first, xmas_elf_dynamic_t *out, size_t out_count,
     uint64_t *count) XMAS_ELF_NOEXCEPT;
 
-/* The dynamic entries of the first segment of type PT_DYNAMIC from index `first` on, also those after the entry with
+/* The dynamic entries of the last segment of type PT_DYNAMIC from index `first` on, also those after the entry with
  * tag 0. No section header is needed. Errors, in the order of the tests: XMAS_ELF_LINK_NO_DYNAMIC,
- * XMAS_ELF_DATA_RANGE, XMAS_ELF_UNKNOWN_CLASS, XMAS_ELF_NOT_MULTIPLE, XMAS_ELF_NO_RECORD. */
+ * XMAS_ELF_LINK_ADDRESS, XMAS_ELF_DATA_RANGE, XMAS_ELF_UNKNOWN_CLASS, XMAS_ELF_NOT_MULTIPLE, XMAS_ELF_NO_RECORD. */
 XMAS_ELF_NODISCARD uint32_t xmas_elf_dynamic_entries(const uint8_t *input, size_t input_size,
     const xmas_elf_header_t *header, uint64_t first, xmas_elf_dynamic_t *out, size_t out_count, uint64_t *count)
     XMAS_ELF_NOEXCEPT;
@@ -828,17 +872,16 @@ XMAS_ELF_NODISCARD uint32_t xmas_elf_dynamic_entries(const uint8_t *input, size_
 /* The relocations of the dynamic segment from index `first` on: those of the table DT_RELA, then of DT_REL, then of
  * DT_JMPREL. The index of a symbol is one of `xmas_elf_dynamic_symbols_open`. No section header is needed. Each call
  * reads the relocations before `first` anew, so give much room. Errors, in the order of the tests:
- * XMAS_ELF_LINK_NO_DYNAMIC, XMAS_ELF_DATA_RANGE, XMAS_ELF_NOT_MULTIPLE, XMAS_ELF_LINK_NO_ENTRY,
- * XMAS_ELF_LINK_RELOCATION_KIND, XMAS_ELF_LINK_ADDRESS, XMAS_ELF_NO_RECORD. */
+ * XMAS_ELF_LINK_NO_DYNAMIC, XMAS_ELF_LINK_ADDRESS, XMAS_ELF_DATA_RANGE, XMAS_ELF_NOT_MULTIPLE,
+ * XMAS_ELF_LINK_NO_ENTRY, XMAS_ELF_LINK_RELOCATION_KIND, XMAS_ELF_NO_RECORD. */
 XMAS_ELF_NODISCARD uint32_t xmas_elf_dynamic_relocations(const uint8_t *input, size_t input_size,
     const xmas_elf_header_t *header, uint64_t first, xmas_elf_relocation_t *out, size_t out_count, uint64_t *count)
     XMAS_ELF_NOEXCEPT;
 
 /* The addresses in the packed relative relocations of the dynamic segment (DT_RELR) from index `first` on;
  * XMAS_ELF_NO_RECORD also if there are none. No section header is needed. Each call reads the words from the first
- * on, so give much room. Errors, in the order of the tests: XMAS_ELF_LINK_NO_DYNAMIC, XMAS_ELF_DATA_RANGE,
- * XMAS_ELF_NOT_MULTIPLE, XMAS_ELF_LINK_NO_ENTRY, XMAS_ELF_LINK_ADDRESS, XMAS_ELF_LINK_NOT_MULTIPLE,
- * XMAS_ELF_NO_RECORD. */
+ * on, so give much room. Errors, in the order of the tests: XMAS_ELF_LINK_NO_DYNAMIC, XMAS_ELF_LINK_ADDRESS,
+ * XMAS_ELF_DATA_RANGE, XMAS_ELF_NOT_MULTIPLE, XMAS_ELF_LINK_NO_ENTRY, XMAS_ELF_LINK_NOT_MULTIPLE, XMAS_ELF_NO_RECORD. */
 XMAS_ELF_NODISCARD uint32_t xmas_elf_dynamic_packed_relocations(const uint8_t *input, size_t input_size,
     const xmas_elf_header_t *header, uint64_t first, uint64_t *out, size_t out_count, uint64_t *count)
     XMAS_ELF_NOEXCEPT;
@@ -850,7 +893,7 @@ XMAS_ELF_NODISCARD uint32_t xmas_elf_dynamic_packed_relocations(const uint8_t *i
 XMAS_ELF_NODISCARD uint32_t xmas_elf_note(const uint8_t *input, size_t input_size, const xmas_elf_header_t *header,
     const xmas_elf_range_t *part, uint64_t align, xmas_elf_note_t *out) XMAS_ELF_NOEXCEPT;
 
-/* The range of the file bytes for addresses `address .. address + count`: those of the first PT_LOAD segment that has
+/* The range of the file bytes for addresses `address .. address + count`: those of the last PT_LOAD segment that has
  * them all. No section header is needed. Of a segment without file bytes the offset is 0. Errors, in the order of the
  * tests: XMAS_ELF_LINK_ADDRESS, XMAS_ELF_DATA_RANGE. */
 XMAS_ELF_NODISCARD uint32_t xmas_elf_bytes_at(const uint8_t *input, size_t input_size,
@@ -859,12 +902,12 @@ XMAS_ELF_NODISCARD uint32_t xmas_elf_bytes_at(const uint8_t *input, size_t input
 /* The ranges of the texts that the dynamic entries with a tag name, from index `first` of them on, each with a status
  * of its own, in the order of the entries: for tag 1 (DT_NEEDED) the names of the libraries that the file needs, for
  * 14 (DT_SONAME) the name of the library, for 29 (DT_RUNPATH) and 15 (DT_RPATH) the folders where the dynamic linker
- * looks for libraries. The entries are those of the first segment of type PT_DYNAMIC before the entry with tag 0, so
+ * looks for libraries. The entries are those of the last segment of type PT_DYNAMIC before the entry with tag 0, so
  * no section header is needed. XMAS_ELF_NO_RECORD is for a tag that no more entries have. Each call reads the entries
  * from the first on, so give room for all where a file may have many. Errors, in the order of the tests:
- * XMAS_ELF_LINK_NO_DYNAMIC, XMAS_ELF_DATA_RANGE, XMAS_ELF_NOT_MULTIPLE, XMAS_ELF_NO_RECORD. Errors of a record, in
- * the order of the tests: XMAS_ELF_LINK_NO_ENTRY, XMAS_ELF_LINK_ADDRESS, XMAS_ELF_DATA_RANGE, XMAS_ELF_TEXT_START,
- * XMAS_ELF_TEXT_END, XMAS_ELF_TEXT_UTF_8. */
+ * XMAS_ELF_LINK_NO_DYNAMIC, XMAS_ELF_LINK_ADDRESS, XMAS_ELF_DATA_RANGE, XMAS_ELF_NOT_MULTIPLE, XMAS_ELF_NO_RECORD.
+ * Errors of a record, in the order of the tests: XMAS_ELF_LINK_NO_ENTRY, XMAS_ELF_LINK_ADDRESS, XMAS_ELF_DATA_RANGE,
+ * XMAS_ELF_TEXT_START, XMAS_ELF_TEXT_END, XMAS_ELF_TEXT_UTF_8. */
 XMAS_ELF_NODISCARD uint32_t xmas_elf_dynamic_texts(const uint8_t *input, size_t input_size,
     const xmas_elf_header_t *header, uint64_t tag, uint64_t first, xmas_elf_name_t *out, size_t out_count,
     uint64_t *count) XMAS_ELF_NOEXCEPT;
@@ -874,10 +917,9 @@ XMAS_ELF_NODISCARD uint32_t xmas_elf_dynamic_texts(const uint8_t *input, size_t 
  * that no entry says: the number of chains of the gABI's hash table (DT_HASH) where the segment names one, and else
  * one more than the last index that GNU's (DT_GNU_HASH) reaches, or its first index where it reaches none; this one
  * does not count symbols after the last exported one. If the string table can't be read, the call is OK, and
- * `strings_status` is the reason. Errors, in the order of the tests: XMAS_ELF_LINK_NO_DYNAMIC, XMAS_ELF_DATA_RANGE,
- * XMAS_ELF_NOT_MULTIPLE, XMAS_ELF_LINK_NO_ENTRY, XMAS_ELF_LINK_ADDRESS, XMAS_ELF_SHORT_DATA,
- * XMAS_ELF_LINK_SHORT_TABLE, XMAS_ELF_LINK_BLOOM_COUNT, XMAS_ELF_LINK_CHAIN_INDEX, XMAS_ELF_LINK_CHAIN_DATA,
- * XMAS_ELF_LINK_SYMBOL_INDEX. */
+ * `strings_status` is the reason. Errors, in the order of the tests: XMAS_ELF_LINK_NO_DYNAMIC, XMAS_ELF_LINK_ADDRESS,
+ * XMAS_ELF_DATA_RANGE, XMAS_ELF_NOT_MULTIPLE, XMAS_ELF_LINK_NO_ENTRY, XMAS_ELF_SHORT_DATA, XMAS_ELF_LINK_SHORT_TABLE,
+ * XMAS_ELF_LINK_BLOOM_COUNT, XMAS_ELF_LINK_CHAIN_INDEX, XMAS_ELF_LINK_CHAIN_DATA, XMAS_ELF_LINK_SYMBOL_INDEX. */
 XMAS_ELF_NODISCARD uint32_t xmas_elf_dynamic_symbols_open(const uint8_t *input, size_t input_size,
     const xmas_elf_header_t *header, xmas_elf_symbol_table_t *out) XMAS_ELF_NOEXCEPT;
 
@@ -886,7 +928,7 @@ XMAS_ELF_NODISCARD uint32_t xmas_elf_dynamic_symbols_open(const uint8_t *input, 
  * `strip`, those of the dynamic segment, as `xmas_elf_dynamic_symbols_open` does. Errors, in the order of the tests:
  * XMAS_ELF_SHORT_SECTION_HEADER, XMAS_ELF_UNKNOWN_CLASS, XMAS_ELF_SMALL_ENTRY, XMAS_ELF_INVALID_SH_TYPE,
  * XMAS_ELF_DATA_RANGE, XMAS_ELF_NOT_MULTIPLE, XMAS_ELF_NOTE_32, XMAS_ELF_SHORT_DATA, XMAS_ELF_OTHER_DATA,
- * XMAS_ELF_LINK_NO_DYNAMIC, XMAS_ELF_LINK_NO_ENTRY, XMAS_ELF_LINK_ADDRESS, XMAS_ELF_LINK_SHORT_TABLE,
+ * XMAS_ELF_LINK_NO_DYNAMIC, XMAS_ELF_LINK_ADDRESS, XMAS_ELF_LINK_NO_ENTRY, XMAS_ELF_LINK_SHORT_TABLE,
  * XMAS_ELF_LINK_BLOOM_COUNT, XMAS_ELF_LINK_CHAIN_INDEX, XMAS_ELF_LINK_CHAIN_DATA, XMAS_ELF_LINK_SYMBOL_INDEX. */
 XMAS_ELF_NODISCARD uint32_t xmas_elf_file_symbols_open(const uint8_t *input, size_t input_size,
     const xmas_elf_header_t *header, xmas_elf_symbol_table_t *out) XMAS_ELF_NOEXCEPT;
@@ -895,8 +937,9 @@ XMAS_ELF_NODISCARD uint32_t xmas_elf_file_symbols_open(const uint8_t *input, siz
  * own: the first definition with the symbol's number but for the one that names the file, and else the first need
  * with it. The call gives as many versions as the table of `xmas_elf_dynamic_symbols_open` has symbols.
  * XMAS_ELF_NOT_FOUND is for a file whose symbols have no versions. Each call counts the symbols anew, so give room
- * for all. Errors, in the order of the tests: XMAS_ELF_LINK_NO_DYNAMIC, XMAS_ELF_DATA_RANGE, XMAS_ELF_NOT_MULTIPLE,
- * XMAS_ELF_LINK_NO_ENTRY, XMAS_ELF_LINK_ADDRESS, XMAS_ELF_SHORT_DATA, XMAS_ELF_LINK_SHORT_TABLE,
+ * for all. A version with a number of 64 or more is searched for among all definitions and needs, once for each
+ * symbol that has it. Errors, in the order of the tests: XMAS_ELF_LINK_NO_DYNAMIC, XMAS_ELF_LINK_ADDRESS,
+ * XMAS_ELF_DATA_RANGE, XMAS_ELF_NOT_MULTIPLE, XMAS_ELF_LINK_NO_ENTRY, XMAS_ELF_SHORT_DATA, XMAS_ELF_LINK_SHORT_TABLE,
  * XMAS_ELF_LINK_BLOOM_COUNT, XMAS_ELF_LINK_CHAIN_INDEX, XMAS_ELF_LINK_CHAIN_DATA, XMAS_ELF_LINK_SYMBOL_INDEX,
  * XMAS_ELF_NOT_FOUND, XMAS_ELF_NO_RECORD. Errors of a record, in the order of the tests: XMAS_ELF_LINK_SHORT_VERSION,
  * XMAS_ELF_LINK_VERSION_COUNT, XMAS_ELF_LINK_NO_ENTRY, XMAS_ELF_LINK_ADDRESS, XMAS_ELF_DATA_RANGE,
@@ -907,20 +950,19 @@ XMAS_ELF_NODISCARD uint32_t xmas_elf_dynamic_symbol_versions(const uint8_t *inpu
 
 /* The versions that the file defines (DT_VERDEF) from index `first` on, in their order, each with a status of its
  * own: a record that is cut off is the last one. No section header is needed. Each call reads the records from the
- * first on, so give room for all. Errors, in the order of the tests: XMAS_ELF_LINK_NO_DYNAMIC, XMAS_ELF_DATA_RANGE,
- * XMAS_ELF_NOT_MULTIPLE, XMAS_ELF_LINK_ADDRESS, XMAS_ELF_LINK_NO_ENTRY, XMAS_ELF_NO_RECORD. Errors of a record, in
- * the order of the tests: XMAS_ELF_LINK_SHORT_VERSION, XMAS_ELF_LINK_NO_ENTRY, XMAS_ELF_LINK_ADDRESS,
- * XMAS_ELF_DATA_RANGE, XMAS_ELF_TEXT_START, XMAS_ELF_TEXT_END, XMAS_ELF_TEXT_UTF_8. */
+ * first on, so give room for all. Errors, in the order of the tests: XMAS_ELF_LINK_NO_DYNAMIC, XMAS_ELF_LINK_ADDRESS,
+ * XMAS_ELF_DATA_RANGE, XMAS_ELF_NOT_MULTIPLE, XMAS_ELF_NO_RECORD. Errors of a record, in the order of the tests:
+ * XMAS_ELF_LINK_SHORT_VERSION, XMAS_ELF_LINK_NO_ENTRY, XMAS_ELF_LINK_ADDRESS, XMAS_ELF_DATA_RANGE,
+ * XMAS_ELF_TEXT_START, XMAS_ELF_TEXT_END, XMAS_ELF_TEXT_UTF_8. */
 XMAS_ELF_NODISCARD uint32_t xmas_elf_version_definitions(const uint8_t *input, size_t input_size,
     const xmas_elf_header_t *header, uint64_t first, xmas_elf_version_t *out, size_t out_count, uint64_t *count)
     XMAS_ELF_NOEXCEPT;
 
 /* The versions that the file needs of libraries (DT_VERNEED) from index `first` on, in their order, as
  * `xmas_elf_version_definitions` gives the others. Errors, in the order of the tests: XMAS_ELF_LINK_NO_DYNAMIC,
- * XMAS_ELF_DATA_RANGE, XMAS_ELF_NOT_MULTIPLE, XMAS_ELF_LINK_ADDRESS, XMAS_ELF_LINK_NO_ENTRY, XMAS_ELF_NO_RECORD.
- * Errors of a record, in the order of the tests: XMAS_ELF_LINK_SHORT_VERSION, XMAS_ELF_LINK_VERSION_COUNT,
- * XMAS_ELF_LINK_NO_ENTRY, XMAS_ELF_LINK_ADDRESS, XMAS_ELF_DATA_RANGE, XMAS_ELF_TEXT_START, XMAS_ELF_TEXT_END,
- * XMAS_ELF_TEXT_UTF_8. */
+ * XMAS_ELF_LINK_ADDRESS, XMAS_ELF_DATA_RANGE, XMAS_ELF_NOT_MULTIPLE, XMAS_ELF_NO_RECORD. Errors of a record, in the
+ * order of the tests: XMAS_ELF_LINK_SHORT_VERSION, XMAS_ELF_LINK_VERSION_COUNT, XMAS_ELF_LINK_NO_ENTRY,
+ * XMAS_ELF_LINK_ADDRESS, XMAS_ELF_DATA_RANGE, XMAS_ELF_TEXT_START, XMAS_ELF_TEXT_END, XMAS_ELF_TEXT_UTF_8. */
 XMAS_ELF_NODISCARD uint32_t xmas_elf_version_needs(const uint8_t *input, size_t input_size,
     const xmas_elf_header_t *header, uint64_t first, xmas_elf_version_t *out, size_t out_count, uint64_t *count)
     XMAS_ELF_NOEXCEPT;
@@ -932,8 +974,8 @@ XMAS_ELF_NODISCARD uint32_t xmas_elf_version_needs(const uint8_t *input, size_t 
  * use: also one that is not defined and has a value. The symbol is found only if other files can use it: its binding
  * is global, weak or unique, and its visibility the default or protected. If no symbol is found, that is no error.
  * Each call counts the symbols of the dynamic segment anew; for many names `xmas_elf_look_ups` is faster, which knows
- * no versions. Errors, in the order of the tests: XMAS_ELF_TEXT_UTF_8, XMAS_ELF_LINK_NO_DYNAMIC, XMAS_ELF_DATA_RANGE,
- * XMAS_ELF_NOT_MULTIPLE, XMAS_ELF_LINK_NO_ENTRY, XMAS_ELF_LINK_ADDRESS, XMAS_ELF_SHORT_DATA,
+ * no versions. Errors, in the order of the tests: XMAS_ELF_TEXT_UTF_8, XMAS_ELF_LINK_NO_DYNAMIC,
+ * XMAS_ELF_LINK_ADDRESS, XMAS_ELF_DATA_RANGE, XMAS_ELF_NOT_MULTIPLE, XMAS_ELF_LINK_NO_ENTRY, XMAS_ELF_SHORT_DATA,
  * XMAS_ELF_LINK_SHORT_TABLE, XMAS_ELF_LINK_BLOOM_COUNT, XMAS_ELF_LINK_CHAIN_INDEX, XMAS_ELF_LINK_CHAIN_DATA,
  * XMAS_ELF_LINK_SYMBOL_INDEX, XMAS_ELF_HASH_DATA, XMAS_ELF_CHAIN_INDEX, XMAS_ELF_SYMBOL_INDEX, XMAS_ELF_CHAIN_SUM,
  * XMAS_ELF_HASH_CYCLE, XMAS_ELF_LINK_SHORT_VERSION, XMAS_ELF_LINK_VERSION_COUNT, XMAS_ELF_TEXT_START,
@@ -978,61 +1020,65 @@ XMAS_ELF_NODISCARD uint32_t xmas_elf_check_hash(const uint8_t *input, size_t inp
     const xmas_elf_hash_table_t *table) XMAS_ELF_NOEXCEPT;
 
 /* Builds an index of symbols by their addresses, for many questions of `xmas_elf_symbols_at`. Without words
- * (`words_count` 0) it only finds how many the index takes: `words` of the record; then call it again with as many.
- * They stay the caller's, who keeps them for the questions. `table` is a record of `xmas_elf_symbols_open` or
- * `xmas_elf_dynamic_symbols_open`; `indices` is the range of the section of type SHT_SYMTAB_SHNDX that is linked to
- * the symbols' section, of size 0 where there is none; `within` is the index of a section whose symbols alone are
- * asked for, as in an object file, where values are offsets in sections, and else 0. A symbol names addresses if it
- * is in a section, has no type or is a function or an object, and has a name; labels that assemblers make and mapping
- * symbols don't. It takes time n log n for n symbols. `words` is changed in no call that is not OK. Errors, in the
- * order of the tests: XMAS_ELF_DATA_RANGE, XMAS_ELF_NOT_MULTIPLE, XMAS_ELF_INDEX_MANY_SYMBOLS,
- * XMAS_ELF_INDEX_FEW_WORDS. */
+ * (`words_count` 0) it only finds how many words and numbers the index takes: `words` and `numbers` of the record;
+ * then call it again with as many. They stay the caller's, who keeps them for the questions. `table` is a record of
+ * `xmas_elf_symbols_open` or `xmas_elf_dynamic_symbols_open`; `indices` is the range of the section of type
+ * SHT_SYMTAB_SHNDX that is linked to the symbols' section, of size 0 where there is none; `within` is the index of a
+ * section whose symbols alone are asked for, as in an object file, where values are offsets in sections, and else 0.
+ * A symbol names addresses if it is in a section, has no type or is a function or an object, and has a name; labels
+ * that assemblers make and mapping symbols don't. It takes time n log n for n symbols. `words` and `numbers` are
+ * changed in no call that is not OK. Errors, in the order of the tests: XMAS_ELF_DATA_RANGE, XMAS_ELF_NOT_MULTIPLE,
+ * XMAS_ELF_INDEX_MANY_SYMBOLS, XMAS_ELF_INDEX_FEW_WORDS. */
 XMAS_ELF_NODISCARD uint32_t xmas_elf_address_index(const uint8_t *input, size_t input_size,
     const xmas_elf_header_t *header, const xmas_elf_symbol_table_t *table, const xmas_elf_range_t *indices,
-    uint32_t within, uint32_t *words, size_t words_count, xmas_elf_address_index_t *out) XMAS_ELF_NOEXCEPT;
+    uint32_t within, uint32_t *words, size_t words_count, uint64_t *numbers, size_t numbers_count,
+    xmas_elf_address_index_t *out) XMAS_ELF_NOEXCEPT;
 
 /* The symbols of many addresses by an index, as many as there are addresses and as `out` has room for. A symbol
  * covers `size` addresses from its `value` on, and with size 0 its value alone. Of several that cover an address, one
  * with a size comes first, then the one that begins last, the smallest, a function before an object, a global one
  * before a weak one before a local one, and the first of the table. If no symbol covers an address, that is no error.
- * A question takes time log n for n symbols. Each word is tested: with others than those of `xmas_elf_address_index`
- * a symbol may be missed, and one that is found covers the address. Errors, in the order of the tests:
- * XMAS_ELF_DATA_RANGE, XMAS_ELF_NOT_MULTIPLE. */
+ * A question takes time log n for n symbols. With other words or numbers than those of `xmas_elf_address_index` a
+ * symbol may be missed, and one that is found covers the address, but may be one that names none. Errors, in the
+ * order of the tests: XMAS_ELF_DATA_RANGE, XMAS_ELF_NOT_MULTIPLE. */
 XMAS_ELF_NODISCARD uint32_t xmas_elf_symbols_at(const uint8_t *input, size_t input_size,
-    const xmas_elf_address_index_t *index, const uint32_t *words, size_t words_count, const uint64_t *addresses,
-    size_t addresses_count, xmas_elf_symbol_at_t *out, size_t out_count) XMAS_ELF_NOEXCEPT;
+    const xmas_elf_address_index_t *index, const uint32_t *words, size_t words_count, const uint64_t *numbers,
+    size_t numbers_count, const uint64_t *addresses, size_t addresses_count, xmas_elf_symbol_at_t *out,
+    size_t out_count) XMAS_ELF_NOEXCEPT;
 
 /* The pieces of a file from index `first` on, in the order of their offsets, as many as `out` has room for: which
  * bytes belong to what. Every byte of the file is in exactly one piece, and the sizes of all pieces sum to the size
  * of the file. Of the parts that cover a byte it belongs to the first of these kinds: the ELF header, the program
  * header table, the section header table, sections (but those of type SHT_NULL and SHT_NOBITS), segments (but those
  * of type PT_NULL and PT_GNU_RELRO); of several of a kind to the one that begins last, then the smallest, then the
- * first of the table. Without words (`words_count` 0) it only finds how many it takes: `words` of `sizes`. Call it
- * again with as many, and then with room for `count` pieces. Each call builds an index in the words, in time n log n
- * for n sections and segments, so give room for all. The words may hold anything before and after. Errors:
- * XMAS_ELF_INDEX_FEW_WORDS. */
+ * first of the table. Without words (`words_count` 0) it only finds how many words and numbers it takes: `words` and
+ * `numbers` of `sizes`. Call it again with as many, and then with room for `count` pieces. Each call builds an index
+ * in them, in time n log n for n sections and segments, so give room for all. They may hold anything before and
+ * after. Errors: XMAS_ELF_INDEX_FEW_WORDS. */
 XMAS_ELF_NODISCARD uint32_t xmas_elf_pieces(const uint8_t *input, size_t input_size, const xmas_elf_header_t *header,
-    uint64_t first, uint32_t *words, size_t words_count, xmas_elf_piece_t *out, size_t out_count,
-    xmas_elf_piece_sizes_t *sizes) XMAS_ELF_NOEXCEPT;
+    uint64_t first, uint32_t *words, size_t words_count, uint64_t *numbers, size_t numbers_count,
+    xmas_elf_piece_t *out, size_t out_count, xmas_elf_piece_sizes_t *sizes) XMAS_ELF_NOEXCEPT;
 
 /* The pieces of addresses `begin .. end` by symbols, from index `first` on, as many as `out` has room for; `count` is
  * the number of all. Every address is in exactly one piece: that of the symbol with a size that `xmas_elf_symbols_at`
  * finds for it, or that of no symbol. `index` is a record of `xmas_elf_address_index`, which may be called without
  * words for it, with the index of a section as `within`, and `begin` and `end` are the addresses of its first byte
- * and after its last one; in an object file, 0 and its size. The call takes `words` of the record, and builds the
- * index in them anew: they may hold anything before and after. Errors, in the order of the tests:
+ * and after its last one; in an object file, 0 and its size. The call takes `words` and `numbers` of the record, and
+ * builds the index in them anew: they may hold anything before and after. Errors, in the order of the tests:
  * XMAS_ELF_DATA_RANGE, XMAS_ELF_NOT_MULTIPLE, XMAS_ELF_INDEX_MANY_SYMBOLS, XMAS_ELF_INDEX_FEW_WORDS. */
 XMAS_ELF_NODISCARD uint32_t xmas_elf_symbol_pieces(const uint8_t *input, size_t input_size,
     const xmas_elf_address_index_t *index, uint64_t begin, uint64_t end, uint64_t first, uint32_t *words,
-    size_t words_count, xmas_elf_piece_t *out, size_t out_count, uint64_t *count) XMAS_ELF_NOEXCEPT;
+    size_t words_count, uint64_t *numbers, size_t numbers_count, xmas_elf_piece_t *out, size_t out_count,
+    uint64_t *count) XMAS_ELF_NOEXCEPT;
 
 /* Whether Linux and glibc load a file, and what they put into memory for it. `page` is the size of a page, a power of
  * two; 0 means 4096. `limit` is the end of the addresses that a loader may use; 0 means that of Linux: 0xffffe000 for
- * a file of class 32, and else 0x7ffffffff000, that of x86-64. The load segments are those of type PT_LOAD. Errors,
- * in the order of the tests: XMAS_ELF_LOAD_TYPE, XMAS_ELF_LOAD_ENTRY_SIZE, XMAS_ELF_LOAD_COUNT, XMAS_ELF_LOAD_TABLE,
- * XMAS_ELF_LOAD_FILE_SIZE, XMAS_ELF_LOAD_EMPTY, XMAS_ELF_LOAD_MISALIGNED, XMAS_ELF_LOAD_ALIGNMENT,
- * XMAS_ELF_LOAD_RANGE, XMAS_ELF_LOAD_DATA, XMAS_ELF_LOAD_OVERLAP, XMAS_ELF_LOAD_ZEROS, XMAS_ELF_LOAD_NO_LOAD,
- * XMAS_ELF_LOAD_HEADERS, XMAS_ELF_LOAD_INTERPRETER, XMAS_ELF_LOAD_RELRO, XMAS_ELF_LOAD_TLS. */
+ * a file of class 32, 0x1000000000000 for one of class 64 for AArch64, and else 0x7ffffffff000, that of x86-64. The
+ * load segments are those of type PT_LOAD. Errors, in the order of the tests: XMAS_ELF_LOAD_TYPE,
+ * XMAS_ELF_LOAD_ENTRY_SIZE, XMAS_ELF_LOAD_COUNT, XMAS_ELF_LOAD_TABLE, XMAS_ELF_LOAD_FILE_SIZE, XMAS_ELF_LOAD_EMPTY,
+ * XMAS_ELF_LOAD_MISALIGNED, XMAS_ELF_LOAD_ALIGNMENT, XMAS_ELF_LOAD_RANGE, XMAS_ELF_LOAD_DATA, XMAS_ELF_LOAD_OVERLAP,
+ * XMAS_ELF_LOAD_ZEROS, XMAS_ELF_LOAD_NO_LOAD, XMAS_ELF_LOAD_HEADERS, XMAS_ELF_LOAD_INTERPRETER, XMAS_ELF_LOAD_RELRO,
+ * XMAS_ELF_LOAD_TLS, XMAS_ELF_LOAD_ENTRY. */
 XMAS_ELF_NODISCARD uint32_t xmas_elf_load_plan(const uint8_t *input, size_t input_size,
     const xmas_elf_header_t *header, uint64_t page, uint64_t limit, xmas_elf_load_plan_t *out) XMAS_ELF_NOEXCEPT;
 
@@ -1044,7 +1090,7 @@ XMAS_ELF_NODISCARD uint32_t xmas_elf_load_plan(const uint8_t *input, size_t inpu
  * XMAS_ELF_LOAD_COUNT, XMAS_ELF_LOAD_TABLE, XMAS_ELF_LOAD_FILE_SIZE, XMAS_ELF_LOAD_EMPTY, XMAS_ELF_LOAD_MISALIGNED,
  * XMAS_ELF_LOAD_ALIGNMENT, XMAS_ELF_LOAD_RANGE, XMAS_ELF_LOAD_DATA, XMAS_ELF_LOAD_OVERLAP, XMAS_ELF_LOAD_ZEROS,
  * XMAS_ELF_LOAD_NO_LOAD, XMAS_ELF_LOAD_HEADERS, XMAS_ELF_LOAD_INTERPRETER, XMAS_ELF_LOAD_RELRO, XMAS_ELF_LOAD_TLS,
- * XMAS_ELF_NO_RECORD. */
+ * XMAS_ELF_LOAD_ENTRY, XMAS_ELF_NO_RECORD. */
 XMAS_ELF_NODISCARD uint32_t xmas_elf_load_mappings(const uint8_t *input, size_t input_size,
     const xmas_elf_header_t *header, uint64_t page, uint64_t limit, uint32_t loader, uint64_t first,
     xmas_elf_load_mapping_t *out, size_t out_count, uint64_t *count) XMAS_ELF_NOEXCEPT;
@@ -1056,7 +1102,7 @@ XMAS_ELF_NODISCARD uint32_t xmas_elf_load_mappings(const uint8_t *input, size_t 
  * XMAS_ELF_LOAD_TABLE, XMAS_ELF_LOAD_FILE_SIZE, XMAS_ELF_LOAD_EMPTY, XMAS_ELF_LOAD_MISALIGNED,
  * XMAS_ELF_LOAD_ALIGNMENT, XMAS_ELF_LOAD_RANGE, XMAS_ELF_LOAD_DATA, XMAS_ELF_LOAD_OVERLAP, XMAS_ELF_LOAD_ZEROS,
  * XMAS_ELF_LOAD_NO_LOAD, XMAS_ELF_LOAD_HEADERS, XMAS_ELF_LOAD_INTERPRETER, XMAS_ELF_LOAD_RELRO, XMAS_ELF_LOAD_TLS,
- * XMAS_ELF_LOAD_IMAGE_SIZE. */
+ * XMAS_ELF_LOAD_ENTRY, XMAS_ELF_LOAD_IMAGE_SIZE. */
 XMAS_ELF_NODISCARD uint32_t xmas_elf_load_image(const uint8_t *input, size_t input_size,
     const xmas_elf_header_t *header, uint64_t page, uint64_t limit, uint32_t loader, uint8_t *image,
     size_t image_size) XMAS_ELF_NOEXCEPT;
@@ -1067,22 +1113,25 @@ XMAS_ELF_NODISCARD uint32_t xmas_elf_load_image(const uint8_t *input, size_t inp
  * or with another word. Of the objects only the files are read. `page` and `limit` are those of `xmas_elf_load_plan`,
  * which each file must pass. `marks` has at least a bit for each byte of the span of the object's plan: its size in
  * bytes, divided by 8, and one more. What it holds before and after has no meaning. A call takes up to 64 objects;
- * for more it returns XMAS_ELF_LOAD_IMAGE_SIZE. It reads all files before it tests `of`, so
- * XMAS_ELF_LINK_OBJECT_INDEX comes before errors of the files only where there is no object. Errors, in the order of
- * the tests: XMAS_ELF_LINK_OBJECT_INDEX, XMAS_ELF_LOAD_IMAGE_SIZE, XMAS_ELF_SHORT_PART_1, XMAS_ELF_NO_MAGIC,
- * XMAS_ELF_INVALID_CLASS, XMAS_ELF_SHORT_HEADERS, XMAS_ELF_LINK_NO_DYNAMIC, XMAS_ELF_DATA_RANGE,
- * XMAS_ELF_NOT_MULTIPLE, XMAS_ELF_LINK_NO_ENTRY, XMAS_ELF_LINK_ADDRESS, XMAS_ELF_SHORT_DATA,
- * XMAS_ELF_LINK_SHORT_TABLE, XMAS_ELF_LINK_BLOOM_COUNT, XMAS_ELF_LINK_CHAIN_INDEX, XMAS_ELF_LINK_CHAIN_DATA,
- * XMAS_ELF_LINK_SYMBOL_INDEX, XMAS_ELF_LINK_UNKNOWN_CLASS, XMAS_ELF_LINK_NOT_MULTIPLE, XMAS_ELF_LINK_RELOCATION_KIND,
- * XMAS_ELF_SYMBOL_INDEX, XMAS_ELF_HASH_DATA, XMAS_ELF_CHAIN_INDEX, XMAS_ELF_CHAIN_SUM, XMAS_ELF_HASH_CYCLE,
- * XMAS_ELF_LINK_SHORT_VERSION, XMAS_ELF_LINK_VERSION_COUNT, XMAS_ELF_TEXT_START, XMAS_ELF_TEXT_END,
- * XMAS_ELF_TEXT_UTF_8, XMAS_ELF_LOAD_TYPE, XMAS_ELF_LOAD_ENTRY_SIZE, XMAS_ELF_LOAD_COUNT, XMAS_ELF_LOAD_TABLE,
- * XMAS_ELF_LOAD_FILE_SIZE, XMAS_ELF_LOAD_EMPTY, XMAS_ELF_LOAD_MISALIGNED, XMAS_ELF_LOAD_ALIGNMENT,
- * XMAS_ELF_LOAD_RANGE, XMAS_ELF_LOAD_DATA, XMAS_ELF_LOAD_OVERLAP, XMAS_ELF_LOAD_ZEROS, XMAS_ELF_LOAD_NO_LOAD,
- * XMAS_ELF_LOAD_HEADERS, XMAS_ELF_LOAD_INTERPRETER, XMAS_ELF_LOAD_RELRO, XMAS_ELF_LOAD_TLS, XMAS_ELF_LOAD_DYNAMIC,
- * XMAS_ELF_LOAD_NO_ENTRY, XMAS_ELF_LOAD_RELOCATION_SIZE, XMAS_ELF_LOAD_NOT_MULTIPLE, XMAS_ELF_LOAD_UNREADABLE,
- * XMAS_ELF_LOAD_SLOT_KIND, XMAS_ELF_LOAD_MACHINE, XMAS_ELF_LOAD_FEW_MARKS, XMAS_ELF_LOAD_WORD_TYPE,
- * XMAS_ELF_LOAD_WORD_ADDRESS, XMAS_ELF_LOAD_READ_ONLY, XMAS_ELF_LOAD_WORDS_OVERLAP, XMAS_ELF_LOAD_WORD_IN_TABLE. */
+ * for more it returns XMAS_ELF_MANY_OBJECTS. It reads all files before it tests `of`, so XMAS_ELF_LINK_OBJECT_INDEX
+ * comes before errors of the files only where there is no object. A relocation that names a symbol takes a look-up in
+ * each file up to the one that has it. Errors, in the order of the tests: XMAS_ELF_LINK_OBJECT_INDEX,
+ * XMAS_ELF_MANY_OBJECTS, XMAS_ELF_SHORT_PART_1, XMAS_ELF_NO_MAGIC, XMAS_ELF_INVALID_CLASS, XMAS_ELF_SHORT_HEADERS,
+ * XMAS_ELF_LINK_NO_DYNAMIC, XMAS_ELF_LINK_ADDRESS, XMAS_ELF_DATA_RANGE, XMAS_ELF_NOT_MULTIPLE,
+ * XMAS_ELF_LINK_NO_ENTRY, XMAS_ELF_SHORT_DATA, XMAS_ELF_LINK_SHORT_TABLE, XMAS_ELF_LINK_BLOOM_COUNT,
+ * XMAS_ELF_LINK_CHAIN_INDEX, XMAS_ELF_LINK_CHAIN_DATA, XMAS_ELF_LINK_SYMBOL_INDEX, XMAS_ELF_LINK_UNKNOWN_CLASS,
+ * XMAS_ELF_LINK_NOT_MULTIPLE, XMAS_ELF_LINK_RELOCATION_KIND, XMAS_ELF_SYMBOL_INDEX, XMAS_ELF_HASH_DATA,
+ * XMAS_ELF_CHAIN_INDEX, XMAS_ELF_CHAIN_SUM, XMAS_ELF_HASH_CYCLE, XMAS_ELF_LINK_SHORT_VERSION,
+ * XMAS_ELF_LINK_VERSION_COUNT, XMAS_ELF_TEXT_START, XMAS_ELF_TEXT_END, XMAS_ELF_TEXT_UTF_8, XMAS_ELF_LOAD_TYPE,
+ * XMAS_ELF_LOAD_ENTRY_SIZE, XMAS_ELF_LOAD_COUNT, XMAS_ELF_LOAD_TABLE, XMAS_ELF_LOAD_FILE_SIZE, XMAS_ELF_LOAD_EMPTY,
+ * XMAS_ELF_LOAD_MISALIGNED, XMAS_ELF_LOAD_ALIGNMENT, XMAS_ELF_LOAD_RANGE, XMAS_ELF_LOAD_DATA, XMAS_ELF_LOAD_OVERLAP,
+ * XMAS_ELF_LOAD_ZEROS, XMAS_ELF_LOAD_NO_LOAD, XMAS_ELF_LOAD_HEADERS, XMAS_ELF_LOAD_INTERPRETER, XMAS_ELF_LOAD_RELRO,
+ * XMAS_ELF_LOAD_TLS, XMAS_ELF_LOAD_ENTRY, XMAS_ELF_LOAD_DYNAMIC, XMAS_ELF_LOAD_NO_ENTRY, XMAS_ELF_LOAD_NO_ADDENDS,
+ * XMAS_ELF_LOAD_ADDENDS, XMAS_ELF_LOAD_NO_SLOTS, XMAS_ELF_LOAD_RELOCATION_SIZE, XMAS_ELF_LOAD_NOT_MULTIPLE,
+ * XMAS_ELF_LOAD_UNREADABLE, XMAS_ELF_LOAD_FIRST_PACKED, XMAS_ELF_LOAD_SLOT_KIND, XMAS_ELF_LOAD_MACHINE,
+ * XMAS_ELF_LOAD_RELATIVE_COUNT, XMAS_ELF_LOAD_SLOT_TYPE, XMAS_ELF_LOAD_FEW_MARKS, XMAS_ELF_LOAD_WORD_TYPE,
+ * XMAS_ELF_LOAD_NO_SIZE, XMAS_ELF_LOAD_COPY_KIND, XMAS_ELF_LOAD_CALL_SYMBOL, XMAS_ELF_LOAD_WORD_ADDRESS,
+ * XMAS_ELF_LOAD_READ_ONLY, XMAS_ELF_LOAD_WORDS_OVERLAP, XMAS_ELF_LOAD_WORD_IN_TABLE. */
 XMAS_ELF_NODISCARD uint32_t xmas_elf_check_image(const xmas_elf_load_object_t *objects, size_t objects_count,
     uint64_t of, uint64_t page, uint64_t limit, uint8_t *marks, size_t marks_size) XMAS_ELF_NOEXCEPT;
 
@@ -1094,24 +1143,54 @@ XMAS_ELF_NODISCARD uint32_t xmas_elf_check_image(const xmas_elf_load_object_t *o
  * copied (R_X86_64_COPY) before the one that they are copied to, and give it its image then; `image` shares no byte
  * with the images of objects. If `xmas_elf_check_image` is OK for the object, each byte is that of the one word over
  * it, else that of the file. If a call is not OK, the words before the first that can't be written are written. A
- * call takes up to 64 objects; for more it returns XMAS_ELF_LOAD_IMAGE_SIZE. It reads all files before it tests `of`
- * and the size of `image`, so XMAS_ELF_LINK_OBJECT_INDEX and XMAS_ELF_LOAD_IMAGE_SIZE come before errors of the files
- * only where there is no object or more than 64. It needs about 200 KiB of stack. Errors, in the order of the tests:
- * XMAS_ELF_LINK_OBJECT_INDEX, XMAS_ELF_LOAD_IMAGE_SIZE, XMAS_ELF_SHORT_PART_1, XMAS_ELF_NO_MAGIC,
- * XMAS_ELF_INVALID_CLASS, XMAS_ELF_SHORT_HEADERS, XMAS_ELF_LINK_NO_DYNAMIC, XMAS_ELF_DATA_RANGE,
- * XMAS_ELF_NOT_MULTIPLE, XMAS_ELF_LINK_NO_ENTRY, XMAS_ELF_LINK_ADDRESS, XMAS_ELF_SHORT_DATA,
- * XMAS_ELF_LINK_SHORT_TABLE, XMAS_ELF_LINK_BLOOM_COUNT, XMAS_ELF_LINK_CHAIN_INDEX, XMAS_ELF_LINK_CHAIN_DATA,
- * XMAS_ELF_LINK_SYMBOL_INDEX, XMAS_ELF_LINK_UNKNOWN_CLASS, XMAS_ELF_LINK_NOT_MULTIPLE, XMAS_ELF_LINK_RELOCATION_KIND,
- * XMAS_ELF_SYMBOL_INDEX, XMAS_ELF_HASH_DATA, XMAS_ELF_CHAIN_INDEX, XMAS_ELF_CHAIN_SUM, XMAS_ELF_HASH_CYCLE,
- * XMAS_ELF_LINK_SHORT_VERSION, XMAS_ELF_LINK_VERSION_COUNT, XMAS_ELF_TEXT_START, XMAS_ELF_TEXT_END,
- * XMAS_ELF_TEXT_UTF_8, XMAS_ELF_LOAD_TYPE, XMAS_ELF_LOAD_ENTRY_SIZE, XMAS_ELF_LOAD_COUNT, XMAS_ELF_LOAD_TABLE,
- * XMAS_ELF_LOAD_FILE_SIZE, XMAS_ELF_LOAD_EMPTY, XMAS_ELF_LOAD_MISALIGNED, XMAS_ELF_LOAD_ALIGNMENT,
- * XMAS_ELF_LOAD_RANGE, XMAS_ELF_LOAD_DATA, XMAS_ELF_LOAD_OVERLAP, XMAS_ELF_LOAD_ZEROS, XMAS_ELF_LOAD_NO_LOAD,
- * XMAS_ELF_LOAD_HEADERS, XMAS_ELF_LOAD_INTERPRETER, XMAS_ELF_LOAD_RELRO, XMAS_ELF_LOAD_TLS, XMAS_ELF_LOAD_WORD_TYPE,
- * XMAS_ELF_LOAD_UNRESOLVED, XMAS_ELF_LOAD_WORD_ADDRESS, XMAS_ELF_LOAD_COPY_SOURCE. */
+ * call takes up to 64 objects; for more it returns XMAS_ELF_MANY_OBJECTS. It reads all files before it tests `of`, so
+ * XMAS_ELF_LINK_OBJECT_INDEX comes before errors of the files only where there is no object. A relocation that names
+ * a symbol takes a look-up in each file up to the one that has it. It needs about 200 KiB of stack. Errors, in the
+ * order of the tests: XMAS_ELF_LINK_OBJECT_INDEX, XMAS_ELF_MANY_OBJECTS, XMAS_ELF_SHORT_PART_1, XMAS_ELF_NO_MAGIC,
+ * XMAS_ELF_INVALID_CLASS, XMAS_ELF_SHORT_HEADERS, XMAS_ELF_LINK_NO_DYNAMIC, XMAS_ELF_LINK_ADDRESS,
+ * XMAS_ELF_DATA_RANGE, XMAS_ELF_NOT_MULTIPLE, XMAS_ELF_LINK_NO_ENTRY, XMAS_ELF_SHORT_DATA, XMAS_ELF_LINK_SHORT_TABLE,
+ * XMAS_ELF_LINK_BLOOM_COUNT, XMAS_ELF_LINK_CHAIN_INDEX, XMAS_ELF_LINK_CHAIN_DATA, XMAS_ELF_LINK_SYMBOL_INDEX,
+ * XMAS_ELF_LINK_UNKNOWN_CLASS, XMAS_ELF_LINK_NOT_MULTIPLE, XMAS_ELF_LINK_RELOCATION_KIND, XMAS_ELF_SYMBOL_INDEX,
+ * XMAS_ELF_HASH_DATA, XMAS_ELF_CHAIN_INDEX, XMAS_ELF_CHAIN_SUM, XMAS_ELF_HASH_CYCLE, XMAS_ELF_LINK_SHORT_VERSION,
+ * XMAS_ELF_LINK_VERSION_COUNT, XMAS_ELF_TEXT_START, XMAS_ELF_TEXT_END, XMAS_ELF_TEXT_UTF_8, XMAS_ELF_LOAD_TYPE,
+ * XMAS_ELF_LOAD_ENTRY_SIZE, XMAS_ELF_LOAD_COUNT, XMAS_ELF_LOAD_TABLE, XMAS_ELF_LOAD_FILE_SIZE, XMAS_ELF_LOAD_EMPTY,
+ * XMAS_ELF_LOAD_MISALIGNED, XMAS_ELF_LOAD_ALIGNMENT, XMAS_ELF_LOAD_RANGE, XMAS_ELF_LOAD_DATA, XMAS_ELF_LOAD_OVERLAP,
+ * XMAS_ELF_LOAD_ZEROS, XMAS_ELF_LOAD_NO_LOAD, XMAS_ELF_LOAD_HEADERS, XMAS_ELF_LOAD_INTERPRETER, XMAS_ELF_LOAD_RELRO,
+ * XMAS_ELF_LOAD_TLS, XMAS_ELF_LOAD_ENTRY, XMAS_ELF_LOAD_IMAGE_SIZE, XMAS_ELF_LOAD_WORD_TYPE, XMAS_ELF_LOAD_NO_SIZE,
+ * XMAS_ELF_LOAD_COPY_KIND, XMAS_ELF_LOAD_CALL_SYMBOL, XMAS_ELF_LOAD_UNRESOLVED, XMAS_ELF_LOAD_WORD_ADDRESS,
+ * XMAS_ELF_LOAD_COPY_SOURCE. */
 XMAS_ELF_NODISCARD uint32_t xmas_elf_relocate(const xmas_elf_load_object_t *objects, size_t objects_count,
     uint64_t of, uint32_t lazy, uint64_t page, uint64_t limit, uint8_t *image, size_t image_size, uint64_t *count)
     XMAS_ELF_NOEXCEPT;
+
+/* Writes the words of all objects to their images, those of the last object first, as the dynamic linker does. Each
+ * file is read once, so it takes less time than a call of `xmas_elf_relocate` for each object. `images` are what
+ * `xmas_elf_load_image` writes for each object, one image after another in the order of the objects: its size is the
+ * sum of those of all spans. Bytes are copied (R_X86_64_COPY) from the images of the objects after the own one;
+ * `image` of an object is not read. `lazy`, `page` and `limit` are those of `xmas_elf_relocate`. `left` is the number
+ * of words without a number of all objects. If `xmas_elf_check_image` is OK for an object, each byte of its image is
+ * then that of the one word over it, else that of the file. If a call is not OK, `failed` is the index of the object
+ * with the error; it is unchanged where none has it: with no object (XMAS_ELF_LINK_OBJECT_INDEX), with more than 64
+ * (XMAS_ELF_MANY_OBJECTS), and where `images` is not of the size of all images (XMAS_ELF_LOAD_IMAGE_SIZE). Of errors
+ * of words the last object with one counts: then the objects after it are relocated, and its words before the first
+ * that can't be written are written. Otherwise `images` is unchanged. A relocation that names a symbol takes a
+ * look-up in each file up to the one that has it. It needs about 200 KiB of stack. Errors, in the order of the tests:
+ * XMAS_ELF_LINK_OBJECT_INDEX, XMAS_ELF_MANY_OBJECTS, XMAS_ELF_SHORT_PART_1, XMAS_ELF_NO_MAGIC,
+ * XMAS_ELF_INVALID_CLASS, XMAS_ELF_SHORT_HEADERS, XMAS_ELF_LINK_NO_DYNAMIC, XMAS_ELF_LINK_ADDRESS,
+ * XMAS_ELF_DATA_RANGE, XMAS_ELF_NOT_MULTIPLE, XMAS_ELF_LINK_NO_ENTRY, XMAS_ELF_SHORT_DATA, XMAS_ELF_LINK_SHORT_TABLE,
+ * XMAS_ELF_LINK_BLOOM_COUNT, XMAS_ELF_LINK_CHAIN_INDEX, XMAS_ELF_LINK_CHAIN_DATA, XMAS_ELF_LINK_SYMBOL_INDEX,
+ * XMAS_ELF_LINK_UNKNOWN_CLASS, XMAS_ELF_LINK_NOT_MULTIPLE, XMAS_ELF_LINK_RELOCATION_KIND, XMAS_ELF_SYMBOL_INDEX,
+ * XMAS_ELF_HASH_DATA, XMAS_ELF_CHAIN_INDEX, XMAS_ELF_CHAIN_SUM, XMAS_ELF_HASH_CYCLE, XMAS_ELF_LINK_SHORT_VERSION,
+ * XMAS_ELF_LINK_VERSION_COUNT, XMAS_ELF_TEXT_START, XMAS_ELF_TEXT_END, XMAS_ELF_TEXT_UTF_8, XMAS_ELF_LOAD_TYPE,
+ * XMAS_ELF_LOAD_ENTRY_SIZE, XMAS_ELF_LOAD_COUNT, XMAS_ELF_LOAD_TABLE, XMAS_ELF_LOAD_FILE_SIZE, XMAS_ELF_LOAD_EMPTY,
+ * XMAS_ELF_LOAD_MISALIGNED, XMAS_ELF_LOAD_ALIGNMENT, XMAS_ELF_LOAD_RANGE, XMAS_ELF_LOAD_DATA, XMAS_ELF_LOAD_OVERLAP,
+ * XMAS_ELF_LOAD_ZEROS, XMAS_ELF_LOAD_NO_LOAD, XMAS_ELF_LOAD_HEADERS, XMAS_ELF_LOAD_INTERPRETER, XMAS_ELF_LOAD_RELRO,
+ * XMAS_ELF_LOAD_TLS, XMAS_ELF_LOAD_ENTRY, XMAS_ELF_LOAD_IMAGE_SIZE, XMAS_ELF_LOAD_WORD_TYPE, XMAS_ELF_LOAD_NO_SIZE,
+ * XMAS_ELF_LOAD_COPY_KIND, XMAS_ELF_LOAD_CALL_SYMBOL, XMAS_ELF_LOAD_UNRESOLVED, XMAS_ELF_LOAD_WORD_ADDRESS,
+ * XMAS_ELF_LOAD_COPY_SOURCE. */
+XMAS_ELF_NODISCARD uint32_t xmas_elf_relocate_all(const xmas_elf_load_object_t *objects, size_t objects_count,
+    uint32_t lazy, uint64_t page, uint64_t limit, uint8_t *images, size_t images_size, uint64_t *left,
+    uint64_t *failed) XMAS_ELF_NOEXCEPT;
 
 /* Writes the text of a status to the front of `out`, as much as fits, and returns the size of the whole text in
  * bytes. The text is ASCII without a zero byte at its end. A status that is no error, such as 0, has an empty text. */

@@ -51,7 +51,7 @@ public:
     {
         xmas_elf_found_symbol_t found{};
         const std::uint32_t status = call(xmas_elf_find_symbol, raw(name), name.size(), raw(wanted), wanted.size(), &found);
-        if (status != XMAS_ELF_LINK_NO_DYNAMIC) check(status);
+        if (!is_without_dynamic(status)) check(status);
         if (found.found == 0) return std::nullopt;
         std::uint64_t count = 0;
         xmas_elf_name_t names{};
@@ -89,7 +89,7 @@ public:
         xmas_elf_name_t name{};
         std::uint64_t count = 0;
         const std::uint32_t status = call(xmas_elf_dynamic_texts, tag, std::uint64_t{0}, &name, std::size_t{1}, &count);
-        if (status == XMAS_ELF_NO_RECORD || status == XMAS_ELF_LINK_NO_DYNAMIC) return std::nullopt;
+        if (status == XMAS_ELF_NO_RECORD || is_without_dynamic(status)) return std::nullopt;
         check(status);
         check(name.status);
         return text(name.range);
@@ -130,6 +130,17 @@ public:
     {
         return function(bytes_.data(), bytes_.size(), &header_, arguments...);
     }
+    /// Whether a call says that the file has no dynamic segment. Throws if there may be one, since the program headers can't be
+    /// read.
+    bool is_without_dynamic(std::uint32_t status) const
+    {
+        if (status != XMAS_ELF_LINK_NO_DYNAMIC) return false;
+        xmas_elf_counts_t counts{};
+        xmas_elf_segment_t last{};
+        check(call(xmas_elf_counts, &counts));
+        if (counts.segments != 0) check(call(xmas_elf_segment, counts.segments - 1, &last));
+        return true;
+    }
     /// The bytes of a range that a call returned.
     bytes_view part(xmas_elf_range_t range) const noexcept
     {
@@ -151,7 +162,7 @@ private:
             records.resize(room);
             std::uint64_t count = 0;
             const std::uint32_t status = call(function, arguments..., std::uint64_t{0}, records.data(), records.size(), &count);
-            if (status == XMAS_ELF_NO_RECORD || status == XMAS_ELF_LINK_NO_DYNAMIC || status == XMAS_ELF_NOT_FOUND) return {};
+            if (status == XMAS_ELF_NO_RECORD || status == XMAS_ELF_NOT_FOUND || is_without_dynamic(status)) return {};
             check(status);
             records.resize(static_cast<std::size_t>(count));
             if (count < room) return records;
@@ -361,7 +372,7 @@ inline auto file::dynamic_symbols() const
         if (first != 0) return;
         xmas_elf_symbol_table_t table{};
         const std::uint32_t status = call(xmas_elf_dynamic_symbols_open, &table);
-        if (status == XMAS_ELF_LINK_NO_DYNAMIC) return;
+        if (is_without_dynamic(status)) return;
         check(status);
         std::size_t had;
         do add_symbols(table, had = out.size(), out);

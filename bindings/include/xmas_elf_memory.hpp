@@ -44,15 +44,17 @@ template <class Call> std::vector<piece> stored_pieces(std::size_t room, Call ca
 inline std::vector<piece> pieces(const file &of)
 {
     xmas_elf_piece_sizes_t sizes{};
-    const auto ask = [&](std::vector<std::uint32_t> &words, std::vector<xmas_elf_piece_t> &out) {
-        check(of.call(xmas_elf_pieces, std::uint64_t{0}, words.data(), words.size(), out.data(), out.size(), &sizes));
+    std::vector<std::uint32_t> words;
+    std::vector<std::uint64_t> numbers;
+    const auto ask = [&](std::vector<xmas_elf_piece_t> &out) {
+        check(of.call(xmas_elf_pieces, std::uint64_t{0}, words.data(), words.size(), numbers.data(), numbers.size(), out.data(), out.size(), &sizes));
         return sizes.count;
     };
-    std::vector<std::uint32_t> words;
     std::vector<xmas_elf_piece_t> none;
-    ask(words, none);
+    ask(none);
     words.resize(static_cast<std::size_t>(sizes.words));
-    return stored_pieces(words.size() + 7, [&](std::vector<xmas_elf_piece_t> &out) { return ask(words, out); });
+    numbers.resize(static_cast<std::size_t>(sizes.numbers));
+    return stored_pieces(words.size() + 7, ask);
 }
 
 /// The symbols that name addresses: those of the section of type SHT_SYMTAB, or else of SHT_DYNSYM, or else of the dynamic
@@ -63,6 +65,8 @@ inline bool find_address_symbols(const file &owner, xmas_elf_symbol_table_t &tab
         for (const section &one : owner.sections()) {
             if (one->type != type) continue;
             check(owner.call(xmas_elf_symbols_open, one.index(), &table));
+            // A symbol without a name names no address.
+            check(table.strings_status);
             for (const section &other : owner.sections())
                 if (other->type == 18 && other->link == one.index()) {
                     indices = {other->offset, other->size};
@@ -71,7 +75,8 @@ inline bool find_address_symbols(const file &owner, xmas_elf_symbol_table_t &tab
             return true;
         }
     const std::uint32_t status = owner.call(xmas_elf_dynamic_symbols_open, &table);
-    if (status != XMAS_ELF_LINK_NO_DYNAMIC) check(status);
+    if (!owner.is_without_dynamic(status)) check(status);
+    check(table.strings_status);
     return status == XMAS_ELF_OK;
 }
 
@@ -108,10 +113,11 @@ public:
         index.table.count = count;
         if (has_indices_) index.indices = {order_.size() * size_ + 4 * place, 4 * count};
         index.within = section;
-        std::vector<std::uint32_t> words(3 * count);
+        std::vector<std::uint32_t> words(2 * count);
+        std::vector<std::uint64_t> numbers(2 * count);
         auto found = stored_pieces(2 * count + 1, [&](std::vector<xmas_elf_piece_t> &out) {
             std::uint64_t total = 0;
-            check(xmas_elf_symbol_pieces(input_.data(), input_.size(), &index, begin, end, 0, words.data(), words.size(), out.data(), out.size(), &total));
+            check(xmas_elf_symbol_pieces(input_.data(), input_.size(), &index, begin, end, 0, words.data(), words.size(), numbers.data(), numbers.size(), out.data(), out.size(), &total));
             return total;
         });
         for (piece &one : found)
@@ -164,9 +170,13 @@ public:
         xmas_elf_symbol_table_t table{};
         xmas_elf_range_t indices{};
         if (!find_address_symbols(owner, table, indices)) return;
-        check(owner.call(xmas_elf_address_index, &table, &indices, within, words_.data(), words_.size(), &index_));
+        const auto ask = [&] {
+            check(owner.call(xmas_elf_address_index, &table, &indices, within, words_.data(), words_.size(), numbers_.data(), numbers_.size(), &index_));
+        };
+        ask();
         words_.resize(static_cast<std::size_t>(index_.words));
-        check(owner.call(xmas_elf_address_index, &table, &indices, within, words_.data(), words_.size(), &index_));
+        numbers_.resize(static_cast<std::size_t>(index_.numbers));
+        ask();
     }
 
     /// Which of the addresses `begin .. end` belong to which symbol: that of `find`, if its size is not 0. Every address is in
@@ -175,9 +185,10 @@ public:
     {
         const bytes_view bytes = file_->bytes();
         std::vector<std::uint32_t> words(words_.size());
+        std::vector<std::uint64_t> numbers(numbers_.size());
         return stored_pieces(2 * static_cast<std::size_t>(index_.sized_count) + 1, [&](std::vector<xmas_elf_piece_t> &out) {
             std::uint64_t count = 0;
-            check(xmas_elf_symbol_pieces(bytes.data(), bytes.size(), &index_, begin, end, 0, words.data(), words.size(), out.data(), out.size(), &count));
+            check(xmas_elf_symbol_pieces(bytes.data(), bytes.size(), &index_, begin, end, 0, words.data(), words.size(), numbers.data(), numbers.size(), out.data(), out.size(), &count));
             return count;
         });
     }
@@ -191,8 +202,8 @@ public:
     {
         const bytes_view bytes = file_->bytes();
         std::vector<xmas_elf_symbol_at_t> found(addresses.size());
-        check(xmas_elf_symbols_at(bytes.data(), bytes.size(), &index_, words_.data(), words_.size(), addresses.data(), addresses.size(),
-                                  found.data(), found.size()));
+        check(xmas_elf_symbols_at(bytes.data(), bytes.size(), &index_, words_.data(), words_.size(), numbers_.data(), numbers_.size(), addresses.data(),
+                                  addresses.size(), found.data(), found.size()));
         std::vector<std::optional<symbol_at>> symbols;
         for (const xmas_elf_symbol_at_t &one : found) symbols.push_back(one.found != 0 ? std::optional<symbol_at>(named(one)) : std::nullopt);
         return symbols;
@@ -215,6 +226,7 @@ private:
 
     const file *file_;
     std::vector<std::uint32_t> words_{};
+    std::vector<std::uint64_t> numbers_{};
     xmas_elf_address_index_t index_{};
 };
 
@@ -278,6 +290,28 @@ inline std::uint64_t relocate(const std::vector<xmas_elf_load_object_t> &objects
     std::uint64_t count = 0;
     check(xmas_elf_relocate(objects.data(), objects.size(), of, lazy ? 1 : 0, page, limit, image.data(), image.size(), &count));
     return count;
+}
+
+/// What can't be read or written of one of several objects.
+class object_error : public error {
+public:
+    object_error(std::uint32_t status, std::optional<std::size_t> of) : error(status), of_(of) {}
+    /// The index of the object, if one has the error.
+    std::optional<std::size_t> of() const noexcept { return of_; }
+
+private:
+    std::optional<std::size_t> of_;
+};
+
+/// Writes the words of all objects to their images, those of the last object first, and returns how many have no number. Each file is
+/// read once. `images` are those that `load_image` gave, one after another in the order of the objects. Throws an `object_error`.
+inline std::uint64_t relocate_all(const std::vector<xmas_elf_load_object_t> &objects, std::vector<std::uint8_t> &images,
+                                  bool lazy = false, std::uint64_t page = 0, std::uint64_t limit = 0)
+{
+    std::uint64_t left = 0, failed = objects.size();
+    const std::uint32_t status = xmas_elf_relocate_all(objects.data(), objects.size(), lazy ? 1 : 0, page, limit, images.data(), images.size(), &left, &failed);
+    if (status == XMAS_ELF_OK) return left;
+    throw object_error(status, failed < objects.size() ? std::optional<std::size_t>(static_cast<std::size_t>(failed)) : std::nullopt);
 }
 
 } // namespace xmas_elf

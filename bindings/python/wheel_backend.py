@@ -80,7 +80,7 @@ def record(files, info):
 
 
 def build_wheel(wheel_directory, config_settings=None, metadata_directory=None):
-    """Writes the wheel, and answers its name. The same files make the same bytes."""
+    """Writes the wheel, and results its name. The same files make the same bytes."""
     build_library()
     project = tomllib.loads((HERE / "pyproject.toml").read_text())["project"]
     stem = f"{project['name']}-{project['version']}"

@@ -21,7 +21,7 @@ fn main() {
     let folder = folder_of_archive(&package);
     let archive = folder.join(ARCHIVE);
     if !archive.exists() {
-        refuse(&format!("{} is missing", archive.display()));
+        stop(&format!("{} is missing", archive.display()));
     }
     println!("cargo:rerun-if-changed={}", archive.display());
     println!("cargo:rustc-link-search=native={}", folder.display());
@@ -52,16 +52,16 @@ fn folder_of_archive(package: &Path) -> PathBuf {
 fn built(package: &Path) -> PathBuf {
     let sources = package.join("../../crates/elf_c");
     if !sources.is_dir() {
-        refuse(&format!("{BESIDE}/{ARCHIVE} is missing in {}", package.display()));
+        stop(&format!("{BESIDE}/{ARCHIVE} is missing in {}", package.display()));
     }
     match Command::new("rt").arg("lib").current_dir(&sources).status() {
         Ok(status) if status.success() => sources.join("out"),
-        Ok(_) => refuse(&format!("`rt lib` failed in {}", sources.display())),
-        Err(_) => refuse("`rt` of the Rattle kit, which builds it from the sources, is not on the PATH"),
+        Ok(_) => stop(&format!("`rt lib` failed in {}", sources.display())),
+        Err(_) => stop("`rt` of the Rattle kit, which builds it from the sources, is not on the PATH"),
     }
 }
 
-fn refuse(reason: &str) -> ! {
+fn stop(reason: &str) -> ! {
     eprintln!("error: xmas-elf-proved needs the static library {ARCHIVE}: {reason}");
     eprintln!("  Either take the archive of a release: put it into {BESIDE}/ beside Cargo.toml, or set XMAS_ELF_ARCHIVE to its folder;");
     eprintln!("  or build it in a clone of the repository: install the Rattle kit, and run `rt lib` in crates/elf_c.");

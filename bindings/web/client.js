@@ -3,7 +3,7 @@
 const SCRIPT = "worker.js";
 const policy = globalThis.trustedTypes?.createPolicy("worker", { createScriptURL: () => SCRIPT });
 
-/** One worker, with the questions that it hasn't answered yet. */
+/** One worker, with the questions whose results aren't here yet. */
 export class Client {
   /** @param onprogress is called with `{ stage, done, total }` */
   constructor(onprogress = () => {}) {
@@ -17,20 +17,20 @@ export class Client {
     this.worker.addEventListener("error", (event) => this.end(event.message || "The worker ended."));
   }
 
-  settle({ id, answer, failed }) {
+  settle({ id, result, failed }) {
     const { resolve, reject } = this.asked.get(id);
     this.asked.delete(id);
-    if (failed === undefined) resolve(answer);
+    if (failed === undefined) resolve(result);
     else reject(new Error(failed));
   }
 
-  /** The worker's answer to a call. */
+  /** The worker's result of a call. */
   ask(call, given = {}) {
     this.last += 1;
     const id = this.last;
-    const answered = new Promise((resolve, reject) => this.asked.set(id, { resolve, reject }));
+    const asked = new Promise((resolve, reject) => this.asked.set(id, { resolve, reject }));
     this.worker.postMessage({ id, call, given });
-    return answered;
+    return asked;
   }
 
   /** Ends the worker, whatever it does. */

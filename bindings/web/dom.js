@@ -1,5 +1,5 @@
 // Makes elements. All that comes from a file goes in as text: nothing here, or in any other module of the page, makes
-// markup of a string, and the page's policy refuses it.
+// markup of a string, and the page's policy forbids it.
 
 const SVG = "http://www.w3.org/2000/svg";
 
@@ -26,17 +26,17 @@ export function byId(id) {
   return document.getElementById(id);
 }
 
-/** The text of a refusal, marked as one. */
-export function refusalNode(refused) {
-  return element("span", { class: "refusal", title: refused.message }, refused.message);
+/** The text of an error, marked as one. */
+export function faultNode(fault) {
+  return element("span", { class: "fault", title: fault.message }, fault.message);
 }
 
-/** What a check says: that it passes, or its refusal. */
-export function verdictNode(refused) {
-  return refused ? refusalNode(refused) : element("span", { class: "fine" }, "passes");
+/** What a check says: that it passes, or its error. */
+export function verdictNode(fault) {
+  return fault ? faultNode(fault) : element("span", { class: "fine" }, "passes");
 }
 
-/** A message in a box: of sort `refused`, `fine` or `note`. */
+/** A message in a box: of sort `error`, `fine` or `note`. */
 export function notice(sort, ...children) {
   return element("p", { class: `notice ${sort}` }, ...children);
 }

@@ -1,5 +1,5 @@
 // Names what the bytes at an offset are: the part, the record in it, and the record's fields with their values.
-// The reader's answers say where parts and records lie and what values they have; fields.js labels the bytes.
+// The reader's results say where parts and records lie and what values they have; fields.js labels the bytes.
 import * as names from "./names.js";
 import { fieldsOf } from "./fields.js";
 import { escaped, grouped, hex } from "./text.js";
@@ -86,8 +86,8 @@ function noteRecord(file, part, offset) {
 
 async function textRecord(client, part, offset) {
   const range = { offset: BigInt(part.start), size: BigInt(part.end - part.start) };
-  const { text, refused } = await client.ask("text", { part: range, index: offset - part.start });
-  const value = refused ? refused.message : escaped(text).slice(0, 200);
+  const { text, fault } = await client.ask("text", { part: range, index: offset - part.start });
+  const value = fault ? fault.message : escaped(text).slice(0, 200);
   return { title: "Text", start: offset, end: offset + 1,
     fields: [{ name: "text", means: "The text from this byte on", start: offset, end: offset + 1, value }] };
 }

@@ -1,6 +1,6 @@
 // The panels of relocations, dynamic entries, notes and hash tables.
 import * as names from "./names.js";
-import { element, notice, refusalNode, select } from "./dom.js";
+import { element, notice, faultNode, select } from "./dom.js";
 import { symbolName } from "./symbols.js";
 import { address, panel } from "./tables.js";
 import { Table } from "./table.js";
@@ -15,18 +15,18 @@ function nameOfSection(section) {
 // A panel whose table shows one of several sections, with a choice where there are more than one.
 function chosenPanel(title, tables, table, { show, none, what }) {
   const said = element("span", { role: "status" });
-  const refused = element("div");
+  const fault = element("div");
   const choice = select("Section", tables.map(({ section, count }, at) => [at, `${nameOfSection(section)} (${grouped(count)})`]), () => change());
   const change = () => {
     const current = tables[Number(choice.chosen.value)];
     said.textContent = current ? plural(current.count, ...what) : none;
-    refused.replaceChildren(...(current?.refused ? [notice("refused", "These are refused: ", refusalNode(current.refused))] : []));
+    fault.replaceChildren(...(current?.fault ? [notice("error", "These can't be read: ", faultNode(current.fault))] : []));
     if (current) show(current);
     else table.show(0, () => []);
   };
   change();
   const tools = element("div", { class: "tools" }, tables.length ? choice.node : null);
-  return { node: panel(title, said, element("div", { class: "fill" }, refused, table.node), tools), table };
+  return { node: panel(title, said, element("div", { class: "fill" }, fault, table.node), tools), table };
 }
 
 // An addend is a number of 64 bits, or of 32 in class 32, with a sign.
@@ -39,7 +39,7 @@ function addendText(file, { addend, has_addend: has }) {
 
 function relocationSymbol(file, { symbol, named, unnamed }) {
   if (!symbol) return "";
-  if (unnamed) return refusalNode(unnamed);
+  if (unnamed) return faultNode(unnamed);
   return named ? symbolName(file, named) : `${symbol}`;
 }
 
@@ -76,8 +76,8 @@ function sectionAt(file, address) {
 }
 
 /** What the value of a dynamic entry is, by its tag. */
-function dynamicValue(file, { tag, value, text, refused }) {
-  if (refused) return [hex(value), " ", refusalNode(refused)];
+function dynamicValue(file, { tag, value, text, fault }) {
+  if (fault) return [hex(value), " ", faultNode(fault)];
   if (text !== undefined) return escaped(text);
   const flags = names.DYNAMIC_FLAGS[Number(tag)];
   if (flags) return names.flagNames(flags, value) || "none";
@@ -106,23 +106,23 @@ export function dynamicPanel(file, client, choose) {
 }
 
 function textOf(said) {
-  return said?.refused ? refusalNode(said.refused) : escaped(said?.text ?? "");
+  return said?.fault ? faultNode(said.fault) : escaped(said?.text ?? "");
 }
 
 /** The versions that the file defines and needs. */
 export function versionsPanel(file) {
-  const { listed, refused } = file.versions;
+  const { listed, fault } = file.versions;
   const library = (it) => (it.kind === 1 && it.flags & 1 ? element("span", { class: "borrowed" }, "this file itself") : textOf(it.library));
   const table = new Table({ label: "Versions", empty: "The file defines and needs no versions.", columns: [
     { label: "Nr", width: "4rem", number: true, title: "The number by which symbols refer to it", cell: ({ number }) => `${number}` },
     { label: "Kind", width: "6rem", cell: ({ kind }) => names.nameOf(names.VERSION_KINDS, kind) },
-    { label: "Name", width: "minmax(12rem, 1fr)", cell: (it) => textOf(it.refused ? it : it.name) },
+    { label: "Name", width: "minmax(12rem, 1fr)", cell: (it) => textOf(it.fault ? it : it.name) },
     { label: "Library", width: "minmax(12rem, 1fr)", cell: library },
     { label: "Flags", width: "6rem", cell: ({ flags }) => names.flagNames(names.VERSION_FLAGS, flags) },
     { label: "Hash", width: "6rem", number: true, cell: ({ hash }) => hexDigits(hash, 8) },
   ] });
   table.showAll(listed);
-  const why = refused ? [notice("refused", "The versions end early: ", refusalNode(refused))] : [];
+  const why = fault ? [notice("error", "The versions end early: ", faultNode(fault))] : [];
   const said = `${plural(listed.length, "version")} that the file defines, or needs of libraries.`;
   return { node: panel("Versions", said, element("div", { class: "fill" }, why, table.node)), table };
 }
@@ -151,16 +151,16 @@ export function notesPanel(file, client, choose) {
     const shown = await client.ask("noteRows", { notes, most: MOST_NOTE_BYTES });
     return notes.map((note, at) => ({ ...note, shown: shown[at] }));
   });
-  const refused = file.notesRefused.map(({ place, refused: why }) => notice("refused", `${escaped(place)}: `, refusalNode(why)));
+  const fault = file.notesFaults.map(({ place, fault: why }) => notice("error", `${escaped(place)}: `, faultNode(why)));
   const cut = file.notesCut ? [notice("note", "Further notes are not listed.")] : [];
-  return { node: panel("Notes", plural(file.notes.length, "note"), element("div", { class: "fill" }, refused, cut, table.node)), table };
+  return { node: panel("Notes", plural(file.notes.length, "note"), element("div", { class: "fill" }, fault, cut, table.node)), table };
 }
 
 /** What the check of a hash table says, as a node. */
 export function checkNode({ said }) {
   if (!said) return element("span", { class: "pending" }, "not checked yet");
   if (said.failed) return element("span", { class: "pending" }, said.failed);
-  return said.status === 0 ? element("span", { class: "fine" }, "passes its check") : element("span", { class: "refusal" }, said.message);
+  return said.status === 0 ? element("span", { class: "fine" }, "passes its check") : element("span", { class: "fault" }, said.message);
 }
 
 function lookUpForm(file, client, table) {
@@ -176,8 +176,8 @@ function lookUpForm(file, client, table) {
     element("label", { class: "field grow" }, element("span", {}, "Look up a symbol"), name), element("button", { type: "submit" }, "Look up"), result);
 }
 
-function lookUpSaid(file, { refused, found, index, looked_at: steps, symbol }) {
-  if (refused) return refusalNode(refused);
+function lookUpSaid(file, { fault, found, index, looked_at: steps, symbol }) {
+  if (fault) return faultNode(fault);
   const cost = `${plural(steps, "entry", "entries")} of the table looked at.`;
   if (!found) return `Not found. ${cost}`;
   const value = symbol ? ` at ${hex(symbol.value)}, ${sizeText(symbol.size)}` : "";

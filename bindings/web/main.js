@@ -145,7 +145,7 @@ function fillHead(file) {
   byId("kinds").replaceChildren(...kindWords(file).map((word) => element("li", {}, word)));
 }
 
-function refuse(message) {
+function showFault(message) {
   say(message);
   show("welcome");
   places.start();
@@ -165,17 +165,17 @@ async function open(source) {
   try {
     await lookInto(client, source);
   } catch (error) {
-    if (page.client === client) refuse({ title: `Looking into “${source.name}” ended.`, text: error.message });
+    if (page.client === client) showFault({ title: `Looking into “${source.name}” ended.`, text: error.message });
   }
   if (page.client === client) document.body.dataset.state = "ready";
 }
 
 async function lookInto(client, source) {
   const failure = await load(client, page.module, source);
-  if (failure) return page.client === client ? refuse(failure) : null;
+  if (failure) return page.client === client ? showFault(failure) : null;
   const file = await survey(client, source);
   if (page.client !== client) return null;
-  if (file.refused) return refuse({ title: `“${source.name}” is not opened:`, text: file.refused.message });
+  if (file.fault) return showFault({ title: `“${source.name}” is not opened:`, text: file.fault.message });
   page.file = file;
   show("viewer");
   fillHead(file);
@@ -195,8 +195,8 @@ async function lookInto(client, source) {
 }
 
 async function example({ currentTarget: { dataset } }) {
-  const answer = await fetch(dataset.example);
-  return open(new File([await answer.blob()], dataset.example));
+  const response = await fetch(dataset.example);
+  return open(new File([await response.blob()], dataset.example));
 }
 
 /** Takes an offset or an address of the field, and shows the byte there. */
@@ -235,7 +235,7 @@ function showOffset(offset) {
 }
 
 function tell(text) {
-  byId("goanswer").textContent = text;
+  byId("gosaid").textContent = text;
   return false;
 }
 

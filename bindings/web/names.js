@@ -1,5 +1,5 @@
 // The names of numbers in ELF files, as the gABI, its processor supplements and GNU's additions give them.
-// They are texts beside numbers that the reader answers; a number without a name is shown as it is.
+// They are texts beside numbers that the reader returns; a number without a name is shown as it is.
 
 const list = (first, words) => Object.fromEntries(words.split(" ").map((word, at) => [first + at, word]));
 

@@ -1,9 +1,9 @@
 // Opens a file: asks the worker for all that the panels show, step by step, so that what is there is shown even where
-// the work is stopped or a part is refused.
+// the work is stopped or a part can't be read.
 import * as names from "./names.js";
 import { partsOf } from "./parts.js";
 
-// For each type of section the export that answers its records, and the table of tables that it belongs to.
+// For each type of section the export that returns its records, and the table of tables that it belongs to.
 const RECORD_CALLS = { [names.SYMTAB]: ["symbols", "symbol"], [names.DYNSYM]: ["symbols", "symbol"],
   [names.RELA]: ["relocations", "relocation"], [names.REL]: ["relocations", "relocation"],
   [names.RELR]: ["packed_relocations", "relocation"], [names.DYNAMIC]: ["dynamics", "dynamic"] };
@@ -28,11 +28,11 @@ export async function load(client, module, source) {
   return loaded.stopped ? { title: `Reading “${source.name}” was stopped.`, text: "Nothing of it is shown." } : null;
 }
 
-/** What the file is and has: `{ refused }` where it is no ELF file, else all that the panels take. */
+/** What the file is and has: `{ fault }` where it is no ELF file, else all that the panels take. */
 export async function survey(client, source) {
   const said = await client.ask("header");
   const file = { name: source.name, size: source.size, ...said };
-  if (file.refused) return file;
+  if (file.fault) return file;
   file.sectionsEnd = await client.ask("sections");
   file.sections = file.sectionsEnd.sections;
   file.segmentsEnd = await client.ask("segments");
@@ -46,7 +46,7 @@ export async function survey(client, source) {
   await findFacts(client, file);
   file.features = await featuresIn(client, file);
   file.protections = await client.ask("protections", { tables: symbolTablesOf(file) });
-  file.versions = hasDynamic(file) ? await client.ask("versions") : { listed: [], refused: null, ofSymbols: false };
+  file.versions = hasDynamic(file) ? await client.ask("versions") : { listed: [], fault: null, ofSymbols: false };
   return file;
 }
 
@@ -59,13 +59,13 @@ async function findTables(client, file) {
   };
   for (const section of file.sections) await add(section, file.sections[section.header.link]?.data ?? null);
   Object.assign(file, { added: [], segmentTables: null });
-  tables.hash = file.sections.filter(isHash).map((section) => ({ section, refused: null }));
+  tables.hash = file.sections.filter(isHash).map((section) => ({ section, fault: null }));
   if (hasDynamic(file)) await addSegmentTables(client, file, tables, add);
   file.symbolTables = tables.symbol;
   file.relocationTables = tables.relocation;
   file.dynamicTables = tables.dynamic;
-  file.hashTables = tables.hash.map(({ section, refused }) =>
-    ({ section, gnu: section.header.type === names.GNU_HASH, said: refused, running: false, listeners: [] }));
+  file.hashTables = tables.hash.map(({ section, fault }) =>
+    ({ section, gnu: section.header.type === names.GNU_HASH, said: fault, running: false, listeners: [] }));
 }
 
 function isHash({ header: { type } }) {
@@ -89,26 +89,26 @@ async function addSegmentTables(client, file, tables, add) {
   if (!has("symbol", names.DYNSYM)) await addSegmentSymbols(client, tables.symbol);
   const isMissing = { dynamic: !has("dynamic"), relocation: !has("relocation"), hash: !tables.hash.length };
   if (!Object.values(isMissing).includes(true)) return;
-  const { header, data, dataRefused } = segmentOf(file, names.PT_DYNAMIC);
+  const { header, data, dataFault } = segmentOf(file, names.PT_DYNAMIC);
   const loaded = file.segments.filter((it) => it.header.type === names.PT_LOAD).map((it) =>
     ({ start: it.header.virtual_addr, end: it.header.virtual_addr + it.header.file_size }));
   const given = { range: data, address: header.virtual_addr, fileClass: file.header.file_class, loaded };
-  const { sections, missing, refused } = data ? await client.ask("segmentTables", given) : { sections: [], missing: [], refused: dataRefused };
+  const { sections, missing, fault } = data ? await client.ask("segmentTables", given) : { sections: [], missing: [], fault: dataFault };
   file.segmentTables = given;
   file.added = sections;
   for (const section of sections) {
     const [, kind] = RECORD_CALLS[section.header.type] ?? [];
     if (isMissing[kind]) await add(section, sections.find(({ header: { type } }) => type === names.STRTAB)?.data ?? null);
   }
-  const none = ({ name, type, refused: why }) => ({ section: { index: null, name, header: { type } }, strings: null, count: 0, refused: why });
-  if (refused && isMissing.dynamic) tables.dynamic.push(none({ name: "PT_DYNAMIC", type: names.DYNAMIC, refused }));
+  const none = ({ name, type, fault: why }) => ({ section: { index: null, name, header: { type } }, strings: null, count: 0, fault: why });
+  if (fault && isMissing.dynamic) tables.dynamic.push(none({ name: "PT_DYNAMIC", type: names.DYNAMIC, fault }));
   if (isMissing.relocation) tables.relocation.push(...missing.filter(({ type }) => RECORD_CALLS[type]?.[1] === "relocation").map(none));
   const unread = missing.map(none).filter(({ section }) => isHash(section));
-  if (isMissing.hash) tables.hash = [...sections.filter(isHash).map((section) => ({ section, refused: null })), ...unread];
+  if (isMissing.hash) tables.hash = [...sections.filter(isHash).map((section) => ({ section, fault: null })), ...unread];
 }
 
-// The symbols of the dynamic segment, where no section has them: why they are refused is said where other symbols aren't
-// there, or a section of them is refused too.
+// The symbols of the dynamic segment, where no section has them: why they can't be read is said where other symbols aren't
+// there, or a section of them can't be read either.
 async function addSegmentSymbols(client, tables) {
   const counted = await client.ask("countDynamicSymbols");
   const section = { index: null, name: "the dynamic segment", header: { type: names.DYNSYM, link: null } };
@@ -117,8 +117,8 @@ async function addSegmentSymbols(client, tables) {
 }
 
 function noteSegments(file) {
-  return file.segments.filter(({ header }) => header.type === names.PT_NOTE).map(({ index, header, data, dataRefused }) =>
-    ({ place: `Segment ${index}`, part: data, align: header.align, why: dataRefused }));
+  return file.segments.filter(({ header }) => header.type === names.PT_NOTE).map(({ index, header, data, dataFault }) =>
+    ({ place: `Segment ${index}`, part: data, align: header.align, why: dataFault }));
 }
 
 // A segment of notes as the section that it would be.
@@ -130,7 +130,7 @@ function noteSection(name, { offset, size }, align, at) {
 // Where notes are: sections of notes, and segments of notes where no section can be read.
 function notePlaces(file) {
   const sections = file.sections.filter(({ header }) => header.type === names.NOTE)
-    .map((it) => ({ place: it.name ?? `Section ${it.index}`, part: it.data, align: it.header.align, why: it.dataRefused }));
+    .map((it) => ({ place: it.name ?? `Section ${it.index}`, part: it.data, align: it.header.align, why: it.dataFault }));
   return sections.some(({ part }) => part) ? sections : [...sections, ...noteSegments(file)];
 }
 
@@ -146,12 +146,12 @@ async function findNotes(client, file) {
 }
 
 async function readNotes(client, file, places) {
-  Object.assign(file, { notes: [], notesRefused: [], notesCut: false });
+  Object.assign(file, { notes: [], notesFaults: [], notesCut: false });
   for (const { place, part, align, why } of places) {
     if (file.notesCut) return;
-    const { notes, refused, cut } = part ? await client.ask("notes", { part, align }) : { notes: [], refused: why };
+    const { notes, fault, cut } = part ? await client.ask("notes", { part, align }) : { notes: [], fault: why };
     for (const note of notes) file.notes.push({ ...note, start: Number(note.start), place });
-    if (refused) file.notesRefused.push({ place, refused });
+    if (fault) file.notesFaults.push({ place, fault });
     file.notesCut ||= cut || file.notes.length > MOST_NOTES;
   }
 }
@@ -193,7 +193,7 @@ async function findFacts(client, file) {
   const segment = segmentOf(file, names.PT_INTERP);
   const part = segment && { offset: segment.header.offset, size: segment.header.file_size };
   file.interpreter = part ? await client.ask("text", { part, index: 0 }) : null;
-  Object.assign(file, { named: [], namedRefused: null, dynamicValues: null });
+  Object.assign(file, { named: [], namedFault: null, dynamicValues: null });
   for (const { section, strings, count } of file.dynamicTables) {
     if (!count) continue;
     const rows = await client.ask("dynamic", { section: section.index, strings, texts: names.TEXT_TAGS, first: 0, size: Math.min(count, 2048) });
@@ -203,6 +203,6 @@ async function findFacts(client, file) {
   }
   if (file.dynamicTables.some(({ section, count }) => count && !section.isAdded) || !hasDynamic(file)) return;
   const tags = names.TEXT_TAGS.filter((it) => it !== names.NEEDED);
-  const { rows, refused } = await client.ask("dynamicTexts", { needed: names.NEEDED, tags });
-  Object.assign(file, { named: rows, namedRefused: refused });
+  const { rows, fault } = await client.ask("dynamicTexts", { needed: names.NEEDED, tags });
+  Object.assign(file, { named: rows, namedFault: fault });
 }

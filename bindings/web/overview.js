@@ -1,6 +1,6 @@
 // The first panel: what people look for first, what the file is, what the checks say, and its header.
 import * as names from "./names.js";
-import { element, refusalNode, verdictNode } from "./dom.js";
+import { element, faultNode, verdictNode } from "./dom.js";
 import { fieldsOf } from "./fields.js";
 import { hardeningOf, isPie } from "./hardening.js";
 import { checkNode } from "./linking.js";
@@ -25,8 +25,8 @@ function facts(pairs) {
     [element("dt", {}, name), element("dd", {}, ...[value].flat())]));
 }
 
-function textOrRefusal({ text, refused }) {
-  return refused ? refusalNode(refused) : element("code", {}, escaped(text));
+function textOrFault({ text, fault }) {
+  return fault ? faultNode(fault) : element("code", {}, escaped(text));
 }
 
 function identity(file) {
@@ -36,7 +36,7 @@ function identity(file) {
     ["Format", `${kindWords(file)[2]}, ${kindWords(file)[3]}, ${names.nameOf(names.OS_ABIS, header.os_abi)}`],
     ["Entry point", element("code", {}, hex(header.entry_point))],
     ["Sections", grouped(counts.sections)], ["Segments", grouped(counts.segments)],
-    ["Interpreter", file.interpreter ? textOrRefusal(file.interpreter) : "none"],
+    ["Interpreter", file.interpreter ? textOrFault(file.interpreter) : "none"],
   ]));
 }
 
@@ -45,10 +45,10 @@ function glance(file) {
   const entries = (tag) => file.named.filter((it) => it.tag === tag);
   const needed = entries(names.NEEDED);
   const others = [["Own name", 14n], ["Run path", 29n], ["Old run path", 15n]].filter(([, tag]) => entries(tag).length)
-    .map(([name, tag]) => [name, entries(tag).map(textOrRefusal)]);
-  const list = element("ul", { class: "libraries" }, needed.map((it) => element("li", {}, textOrRefusal(it))));
-  const noLibraries = file.namedRefused ? refusalNode(file.namedRefused) : "none";
-  const noId = file.notesRefused.length ? refusalNode(file.notesRefused[0].refused) : "none";
+    .map(([name, tag]) => [name, entries(tag).map(textOrFault)]);
+  const list = element("ul", { class: "libraries" }, needed.map((it) => element("li", {}, textOrFault(it))));
+  const noLibraries = file.namedFault ? faultNode(file.namedFault) : "none";
+  const noId = file.notesFaults.length ? faultNode(file.notesFaults[0].fault) : "none";
   const rows = hardeningOf(file);
   const hardened = rows.map(({ name, said, sort, means }) => element("div", { title: means }, element("dt", {}, name), element("dd", { class: sort }, said)));
   const meanings = rows.map(({ name, means }) => [name, means]);
@@ -60,17 +60,17 @@ function glance(file) {
 }
 
 // Whether Linux and glibc load the file. Object files and core files are no files to load.
-function loadsNode({ header: { type }, load: { refused } }) {
-  if (!refused) return element("span", { class: "fine" }, "yes");
+function loadsNode({ header: { type }, load: { fault } }) {
+  if (!fault) return element("span", { class: "fine" }, "yes");
   const isOther = type === names.ET_REL || type === names.ET_CORE;
-  return element("span", { class: isOther ? "hint" : "bad" }, `no: ${refused.message}`);
+  return element("span", { class: isOther ? "hint" : "bad" }, `no: ${fault.message}`);
 }
 
 // What the checks of all sections or segments say.
 function checkedAll(list, what) {
-  const refused = list.filter(({ check }) => check);
-  if (!refused.length) return verdictNode(null);
-  return [refusalNode(refused[0].check), ` at ${what} ${refused[0].index}${refused.length > 1 ? `, and ${refused.length - 1} more` : ""}`];
+  const fault = list.filter(({ check }) => check);
+  if (!fault.length) return verdictNode(null);
+  return [faultNode(fault[0].check), ` at ${what} ${fault[0].index}${fault.length > 1 ? `, and ${fault.length - 1} more` : ""}`];
 }
 
 function checks(file) {
@@ -86,20 +86,20 @@ function checks(file) {
   return card("What the checks say", facts([["Header", verdictNode(file.check)], ...lists, ...hashes]));
 }
 
-// All that was refused, each with where.
-function refusedList(file) {
+// All that can't be read, each with where.
+function faultList(file) {
   const lists = [
     [file.sectionsEnd.ended && ["Section headers end early", file.sectionsEnd.ended]],
     [file.segmentsEnd.ended && ["Program headers end early", file.segmentsEnd.ended]],
-    [file.namesRefused && file.sections.length && ["Names of sections", file.namesRefused]],
-    file.sections.map((it) => it.nameRefused && !file.namesRefused && [`Name of section ${it.index}`, it.nameRefused]),
-    file.sections.map((it) => hasData(it) && it.dataRefused && [`Data of ${sectionWords(it)}`, it.dataRefused]),
-    file.segments.map((it) => it.dataRefused && [`Data of segment ${it.index}`, it.dataRefused]),
+    [file.namesFault && file.sections.length && ["Names of sections", file.namesFault]],
+    file.sections.map((it) => it.nameFault && !file.namesFault && [`Name of section ${it.index}`, it.nameFault]),
+    file.sections.map((it) => hasData(it) && it.dataFault && [`Data of ${sectionWords(it)}`, it.dataFault]),
+    file.segments.map((it) => it.dataFault && [`Data of segment ${it.index}`, it.dataFault]),
     [...file.symbolTables, ...file.relocationTables, ...file.dynamicTables.filter(({ section }) => section.index !== null)]
-      .map(({ section, refused }) => refused && [`Records of ${sectionWords(section)}`, refused]),
-    [file.namedRefused && ["Entries of the dynamic segment", file.namedRefused]],
-    [file.versions.refused && ["Versions", file.versions.refused]],
-    file.notesRefused.map(({ place, refused }) => [`Notes of ${escaped(place)}`, refused]),
+      .map(({ section, fault }) => fault && [`Records of ${sectionWords(section)}`, fault]),
+    [file.namedFault && ["Entries of the dynamic segment", file.namedFault]],
+    [file.versions.fault && ["Versions", file.versions.fault]],
+    file.notesFaults.map(({ place, fault }) => [`Notes of ${escaped(place)}`, fault]),
   ];
   return lists.flat().filter(Boolean);
 }
@@ -109,14 +109,14 @@ function sectionWords({ index, name }) {
   return name ? `section ${index}, ${escaped(name)}` : `section ${index}`;
 }
 
-const MOST_REFUSALS = 200;
+const MOST_FAULTS = 200;
 
-function refused(file) {
-  const all = refusedList(file);
-  if (!all.length) return card("What is refused", element("p", { class: "hint" }, "Nothing: all parts that the reader knows can be read."));
-  const rows = all.slice(0, MOST_REFUSALS).map(([what, why]) => element("li", {}, element("span", {}, what), refusalNode(why)));
+function fault(file) {
+  const all = faultList(file);
+  if (!all.length) return card("What can't be read", element("p", { class: "hint" }, "Nothing: all parts that the reader knows can be read."));
+  const rows = all.slice(0, MOST_FAULTS).map(([what, why]) => element("li", {}, element("span", {}, what), faultNode(why)));
   const more = all.length > rows.length ? element("p", { class: "hint" }, `And ${grouped(all.length - rows.length)} more.`) : null;
-  return card("What is refused", element("ul", { class: "refusals" }, rows), more);
+  return card("What can't be read", element("ul", { class: "faults" }, rows), more);
 }
 
 function layoutFacts(file) {
@@ -145,6 +145,6 @@ function headerTable(file, show) {
 }
 
 export function overviewPanel(file, show) {
-  const cards = [glance(file), identity(file), checks(file), refused(file), layoutFacts(file), headerTable(file, show)];
+  const cards = [glance(file), identity(file), checks(file), fault(file), layoutFacts(file), headerTable(file, show)];
   return { node: element("div", { class: "panel" }, element("h2", { class: "hidden" }, "Overview"), element("div", { class: "scroll" }, element("div", { class: "overview" }, cards))) };
 }

@@ -1,11 +1,11 @@
-// Keeps what the worker answered of long tables and of the bytes, page by page.
+// Keeps what the worker sent of long tables and of the bytes, page by page.
 
 const MOST_PAGES = 64;
 
 export class Pages {
   /**
    * @param size of a page, in items
-   * @param ask answers the items `first .. first + size`, as a promise
+   * @param ask returns the items `first .. first + size`, as a promise
    * @param arrived is called when a page is there
    */
   constructor(size, ask, arrived) {

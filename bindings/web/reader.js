@@ -1,7 +1,7 @@
-// Calls the exports of the reader's module, and reads the records that they answer by.
+// Calls the exports of the reader's module, and reads the records that they return.
 //
 // The file lies in the module's memory, behind room for one record of each sort, for a batch of records and for
-// the bytes of a name; the words of indexes lie behind all. How records lie in memory and which parameters
+// the bytes of a name; the words and numbers of indexes lie behind all. How records lie in memory and which parameters
 // a function has comes from records.js.
 // Section headers that are added lie behind the file: a call whose `section` is below 0 reads them, -1 the first.
 import { FUNCTIONS, LONGEST_MESSAGE, RECORDS, STATUS } from "./records.js";
@@ -17,6 +17,12 @@ const PAGE = 65536;
 const WIDEST = Math.max(...Object.values(RECORDS).map((record) => record.size));
 const ROOMS = { header: WIDEST, added: WIDEST, part: WIDEST, table: WIDEST, indices: WIDEST, index: WIDEST, asked: WIDEST, addresses: 8, ranges: WIDEST, sizes: WIDEST, out: BATCH * WIDEST, count: 8,
   message: LONGEST_MESSAGE, names: LONGEST_NAME };
+
+// No words and no numbers, as a call takes them that finds how many it takes; and of a record that says so, as many.
+const NONE = { words_count: 0, numbers_count: 0 };
+const countsOf = ({ words, numbers }) => ({ words_count: Number(words), numbers_count: Number(numbers) });
+// Where the words and the numbers lie that only one call takes.
+const ROOM = { words: "roomWords", numbers: "roomNumbers" };
 
 /** The file is larger than the memory that the browser gives the module. */
 export class DoesNotFit extends Error {}
@@ -36,7 +42,7 @@ export class Reader {
     this.size = size;
     this.texts = new Map();
     this.places = {};
-    this.lent = {};
+    this.rooms = {};
     let place = Math.ceil(Number(this.exports.__heap_base.value) / 16) * 16;
     for (const [room, bytes] of Object.entries(ROOMS)) {
       this.places[room] = place;
@@ -83,13 +89,13 @@ export class Reader {
     return wide ? BigInt(given[name]) : Number(given[name]);
   }
 
-  /** One record, or number of 32 or 64 bits: `{ status, record }`, without a record where the call is refused. */
+  /** One record, or number of 32 or 64 bits: `{ status, record }`, without a record where the call returns an error. */
   one(name, given = {}) {
     const status = this.call(name, given);
     return status === STATUS.OK ? { status, record: this.value(outOf(name), this.places.out) } : { status };
   }
 
-  /** Many records, or numbers, from index `first` on: `{ status, records }`, of none where the call is refused. */
+  /** Many records, or numbers, from index `first` on: `{ status, records }`, of none where the call returns an error. */
   many(name, given, room = BATCH) {
     const status = this.call(name, { ...given, out_count: Math.min(room, BATCH) });
     if (status !== STATUS.OK) return { status, records: [] };
@@ -156,34 +162,40 @@ export class Reader {
    */
   buildIndex({ indices, within }) {
     this.write("range", this.places.indices, indices);
-    this.lend("words", 0);
-    const asked = this.one("address_index", { within, words_count: 0 });
+    this.makeRooms("words", "numbers", NONE);
+    const asked = this.one("address_index", { within, ...NONE });
     if (!asked.record) return asked;
-    this.words = Number(asked.record.words);
-    this.lend("words", this.words);
-    return this.kept("address_index", "index", { within, words_count: this.words });
+    this.counts = countsOf(asked.record);
+    this.makeRooms("words", "numbers", this.counts);
+    return this.kept("address_index", "index", { within, ...this.counts });
   }
 
-  // Room for so many words, by a name: behind all that lies in the memory, unless there is as much by this name.
-  lend(name, count) {
-    const before = this.lent[name];
-    if (!before || before.count < count) {
-      this.lent[name] = { count, place: this.memory.buffer.byteLength };
-      this.grow(this.lent[name].place + 4 * count);
+  // Room for so many bytes, by a name: behind all that lies in the memory, unless there is as much by this name.
+  makeRoom(name, size) {
+    const before = this.rooms[name];
+    if (!before || before.size < size) {
+      this.rooms[name] = { size, place: this.memory.buffer.byteLength };
+      this.grow(this.rooms[name].place + size);
     }
-    this.places[name] = this.lent[name].place;
+    this.places[name] = this.rooms[name].place;
+  }
+
+  // Room for the words and the numbers of an index.
+  makeRooms(words, numbers, counts) {
+    this.makeRoom(words, 4 * counts.words_count);
+    this.makeRoom(numbers, 8 * counts.numbers_count);
   }
 
   /** The pieces of the file: which bytes belong to what. */
   pieces() {
-    this.lend("lent", 0);
-    const sizes = (count, given) => {
-      this.call("pieces", { first: 0, words_count: count, places: { words: "lent" }, out_count: BATCH, ...given });
+    this.makeRooms("roomWords", "roomNumbers", NONE);
+    const sizes = (counts, given) => {
+      this.call("pieces", { first: 0, ...counts, places: ROOM, out_count: BATCH, ...given });
       return this.read("piece_sizes", this.places.sizes);
     };
-    const words = Number(sizes(0, { out_count: 0 }).words);
-    this.lend("lent", words);
-    return this.allPieces((first) => Number(sizes(words, { first }).count));
+    const counts = countsOf(sizes(NONE, { out_count: 0 }));
+    this.makeRooms("roomWords", "roomNumbers", counts);
+    return this.allPieces((first) => Number(sizes(counts, { first }).count));
   }
 
   /**
@@ -192,12 +204,12 @@ export class Reader {
    */
   symbolPieces({ indices, within, begin, end }) {
     this.write("range", this.places.indices, indices);
-    this.lend("lent", 0);
-    const asked = this.kept("address_index", "asked", { within, words_count: 0, places: { words: "lent" } });
+    this.makeRooms("roomWords", "roomNumbers", NONE);
+    const asked = this.kept("address_index", "asked", { within, ...NONE, places: ROOM });
     if (!asked.record) return null;
-    const words = Number(asked.record.words);
-    this.lend("lent", words);
-    const given = { begin, end, words_count: words, out_count: BATCH, places: { words: "lent", index: "asked" } };
+    const counts = countsOf(asked.record);
+    this.makeRooms("roomWords", "roomNumbers", counts);
+    const given = { begin, end, ...counts, out_count: BATCH, places: { ...ROOM, index: "asked" } };
     return this.allPieces((first) => {
       const status = this.call("symbol_pieces", { ...given, first });
       return status === STATUS.OK ? Number(this.view().getBigUint64(this.places.count, true)) : 0;
@@ -218,7 +230,7 @@ export class Reader {
   /** The symbol of an address by this index. */
   symbolAt(address) {
     this.view().setBigUint64(this.places.addresses, address, true);
-    const status = this.call("symbols_at", { words_count: this.words, addresses_count: 1, out_count: 1 });
+    const status = this.call("symbols_at", { ...this.counts, addresses_count: 1, out_count: 1 });
     return status === STATUS.OK ? { status, record: this.value(outOf("symbols_at"), this.places.out) } : { status };
   }
 

@@ -1,27 +1,27 @@
 // Rows of the tables in sections: symbols, relocations, dynamic entries and notes, from an index on.
 import { BATCH, STATUS } from "./reader.js";
-import { rangeText, refusal, textAt } from "./survey.js";
+import { faultOf, rangeText, textAt } from "./survey.js";
 import { symbolVersions } from "./versions_of.js";
 
-/** How many symbols the section has, and why it has none, where it is refused. */
+/** How many symbols the section has, and why it has none, where it can't be read. */
 function countSymbols(reader, section) {
   const { status, record } = section === null ? reader.find("dynamic_symbols_open") : reader.find("symbols_open", { section });
-  return { count: Number(record?.count ?? 0), refused: refusal(reader, status) };
+  return { count: Number(record?.count ?? 0), fault: faultOf(reader, status) };
 }
 
 /**
- * How many records the section has, and why it has none, where it is refused. An index is refused with NO_RECORD from
+ * How many records the section has, and why it has none, where it can't be read. An index gets the error NO_RECORD from
  * the number of records on, so that doubling and halving finds the number of those that are no symbols.
  */
 export function count(reader, { call, section }) {
   if (call === "symbols") return countSymbols(reader, section);
   const at = (first) => reader.call(call, { section, first, out_count: 1 });
   const first = at(0);
-  if (first !== STATUS.OK) return { count: 0, refused: first === STATUS.NO_RECORD ? null : refusal(reader, first) };
+  if (first !== STATUS.OK) return { count: 0, fault: first === STATUS.NO_RECORD ? null : faultOf(reader, first) };
   const has = (index) => at(index) === STATUS.OK;
   let below = 1;
   while (has(below)) below *= 2;
-  return { count: between(Math.floor(below / 2), below, has), refused: null };
+  return { count: between(Math.floor(below / 2), below, has), fault: null };
 }
 
 // The first index that isn't there: `there` is, `gone` isn't.
@@ -41,12 +41,12 @@ export function countDynamicSymbols(reader) {
 
 /** Symbols from an index on: those of a section, or of the dynamic segment where `section` is null. */
 export function symbolsFrom(reader, { section, first }, room) {
-  return countSymbols(reader, section).refused ? [] : reader.many("symbols", { first }, room).records;
+  return countSymbols(reader, section).fault ? [] : reader.many("symbols", { first }, room).records;
 }
 
 /** The names of these symbols, each with a status. */
 export function symbolNamesFrom(reader, { section, first }, room) {
-  return countSymbols(reader, section).refused ? [] : reader.many("symbol_names", { first }, room).records;
+  return countSymbols(reader, section).fault ? [] : reader.many("symbol_names", { first }, room).records;
 }
 
 /** Symbols with their names, and with their versions where they are those of the dynamic segment. */
@@ -59,8 +59,8 @@ export function symbolRows(reader, { section, first, size, versioned = false }) 
 }
 
 function symbolRow(reader, symbol, index, name) {
-  const refused = name ? refusal(reader, name.status) : null;
-  return { index, ...symbol, text: name && !refused ? rangeText(reader, name.range) : null, refused };
+  const fault = name ? faultOf(reader, name.status) : null;
+  return { index, ...symbol, text: name && !fault ? rangeText(reader, name.range) : null, fault };
 }
 
 /** One symbol with its name. */
@@ -84,23 +84,23 @@ export function packedRows(reader, { section, first, size }) {
 
 function whyNot(reader, section, record) {
   if (section === null) return null;
-  return countSymbols(reader, section).refused ?? refusal(reader, reader.call("symbols", { first: record.symbol, out_count: 1 }));
+  return countSymbols(reader, section).fault ?? faultOf(reader, reader.call("symbols", { first: record.symbol, out_count: 1 }));
 }
 
 /**
- * What the entries of the dynamic segment name, with no section header: `rows`, of `{ tag, text }` or `{ tag, refused }`
- * for each library needed and each of `tags` that an entry has; or `refused` where there are no entries.
+ * What the entries of the dynamic segment name, with no section header: `rows`, of `{ tag, text }` or `{ tag, fault }`
+ * for each library needed and each of `tags` that an entry has; or `fault` where there are no entries.
  */
 export function dynamicTexts(reader, { needed, tags }) {
   const libraries = reader.many("dynamic_texts", { tag: needed, first: 0 });
-  if (libraries.status !== STATUS.OK && libraries.status !== STATUS.NO_RECORD) return { rows: [], refused: refusal(reader, libraries.status) };
-  const said = ({ status, range }) => (status === STATUS.OK ? { text: rangeText(reader, range) } : { refused: refusal(reader, status) });
+  if (libraries.status !== STATUS.OK && libraries.status !== STATUS.NO_RECORD) return { rows: [], fault: faultOf(reader, libraries.status) };
+  const said = ({ status, range }) => (status === STATUS.OK ? { text: rangeText(reader, range) } : { fault: faultOf(reader, status) });
   const rows = libraries.records.map((name) => ({ tag: needed, ...said(name) }));
   for (const tag of tags) {
     const { status, records: [text] } = reader.many("dynamic_texts", { tag, first: 0 }, 1);
     if (status !== STATUS.NO_RECORD) rows.push({ tag, ...said(text ?? { status }) });
   }
-  return { rows, refused: null };
+  return { rows, fault: null };
 }
 
 /** Dynamic entries, each with the text that its value is an index of, where its tag is one of `texts`. */
@@ -120,6 +120,6 @@ export function noteRows(reader, { notes, most }) {
 /** What a hash table says of a name, with the symbol that it finds in the section `symbols`. */
 export function lookUp(reader, { section, symbols, name }) {
   const { status, record } = reader.lookUp(section, new TextEncoder().encode(name));
-  if (!record) return { refused: refusal(reader, status) };
+  if (!record) return { fault: faultOf(reader, status) };
   return { ...record, symbol: record.found ? symbolAt(reader, symbols, record.index) : null };
 }

@@ -5,7 +5,7 @@
 import * as names from "./names.js";
 import { fieldsOf } from "./fields.js";
 import { STATUS } from "./reader.js";
-import { refusal } from "./survey.js";
+import { faultOf } from "./survey.js";
 
 const REL = 17n;
 const PLTREL = 20n;
@@ -20,7 +20,7 @@ function sectionFor({ name, type, address }, data, fileClass) {
   const entry = RECORDS[type] ? fieldsOf(RECORDS[type], fileClass).size : 0;
   const header = { name: 0, type, flags: names.SECTION_ALLOC, address, offset: data.offset, size: data.size, link: 0, info: 0,
     align: 1n, entry_size: BigInt(entry) };
-  return { name, nameRefused: null, header, data, dataRefused: null, check: null, isAdded: true };
+  return { name, nameFault: null, header, data, dataFault: null, check: null, isAdded: true };
 }
 
 // The value of the first entry with each tag, up to the entry that ends them.
@@ -49,8 +49,8 @@ function named(reader, values, { fileClass, loaded }) {
   const tables = TABLES.filter(([, at, size]) => values.has(at) && values.get(size)).map(([name, at, size, type]) =>
     ({ name, type: name === "DT_JMPREL" && isRel ? names.REL : type, address: values.get(at), size: values.get(size) }));
   const { status, record } = reader.find("dynamic_symbols_open");
-  const refused = refusal(reader, status);
-  const hashes = hashTables(values, loaded).map((it) => ({ ...it, refused }));
+  const fault = faultOf(reader, status);
+  const hashes = hashTables(values, loaded).map((it) => ({ ...it, fault }));
   if (!record || !values.has(names.SYMTAB_TAG)) return [...tables, ...hashes];
   const size = record.count * BigInt(fieldsOf("symbol", fileClass).size);
   return [...tables, ...hashes, { name: "DT_SYMTAB", type: names.DYNSYM, address: values.get(names.SYMTAB_TAG), size }];
@@ -70,8 +70,8 @@ function added(reader, sections, layout) {
 }
 
 /**
- * The sections that the entries of the dynamic segment, a range of the file at an address, stand for, the first that of the
- * entries; and `missing`, the tables that the file hasn't the bytes of. Or `refused`, why there are no entries. `loaded` are
+ * The sections that the entries of the dynamic segment, a range of the file at an address, are for, the first that of the
+ * entries; and `missing`, the tables that the file hasn't the bytes of. Or `fault`, why there are no entries. `loaded` are
  * the addresses `{ start, end }` of the bytes of loaded segments.
  */
 export function segmentTables(reader, { range, address, fileClass, loaded }) {
@@ -79,13 +79,13 @@ export function segmentTables(reader, { range, address, fileClass, loaded }) {
   const entries = sectionFor({ name: "PT_DYNAMIC", type: names.DYNAMIC, address }, range, fileClass);
   added(reader, [entries], layout);
   const { status, records } = reader.many("dynamics", { section: -1, first: 0 });
-  if (status !== STATUS.OK) return { sections: [], missing: [], refused: status === STATUS.NO_RECORD ? null : refusal(reader, status) };
+  if (status !== STATUS.OK) return { sections: [], missing: [], fault: status === STATUS.NO_RECORD ? null : faultOf(reader, status) };
   const sections = [entries];
   const missing = [];
   for (const table of named(reader, valuesOf(records), { fileClass, loaded })) {
-    const bytes = table.refused ? {} : reader.one("bytes_at", { address: table.address, count: table.size });
+    const bytes = table.fault ? {} : reader.one("bytes_at", { address: table.address, count: table.size });
     if (bytes.record) sections.push(sectionFor(table, bytes.record, fileClass));
-    else missing.push({ ...table, refused: table.refused ?? refusal(reader, bytes.status) });
+    else missing.push({ ...table, fault: table.fault ?? faultOf(reader, bytes.status) });
   }
-  return { sections: added(reader, sections, layout), missing, refused: null };
+  return { sections: added(reader, sections, layout), missing, fault: null };
 }

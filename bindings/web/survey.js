@@ -1,19 +1,19 @@
-// What the file has: its header, sections, segments and notes. Each answer of the reader that is a refusal becomes
-// `{ status, message }` beside what is refused.
+// What the file has: its header, sections, segments and notes. Each error of the reader becomes
+// `{ status, message }` beside what can't be read.
 import { BATCH, STATUS } from "./reader.js";
 import { textOf } from "./text.js";
 
 /** At most so many notes of one section or segment are listed. */
 const MOST_NOTES = 20000;
 
-export function refusal(reader, status) {
+export function faultOf(reader, status) {
   return status === STATUS.OK ? null : { status, message: reader.message(status) };
 }
 
-/** The text at an index of a range: `{ text }` or `{ refused }`. */
+/** The text at an index of a range: `{ text }` or `{ fault }`. */
 export function textAt(reader, part, index) {
   const { status, record } = reader.one("text", { part, index });
-  return record ? { text: rangeText(reader, record) } : { refused: refusal(reader, status) };
+  return record ? { text: rangeText(reader, record) } : { fault: faultOf(reader, status) };
 }
 
 export function rangeText(reader, { offset, size }) {
@@ -23,15 +23,15 @@ export function rangeText(reader, { offset, size }) {
 /** The header, what the checks of it say, and how much there is of the rest. */
 export function headerOf(reader) {
   const { status, record: header } = reader.open();
-  if (!header) return { refused: refusal(reader, status) };
+  if (!header) return { fault: faultOf(reader, status) };
   const names = reader.one("names");
   const index = reader.one("names_index");
   return {
     header,
-    check: refusal(reader, reader.call("check_header")),
+    check: faultOf(reader, reader.call("check_header")),
     counts: reader.one("counts").record,
     names: names.record ?? null,
-    namesRefused: refusal(reader, names.status),
+    namesFault: faultOf(reader, names.status),
     namesIndex: index.record ?? null,
   };
 }
@@ -50,16 +50,16 @@ export async function sectionsOf(reader, turns) {
   }
   work.end();
   const isCut = !work.stopped && BigInt(sections.length) < total;
-  const ended = isCut ? refusal(reader, reader.call("section", { index: sections.length })) : null;
+  const ended = isCut ? faultOf(reader, reader.call("section", { index: sections.length })) : null;
   return { sections, total, ended, stopped: work.stopped };
 }
 
 function sectionOf(reader, header, index, names) {
-  const named = names.record ? textAt(reader, names.record, header.name) : { refused: refusal(reader, names.status) };
+  const named = names.record ? textAt(reader, names.record, header.name) : { fault: faultOf(reader, names.status) };
   const data = reader.one("section_data", { index });
   const status = reader.call("check_section", { index });
-  return { index, header, name: named.text ?? null, nameRefused: named.refused ?? null,
-    data: data.record ?? null, dataRefused: refusal(reader, data.status), check: refusal(reader, status) };
+  return { index, header, name: named.text ?? null, nameFault: named.fault ?? null,
+    data: data.record ?? null, dataFault: faultOf(reader, data.status), check: faultOf(reader, status) };
 }
 
 /** The segments in order, and why they end before their count, where they do. */
@@ -72,7 +72,7 @@ export async function segmentsOf(reader, turns) {
     const index = segments.length;
     const { status, record } = reader.one("segment", { index });
     if (record) segments.push(segmentOf(reader, record, index));
-    else ended = refusal(reader, status);
+    else ended = faultOf(reader, status);
     if (index % 256 === 0) await work.turn(index);
   }
   work.end();
@@ -81,16 +81,16 @@ export async function segmentsOf(reader, turns) {
 
 function segmentOf(reader, header, index) {
   const data = reader.one("segment_data", { index });
-  return { index, header, isSegment: true, data: data.record ?? null, dataRefused: refusal(reader, data.status),
-    check: refusal(reader, reader.call("check_segment", { index })) };
+  return { index, header, isSegment: true, data: data.record ?? null, dataFault: faultOf(reader, data.status),
+    check: faultOf(reader, reader.call("check_segment", { index })) };
 }
 
 /** What Linux puts into memory for the file, and what it maps; or why it doesn't load it. */
 export function planOf(reader) {
   const given = { page: 0, limit: 0 };
   const { status, record: plan } = reader.one("load_plan", given);
-  if (!plan) return { plan: null, mappings: [], refused: refusal(reader, status) };
-  return { plan, mappings: reader.many("load_mappings", { ...given, loader: 0, first: 0 }).records, refused: null };
+  if (!plan) return { plan: null, mappings: [], fault: faultOf(reader, status) };
+  return { plan, mappings: reader.many("load_mappings", { ...given, loader: 0, first: 0 }).records, fault: null };
 }
 
 /** The notes of a range, by the alignment of its section or segment. */
@@ -108,6 +108,6 @@ export async function notesOf(reader, turns, { part, align }) {
     if (notes.length % BATCH === 0) await work.turn(notes.length);
   }
   work.end();
-  const refused = status === STATUS.OK || status === STATUS.NO_RECORD ? null : refusal(reader, status);
-  return { notes, refused, cut: notes.length === MOST_NOTES };
+  const fault = status === STATUS.OK || status === STATUS.NO_RECORD ? null : faultOf(reader, status);
+  return { notes, fault, cut: notes.length === MOST_NOTES };
 }

@@ -1,6 +1,6 @@
 // The tables of symbols, with a filter.
 import * as names from "./names.js";
-import { element, notice, refusalNode, select } from "./dom.js";
+import { element, notice, faultNode, select } from "./dom.js";
 import { address, panel } from "./tables.js";
 import { Table } from "./table.js";
 import { escaped, grouped, plural } from "./text.js";
@@ -15,9 +15,9 @@ function sectionOf(file, { shndx }) {
   return section?.name ? element("span", { title: `Section ${shndx}` }, escaped(section.name)) : `${shndx}`;
 }
 
-/** A symbol's name: that of its section where it stands for one; or why it is refused. */
-export function symbolName(file, { text, refused, info, shndx }) {
-  if (refused) return refusalNode(refused);
+/** A symbol's name: that of its section where it stands for one; or why it can't be read. */
+export function symbolName(file, { text, fault, info, shndx }) {
+  if (fault) return faultNode(fault);
   if (text) return escaped(text);
   const section = info % 16 === names.SECTION_SYMBOL ? file.sections[shndx] : null;
   return section?.name ? element("span", { class: "borrowed" }, escaped(section.name)) : "";
@@ -27,7 +27,7 @@ export function symbolName(file, { text, refused, info, shndx }) {
 function versionOf({ version }) {
   if (!version?.kind) return "";
   const { name, library, kind, hidden } = version;
-  if (name.refused) return refusalNode(name.refused);
+  if (name.fault) return faultNode(name.fault);
   const title = kind === 2 ? `needed of ${escaped(library?.text ?? "")}` : hidden ? "not the default version" : "the default version";
   return element("span", { title }, `${kind === 1 && !hidden ? "@@" : "@"}${escaped(name.text)}`);
 }
@@ -57,8 +57,8 @@ export class SymbolsPanel {
     this.table = new Table({ label: "Symbols", columns: columns(file), empty: "No symbols.",
       choose: (row) => choose(this.current.section.index, row), sort: (by, down) => this.sortBy(by, down) });
     this.said = element("span", { role: "status" });
-    this.refused = element("div");
-    this.node = panel("Symbols", this.said, element("div", { class: "fill" }, this.refused, this.table.node), this.tools(tables));
+    this.fault = element("div");
+    this.node = panel("Symbols", this.said, element("div", { class: "fill" }, this.fault, this.table.node), this.tools(tables));
     this.showTable();
   }
 
@@ -104,8 +104,8 @@ export class SymbolsPanel {
 
   showTable() {
     if (!this.current) return this.showNone();
-    const { refused } = this.current;
-    this.refused.replaceChildren(...(refused ? [notice("refused", "The symbols are refused: ", refusalNode(refused))] : []));
+    const { fault } = this.current;
+    this.fault.replaceChildren(...(fault ? [notice("error", "The symbols can't be read: ", faultNode(fault))] : []));
     return this.find();
   }
 

@@ -1,6 +1,6 @@
 // The tables of sections and segments.
 import * as names from "./names.js";
-import { element, notice, refusalNode, verdictNode } from "./dom.js";
+import { element, notice, faultNode, verdictNode } from "./dom.js";
 import { isInSegment } from "./parts.js";
 import { Table } from "./table.js";
 import { escaped, grouped, hex, hexDigits, plural } from "./text.js";
@@ -16,15 +16,15 @@ export function address(number, fileClass) {
 }
 
 /** A section's name, or why it has none. */
-export function sectionName({ name, nameRefused }) {
-  if (nameRefused) return refusalNode(nameRefused);
+export function sectionName({ name, nameFault }) {
+  if (nameFault) return faultNode(nameFault);
   return escaped(name);
 }
 
 function endedNotice({ ended, total }, listed, what) {
   if (!ended) return null;
-  return notice("refused", `The file says that it has ${plural(total, what)}; ${grouped(listed)} can be read. At index ${grouped(listed)}: `,
-    refusalNode(ended));
+  return notice("error", `The file says that it has ${plural(total, what)}; ${grouped(listed)} can be read. At index ${grouped(listed)}: `,
+    faultNode(ended));
 }
 
 /** Whether a section has bytes of its own: types NULL and NOBITS have none. */
@@ -32,13 +32,13 @@ export function hasData({ header, isSegment }) {
   return isSegment || (header.type !== 0 && header.type !== names.NOBITS);
 }
 
-// What the check of each section or segment says; and why its data are refused, where that is another refusal.
+// What the check of each section or segment says; and why its data can't be read, where that is another error.
 function verdictColumns(list) {
-  const dataRefused = (item) => (hasData(item) ? item.dataRefused : null);
-  const isOther = (item) => dataRefused(item) && dataRefused(item).status !== item.check?.status;
+  const dataFault = (item) => (hasData(item) ? item.dataFault : null);
+  const isOther = (item) => dataFault(item) && dataFault(item).status !== item.check?.status;
   const width = list.some((item) => item.check) ? "minmax(8rem, 1.4fr)" : "5rem";
   const check = { label: "Check", width, cell: (item) => verdictNode(item.check) };
-  const data = { label: "Data", width: "minmax(9rem, 1fr)", cell: (item) => (dataRefused(item) ? refusalNode(dataRefused(item)) : "") };
+  const data = { label: "Data", width: "minmax(9rem, 1fr)", cell: (item) => (dataFault(item) ? faultNode(dataFault(item)) : "") };
   return list.some(isOther) ? [check, data] : [check];
 }
 

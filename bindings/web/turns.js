@@ -1,4 +1,4 @@
-// Work in batches: between two of them the worker answers what else was asked, tells how far it is, and may be
+// Work in batches: between two of them the worker does what else was asked, tells how far it is, and may be
 // stopped.
 
 const EVERY = 40;

@@ -1,11 +1,11 @@
 // The versions that a file defines and needs, and those of its dynamic symbols.
 import { BATCH, STATUS } from "./reader.js";
-import { rangeText, refusal } from "./survey.js";
+import { faultOf, rangeText } from "./survey.js";
 
-// A version with its name and that of its library, as texts or why they are refused.
+// A version with its name and that of its library, as texts or why they can't be read.
 function versionRow(reader, version) {
-  const said = (status, range) => (status === STATUS.OK ? { text: rangeText(reader, range) } : { refused: refusal(reader, status) });
-  return { ...version, refused: refusal(reader, version.status), name: said(version.name_status, version.name),
+  const said = (status, range) => (status === STATUS.OK ? { text: rangeText(reader, range) } : { fault: faultOf(reader, status) });
+  return { ...version, fault: faultOf(reader, version.status), name: said(version.name_status, version.name),
     library: version.file.size || version.file_status ? said(version.file_status, version.file) : null };
 }
 
@@ -19,7 +19,7 @@ function allOf(reader, call) {
     if (next.records.length < BATCH) break;
   }
   const isNone = [STATUS.OK, STATUS.NO_RECORD, STATUS.NOT_FOUND, STATUS.LINK_NO_DYNAMIC].includes(status);
-  return { rows: rows.map((it) => versionRow(reader, it)), refused: isNone ? null : refusal(reader, status) };
+  return { rows: rows.map((it) => versionRow(reader, it)), fault: isNone ? null : faultOf(reader, status) };
 }
 
 /** The versions that the file defines, and then those that it needs; and whether its symbols have versions. */
@@ -27,7 +27,7 @@ export function versionsOf(reader) {
   const defined = allOf(reader, "version_definitions");
   const needed = allOf(reader, "version_needs");
   const { records } = reader.many("dynamic_symbol_versions", { first: 0 }, 1);
-  return { listed: [...defined.rows, ...needed.rows], refused: defined.refused ?? needed.refused, ofSymbols: records.length > 0 };
+  return { listed: [...defined.rows, ...needed.rows], fault: defined.fault ?? needed.fault, ofSymbols: records.length > 0 };
 }
 
 /** The versions of the symbols of the dynamic segment from an index on. */

@@ -1,6 +1,6 @@
 // Holds the module and the file, away from the page, which stays responsive.
 //
-// The page sends `{ id, call, given }` and gets `{ id, answer }` or `{ id, failed }`; in between come
+// The page sends `{ id, call, given }` and gets `{ id, result }` or `{ id, failed }`; in between come
 // `{ progress }`. The call `stop` ends what runs at its next batch.
 import { count, countDynamicSymbols, dynamicRows, dynamicTexts, lookUp, noteRows, packedRows, relocationRows,
   symbolRows } from "./records_of.js";
@@ -86,7 +86,7 @@ const calls = {
 
 addEventListener("message", async ({ data: { id, call, given } }) => {
   try {
-    postMessage({ id, answer: await calls[call](given) });
+    postMessage({ id, result: await calls[call](given) });
   } catch (error) {
     postMessage({ id, failed: error.message });
   }

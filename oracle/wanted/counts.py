@@ -1,4 +1,4 @@
-"""Counts and indices of more than 16 bits, which stand in section header 0."""
+"""Counts and indices of more than 16 bits, which are in section header 0."""
 from wanted.files import BASES, NONE, ORDERS, U32, U64, File, err, ok, text
 from wanted.names import STRTAB_NAMES, want_compared
 from wanted.rows import Rows
@@ -74,13 +74,13 @@ def string_indices(rows: Rows):
     # The index of the ELF header and the link of section header 0; which index it is then, and the name at 1.
     rows.case("wide::section_0_has_the_index_of_the_names")
     for kind, base in each_file():
-        for index, link, answer, name in (
+        for index, link, result, name in (
             (1, 0, ok(1), text(".strtab")), (0xffff, 1, ok(1), text(".strtab")),
             *((0xffff, link, ok(link), SHORT) for link in (2, 0xff05, 0xffff, 0x10000, 0x10001, U32)), (0xfeff, 1, ok(0xfeff), SHORT),
             *((index, 1, RESERVED, RESERVED) for index in (0xff00, 0xff05, 0xfffe)),
         ):
             rows.of(base, ("header", 0, {"sh_str_index": index}), ("section", kind.first, {"link": link}))
-            rows.want_all({"shstr_index": answer, "get_shstr 1": name})
+            rows.want_all({"shstr_index": result, "get_shstr 1": name})
             if name.startswith("ok"):
                 want_names(rows, kind)
             else:
@@ -128,7 +128,7 @@ def segments_by_count(rows: Rows):
 
 
 def want_without_section_0(rows: Rows):
-    """What a file answers whose ELF header points to section header 0, which can't be read."""
+    """What a file results whose ELF header points to section header 0, which can't be read."""
     rows.want_all({
         "section_count": 0, "program_count": 0xffff, "shstr_index": RESERVED, "get_shstr 1": RESERVED, "section_iter count": 0,
     })
@@ -177,12 +177,12 @@ def indices(rows: Rows):
     # The place of an entry is a whole number, which no index makes wrap.
     rows.case("wide::places_of_wide_indices_do_not_wrap")
     for kind, base in each_file():
-        for size, index, answer in (
+        for size, index, result in (
             (kind.section, 0, ok(0)), (kind.section, 1, ok(kind.names)), (kind.section, 2, SHORT), (kind.section, 0xff00, SHORT),
             (40, 1 << 61, SHORT), (64, 1 << 58, SHORT), (0, U64, err("SmallEntry")), (40, U64, SHORT), (64, U64, SHORT),
             (0xffff, U64, SHORT),
         ):
             rows.of(base, ("header", 0, {"sh_entry_size": size}))
-            rows.want(f"section_header_at {index}", answer)
+            rows.want(f"section_header_at {index}", result)
         rows.of(base, ("header", 0, {"sh_entry_size": 0xffff, "sh_offset": U64}))
         rows.want_all({f"section_header_at {index}": SHORT for index in (0, 1, U64)})

@@ -92,12 +92,12 @@ def cut_tables(rows: Rows):
     for number in (0, 3):
         rows.file("ascending-64-little")
         rows.class_(number)
-        for kind, size, answer in (
+        for kind, size, result in (
             (18, 0, ok("SymTabShIndex", 0)), (18, 47, CUT), (18, 60, ok("SymTabShIndex", 15)), (18, 61, RANGE), (17, 0, SHORT),
             (17, 1, SHORT), (17, 3, SHORT), (17, 4, ok("Group", 0x03020100, 0)), (17, 5, CUT), (17, 8, ok("Group", 0x03020100, 1)),
         ):
             section(rows, kind, size)
-            rows.want("made 0 get_data", answer)
+            rows.want("made 0 get_data", result)
 
 
 def other_sizes(rows: Rows):
@@ -106,9 +106,9 @@ def other_sizes(rows: Rows):
         rows.file(f"ascending-{bits}-little")
         if number is not None:
             rows.class_(number)
-            for size, answer in ((0, SHORT), (11, SHORT), (12, ok("HashTable"))):
+            for size, result in ((0, SHORT), (11, SHORT), (12, ok("HashTable"))):
                 section(rows, 5, size)
-                rows.want("made 0 get_data", answer)
+                rows.want("made 0 get_data", result)
         for size in (0, 11):
             section(rows, 7, size)
             rows.want("made 0 get_data", note)
@@ -136,11 +136,11 @@ def past_the_input(rows: Rows):
 def by_link(rows: Rows):
     # The link to debug information, read as a section of this type and size.
     rows.case("data::reads_the_link_to_debug_information_by_its_type")
-    for kind, size, answer in (
+    for kind, size, result in (
         (17, 11, CUT), (17, 3, SHORT), (2, 12, CUT), (12, 12, err("InvalidShType")), (8, U64, ok("Empty")), (0, U64, ok("Empty")),
     ):
         rows.of("debug-link-little", ("section", 192, {"type": kind, "size": size}))
-        rows.want("section 2 get_data", answer)
+        rows.want("section 2 get_data", result)
     rows.case("data::reads_the_link_to_debug_information_as_a_group")
     rows.of("debug-link-little", ("section", 192, {"type": 17}))
     rows.want_all({
@@ -179,10 +179,10 @@ def of_segments(rows: Rows):
         (4, 12, ok("Note64", told(b""))), (4, 48, ok("Note64", told(bytes(range(12, 48))))),
     )
     unknown = ((2, 47, NO_CLASS), (2, 61, RANGE), (4, 11, NO_CLASS))
-    for bits, order, number, answers in ((32, "little", None, narrow), (64, "big", None, wide), (64, "big", 9, unknown)):
+    for bits, order, number, results in ((32, "little", None, narrow), (64, "big", None, wide), (64, "big", 9, unknown)):
         rows.file(f"ascending-{bits}-{order}")
         if number is not None:
             rows.class_(number)
-        for kind, size, answer in answers:
+        for kind, size, result in results:
             segment(rows, kind, size, order)
-            rows.want("made 0 get_data", answer)
+            rows.want("made 0 get_data", result)

@@ -110,7 +110,7 @@ def strtab(order: str = LITTLE) -> File:
 
 
 def wide_strtab(order: str = LITTLE) -> File:
-    """The same of class 64: the section headers stand at 64 and 128, and the names at 192."""
+    """The same of class 64: the section headers are at 64 and 128, and the names at 192."""
     file = with_header(64, 204, 2, order).set("section", 128, name=1, type=3, offset=192, size=12, align=1)
     return file.put(192, b"\0.strtab\0ab\0")
 
@@ -207,7 +207,7 @@ def ok(*values) -> str:
 
 
 def err(name: str) -> str:
-    """A refusal by the name of the error."""
+    """A error by the name of the error."""
     return f"err {TEXTS[name]}"
 
 
@@ -216,7 +216,7 @@ def quoted(text: str) -> str:
 
 
 def text(value: str) -> str:
-    """An answer that is a text."""
+    """An result that is a text."""
     return ok(quoted(value))
 
 

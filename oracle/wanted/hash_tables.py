@@ -1,4 +1,4 @@
-"""Hash numbers, the words of hash tables, and look-ups and checks along chains, in tables that stand in no file.
+"""Hash numbers, the words of hash tables, and look-ups and checks along chains, in tables that are in no file.
 
 The names are those of `strtab`: `ab` is at 9, and `.strtab` at 1.
 """
@@ -40,21 +40,21 @@ def write(rows: Rows):
     chains(rows)
     rows.file("strtab-little")
     rows.case("chains::checks_follow_each_chain")
-    for table_words, symbols, answer in (
+    for table_words, symbols, result in (
         (RING, SAME_NAME, CYCLE), (ENDS, SAME_NAME, GOOD), (ENDS, SAME_NAME[:4], INDEX), (OUT, SAME_NAME, LEAVES), (CUT, SAME_NAME, SHORT),
         ((2, 3, 1, 1, 0, 2, 0), THREE, GOOD), ((U32, 2, 0), TWO, SHORT),
         # on the chain of another bucket than that of its name
         ((2, 2, 0, 1, 0, 0), TWO, MISSING),
     ):
         table(rows, table_words, symbols)
-        check(rows, answer)
+        check(rows, result)
     checks_in_three(rows)
 
 
-def check(rows: Rows, answer: str):
-    """The check with no memory, and with none, too few and enough words that its caller lends."""
+def check(rows: Rows, result: str):
+    """The check with no memory, and with none, too few and enough words of its caller."""
     for call in ("check", "check_with 0", "check_with 2", "check_with 5", "check_with 64"):
-        rows.want(call, answer)
+        rows.want(call, result)
 
 
 def table(rows: Rows, numbers: tuple, symbols: tuple):
@@ -85,7 +85,7 @@ def numbers(rows: Rows):
 def of_two(rows: Rows):
     rows.file("strtab-little")
     rows.case("hash::looks_names_up")
-    for numbers_, count, passed, name, answer, tested in (
+    for numbers_, count, passed, name, result, tested in (
         ((1, 2, 1, 0, 0), 2, "all", "ab", ok("ok 1"), 1), ((1, 2, 1, 0, 0), 2, "all", "zz", NONE, 1),
         ((1, 2, 1, 0, 0), 2, "none", "ab", NONE, 1),
         # the chain of symbol 1 leads to itself
@@ -96,26 +96,26 @@ def of_two(rows: Rows):
         ((1, 2, 1, 0, 0), 1, "all", "ab", INDEX, 0), ((0, 0, 0), 2, "all", "ab", NONE, 0),
     ):
         table(rows, numbers_, TWO[:count])
-        rows.want(f"lookup {passed} {name}", answer)
+        rows.want(f"lookup {passed} {name}", result)
         # The test is asked of symbols with the name alone.
         called = tested if name == "ab" else 0
         rows.want(f"lookup_count {passed} {name}", f"{tested} {called} {called}")
     table(rows, (1, 2, 1, 0, 1), TWO)
     rows.want("lookup all zz", CYCLE)
     rows.case("hash::checks_tables_of_two_symbols")
-    for numbers_, answer in (
+    for numbers_, result in (
         ((1, 2, 1, 0, 0), GOOD), ((1, 2, 1, 0, 1), CYCLE), ((1, 2, 2, 0, 0), LEAVES), ((1, 2, 0, 0, 0), MISSING), ((0, 0, 0), MISSING),
         ((U32, 2, 0), SHORT), ((2, 2, 0, 1, 0), SHORT),
     ):
         table(rows, numbers_, TWO)
-        check(rows, answer)
+        check(rows, result)
     table(rows, (1, 2, 1, 0, 0), TWO[:1])
     check(rows, INDEX)
     # Which symbols a chain must hold: those that aren't local, of whatever binding, and have a name.
     rows.case("hash::a_chain_must_hold_named_symbols_that_are_not_local")
-    for name, info, answer in ((9, 0x37, MISSING), (9, 0x92, MISSING), (9, 0x02, GOOD), (13, 0x12, GOOD), (12, 0x12, GOOD)):
+    for name, info, result in ((9, 0x37, MISSING), (9, 0x92, MISSING), (9, 0x02, GOOD), (13, 0x12, GOOD), (12, 0x12, GOOD)):
         table(rows, (1, 2, 0, 0, 0), ((0, 0), (name, info)))
-        check(rows, answer)
+        check(rows, result)
 
 
 def chains(rows: Rows):
@@ -123,28 +123,28 @@ def chains(rows: Rows):
     table(rows, RING, SAME_NAME)
     rows.want_all({"lookup none ab": CYCLE, "lookup_bound none ab": "true", "lookup all ab": ok("ok 1"), "lookup_count all ab": "1 1 1"})
     rows.case("chains::a_chain_is_followed_to_its_stop")
-    for numbers_, symbols, passed, answer, count in (
+    for numbers_, symbols, passed, result, count in (
         (ENDS, SAME_NAME, "none", NONE, 4), (ENDS, SAME_NAME[:4], "none", INDEX, 3), (OUT, SAME_NAME, "none", LEAVES, 4),
         (OUT, SAME_NAME, "all", ok("ok 1"), 1), (CUT, SAME_NAME, "none", SHORT, 3),
     ):
         table(rows, numbers_, symbols)
-        rows.want(f"lookup {passed} ab", answer)
+        rows.want(f"lookup {passed} ab", result)
         rows.want(f"lookup_count {passed} ab", f"{count} {count} {count}")
     rows.case("chains::a_name_has_its_bucket")
     table(rows, (1, U32, 1, 0, 1), TWO)
     rows.want_all({"lookup all zz": CYCLE, "lookup_bound all zz": "true"})
-    for numbers_, symbols, name, answer, counts in (
+    for numbers_, symbols, name, result, counts in (
         ((U32, 2, 0), TWO, "ab", SHORT, "0 0 0"), ((2, 2, 0, 1, 0, 0), TWO, "ab", NONE, "0 0 0"),
         ((2, 3, 1, 1, 0, 2, 0), THREE, "ab", ok("ok 1"), "1 1 1"), ((2, 3, 1, 1, 0, 2, 0), THREE, ".strtab", ok("ok 2"), "2 1 1"),
     ):
         table(rows, numbers_, symbols)
-        rows.want(f"lookup all {name}", answer)
+        rows.want(f"lookup all {name}", result)
         rows.want(f"lookup_count all {name}", counts)
 
 
 def checks_in_three(rows: Rows):
     rows.case("chains::checks_buckets_that_share_chains")
-    for numbers_, symbols, answer in (
+    for numbers_, symbols, result in (
         # one chain for all buckets: downwards, and in a mixed order
         ((3, 5, 4, 4, 4, 0, 0, 1, 2, 3), IN_THREE, GOOD), ((3, 5, 2, 2, 2, 0, 3, 4, 0, 1), IN_THREE, GOOD),
         # one tail: 4, 2, 1 and 3, 2, 1; and 1, 4, 3 and 2, 4, 3
@@ -157,9 +157,9 @@ def checks_in_three(rows: Rows):
         ((3, 5, 4, 3, 4, 0, 0, 1, 1, 2), IN_THREE, MISSING),
     ):
         table(rows, numbers_, symbols)
-        check(rows, answer)
+        check(rows, result)
     rows.case("chains::checks_chains_that_join_in_trees")
-    for numbers_, symbols, answer in (
+    for numbers_, symbols, result in (
         # 6 and 5 lead to 4, 4 and 3 to 2, 2 to 1: buckets lead to 6, 5 and 3
         ((3, 7, 6, 5, 3, 0, 0, 1, 2, 2, 4, 4), tree(2, 1, 0, 2, 1, 0), MISSING),
         ((3, 7, 6, 5, 3, 0, 0, 1, 2, 2, 4, 4), tree(2, 1, 2, 1, 1, 0), GOOD),
@@ -177,10 +177,10 @@ def checks_in_three(rows: Rows):
         ((3, 7, 6, 6, 4, 0, 0, 1, 4, 3, 2, 5), tree(0, 1, None, None, 1, 0), CYCLE),
     ):
         table(rows, numbers_, symbols)
-        check(rows, answer)
+        check(rows, result)
     rows.case("chains::checks_shared_chains_beside_others")
     apart, ends = (3, 5, 3, 3, 3, 0, 0, 1, 2, 4), (3, 5, 3, 3, 4, 0, 0, 1, 2, 0)
-    for numbers_, symbols, answer in (
+    for numbers_, symbols, result in (
         # 4 leads to itself, where the last bucket leads to it and where none does
         ((3, 5, 3, 3, 4, 0, 0, 1, 2, 4), IN_THREE, CYCLE), ((3, 5, 1, 1, 4, 0, 2, 3, 0, 4), IN_THREE, CYCLE),
         (apart, IN_THREE, MISSING), (apart, LAST_LOCAL, GOOD),
@@ -190,4 +190,4 @@ def checks_in_three(rows: Rows):
         (ends, IN_THREE[:4], INDEX), (ends[:9], IN_THREE, SHORT), (apart[:9], LAST_LOCAL, GOOD),
     ):
         table(rows, numbers_, symbols)
-        check(rows, answer)
+        check(rows, result)

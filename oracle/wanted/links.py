@@ -27,23 +27,23 @@ def links(rows: Rows):
         rows.file(f"debug-link-{order}")
         rows.want_all({DEBUG_LINK: NAME, BUILD_ID: ok(told(ID)), ALTERNATE_LINK: NONE})
     rows.case("extensions::reads_links_of_any_type_and_no_short_ones")
-    for kind, start, numbers, answer in (
-        *(("section", LINK, {"size": size}, answer) for size, answer in ((12, NAME), (11, NONE), (7, NONE), (0, NONE), (U64, NONE))),
+    for kind, start, numbers, result in (
+        *(("section", LINK, {"size": size}, result) for size, result in ((12, NAME), (11, NONE), (7, NONE), (0, NONE), (U64, NONE))),
         ("section", LINK, {"offset": 398}, NONE),
-        *(("section", LINK, {"type": number}, answer) for number, answer in ((8, NAME), (7, NAME), (0, NONE), (12, NONE))),
+        *(("section", LINK, {"type": number}, result) for number, result in ((8, NAME), (7, NAME), (0, NONE), (12, NONE))),
         ("section", LINK, {"name": 12}, NONE), ("byte", 371, {"byte": 0}, ok("a.debu", 0x12345678)),
         ("byte", 368, {"byte": 0}, ok("a.d", 0x00677562)), ("byte", 365, {"byte": 0}, ok("", 0x00677562)),
         ("byte", 366, {"byte": 0xff}, NONE),
     ):
         rows.of("debug-link-little", (kind, start, numbers))
-        rows.want(DEBUG_LINK, answer)
+        rows.want(DEBUG_LINK, result)
 
 
 def build_ids(rows: Rows):
     found = ok(told(ID))
     rows.case("extensions::reads_build_ids_of_notes_alone")
-    for kind, start, numbers, answer in (
-        *(("section", NOTE, {"size": size}, answer) for size, answer in ((20, found), (19, NONE), (11, NONE), (21, NONE))),
+    for kind, start, numbers, result in (
+        *(("section", NOTE, {"size": size}, result) for size, result in ((20, found), (19, NONE), (11, NONE), (21, NONE))),
         *(("section", NOTE, {"type": number}, NONE) for number in (1, 8, 12)), ("section", NOTE, {"name": 27}, NONE),
         ("section", LINK, {"name": 26}, NONE), ("word", 385, {"word": 1}, NONE), ("word", 385, {"word": 0x03000000}, NONE),
         ("word", 377, {"word": 3}, NONE), ("word", 377, {"word": 5}, NONE), ("byte", 389, {"byte": 0x67}, NONE),
@@ -51,7 +51,7 @@ def build_ids(rows: Rows):
         ("word", 381, {"word": 0}, ok(told(b""))),
     ):
         rows.of("debug-link-little", (kind, start, numbers))
-        rows.want(BUILD_ID, answer)
+        rows.want(BUILD_ID, result)
     # The section headers by the layouts of both classes.
     rows.case("extensions::class_32_has_links_and_no_build_id")
     both = BASES["debug-link-little"].copy()
@@ -67,15 +67,15 @@ def build_ids(rows: Rows):
 def alternate_links(rows: Rows):
     rows.case("extensions::reads_alternate_links")
     data = b"\1\2\3\4"
-    for kind, start, numbers, answer in (
-        *(("section", 132, {"size": size}, answer) for size, answer in (
+    for kind, start, numbers, result in (
+        *(("section", 132, {"size": size}, result) for size, result in (
             (6, ok("x", told(data))), (5, ok("x", told(data[:3]))), (2, ok("x", told(b""))), (1, NONE), (0, NONE), (7, NONE),
         )),
         ("section", 132, {"type": 8}, ok("x", told(data))), ("section", 132, {"type": 0}, NONE), ("section", 132, {"name": 2}, NONE),
         ("byte", 191, {"byte": 0xff}, NONE),
     ):
         rows.of("alternate-link", (kind, start, numbers))
-        rows.want_all({ALTERNATE_LINK: answer, DEBUG_LINK: NONE, BUILD_ID: NONE})
+        rows.want_all({ALTERNATE_LINK: result, DEBUG_LINK: NONE, BUILD_ID: NONE})
 
 
 def note_segment(rows: Rows, order: str, size: int):
@@ -91,10 +91,10 @@ def segments(rows: Rows):
         rows.want_all({"made 0 note type_": 3, "made 0 note name": text("GNU"), "made 0 note desc": ok(told(ID))})
     rows.case("extensions::refuses_the_notes_of_segments")
     rows.file("debug-link-little")
-    for number, size, refusal in (
+    for number, size, error in (
         (2, 11, "ShortData"), (2, 0, "ShortData"), (2, 21, "DataRange"), (7, 20, "UnknownClass"), (7, 11, "UnknownClass"),
         (1, 20, "Note32"), (1, 11, "Note32"),
     ):
         rows.class_(number)
         note_segment(rows, "little", size)
-        rows.want("made 0 get_data", err(refusal))
+        rows.want("made 0 get_data", err(error))

@@ -2,7 +2,7 @@
 from wanted.files import BASES, NONE, ORDERS, U32, err, ok, quoted, text, told
 from wanted.rows import Rows
 
-# What stands at places of the name table of `strtab` and `wide_strtab`.
+# What is at places of the name table of `strtab` and `wide_strtab`.
 STRTAB_NAMES = {0: text(""), 1: text(".strtab"), 9: text("ab"), 12: err("TextEnd"), 13: err("TextStart")}
 
 # Names at places of that table, and how they compare: whether they are equal, and how many bytes were compared.
@@ -49,7 +49,7 @@ def in_place(rows: Rows):
         rows.of("strtab-little", ("header", 0, {"sh_str_index": index}))
         rows.want(*compared(0, "", False, 0))
         rows.want("find_section_by_name .strtab", NONE)
-    # Only a section of a valid type that is not Null bears its name.
+    # Only a section of a valid type that is not Null has its name.
     rows.case("compared::a_section_is_found_by_its_type_too")
     for kind, is_found in ((0, False), (1, True), (12, False), (13, False), (14, True)):
         rows.of("strtab-little", ("section", 92, {"type": kind}))
@@ -69,18 +69,18 @@ def names(rows: Rows):
     rows.file("strtab-little", BASES["strtab-little"].copy().put(143, b"A"))
     rows.want("get_shstr 9", err("TextEnd"))
     rows.case("names::names_lie_at_an_offset")
-    for offset, answer in ((143, text("")), (144, err("TextEnd")), (145, err("ShortSectionOffset")), (U32, err("ShortSectionOffset"))):
+    for offset, result in ((143, text("")), (144, err("TextEnd")), (145, err("ShortSectionOffset")), (U32, err("ShortSectionOffset"))):
         rows.of("strtab-little", ("section", 92, {"offset": offset}))
-        rows.want("get_shstr 0", answer)
+        rows.want("get_shstr 0", result)
     rows.case("names::names_lie_in_a_section")
     whole = text("\x7fELF\x01\x01\x01")
-    for index, answer in (
+    for index, result in (
         (0, whole), (1, text("")), (2, err("ShortSectionHeader")), (0xff00, err("ReservedIndex")), (0xfffe, err("ReservedIndex")),
         # the link of section header 0, which is 0
         (0xffff, whole),
     ):
         rows.of("strtab-little", ("header", 0, {"sh_str_index": index}))
-        rows.want("get_shstr 0", answer)
+        rows.want("get_shstr 0", result)
     # The data of a section may be the whole file, and names are then read from its start.
     rows.case("names::data_may_be_the_whole_file")
     file = rows.of("strtab-little", ("section", 92, {"offset": 0, "size": 144}))
@@ -101,42 +101,42 @@ def texts(rows: Rows):
     bases = (("strtab-little", 1), ("strtab-big", 2), ("strtab-little", 7), ("wide-strtab-little", 1), ("wide-strtab-big", 2))
     for base, encoding in bases:
         rows.of(base, ("header", 0, {"encoding": encoding}))
-        for index, answer in TEXTS.items():
-            rows.want(f"get_string {index}", answer)
+        for index, result in TEXTS.items():
+            rows.want(f"get_string {index}", result)
             rows.want(f"get_dyn_string {index}", err("NoDynstr"))
     # A text ends in its section, though the names of sections go on behind it.
     rows.case("string_tables::texts_end_in_their_section")
     sizes = ((12, text("ab")), (11, err("TextEnd")), (9, err("TextEnd")), (8, err("TextStart")), (13, err("DataRange")))
-    for size, answer in sizes:
+    for size, result in sizes:
         for order in ORDERS:
             rows.of(f"strtab-{order}", ("section", 92, {"size": size}))
-            rows.want("get_string 9", answer)
+            rows.want("get_string 9", result)
             rows.want("get_shstr 9", text("ab"))
             rows.of(f"dynstr-{order}", ("section", 92, {"size": size}))
-            rows.want("get_dyn_string 9", answer)
+            rows.want("get_dyn_string 9", result)
 
 
 def texts_by_section(rows: Rows):
     # `.strtab` is of type StrTab; what has no valid type, or type Null, has no name.
     rows.case("string_tables::the_type_of_strtab_is_asked")
-    for kind, size, answer in (
+    for kind, size, result in (
         (3, 12, text("ab")), (1, 12, err("StrtabType")), (1, 13, err("StrtabType")), (8, 12, err("StrtabType")),
         (0, 12, err("NoStrtab")), (12, 12, err("NoStrtab")),
     ):
         rows.of("strtab-little", ("section", 92, {"type": kind, "size": size}))
-        rows.want("get_string 9", answer)
+        rows.want("get_string 9", result)
     # `.dynstr` may be of any type.
     rows.case("string_tables::the_type_of_dynstr_is_not_asked")
-    for kind, answer in ((3, text("ab")), (1, text("ab")), (8, text("ab")), (0, err("NoDynstr")), (12, err("NoDynstr"))):
+    for kind, result in ((3, text("ab")), (1, text("ab")), (8, text("ab")), (0, err("NoDynstr")), (12, err("NoDynstr"))):
         rows.of("dynstr-little", ("section", 92, {"type": kind}))
-        rows.want("get_dyn_string 9", answer)
+        rows.want("get_dyn_string 9", result)
         rows.want("get_string 9", err("NoStrtab"))
     rows.case("string_tables::texts_of_files_that_are_cut")
     rows.file("strtab-little")
-    for first, last, answer in ((52, 140, err("NoStrtab")), (141, 143, err("DataRange")), (144, 144, text("ab"))):
+    for first, last, result in ((52, 140, err("NoStrtab")), (141, 143, err("DataRange")), (144, 144, text("ab"))):
         rows.cut(first, last)
-        rows.want("get_string 9", answer)
+        rows.want("get_string 9", result)
     rows.case("string_tables::texts_of_damaged_files")
-    for place, byte, refusal in ((133, b"\xff", "NoStrtab"), (141, b"\xff", "TextUtf8"), (143, b"A", "TextEnd")):
+    for place, byte, error in ((133, b"\xff", "NoStrtab"), (141, b"\xff", "TextUtf8"), (143, b"A", "TextEnd")):
         rows.file("strtab-little", BASES["strtab-little"].copy().put(place, byte))
-        rows.want("get_string 9", err(refusal))
+        rows.want("get_string 9", err(error))

@@ -24,11 +24,11 @@ class Section:
     raw: str = err("NullData")
     contents: dict = dataclasses.field(default_factory=lambda: {"get_data": ok("Empty")})
 
-    def answers(self, place: str) -> dict:
+    def wanted_calls(self, place: str) -> dict:
         names = ("name", "flags", "address", "offset", "size", "link", "info", "align", "entry_size")
         check = GOOD if self.kind.startswith("ok") else self.kind
         own = dict(zip(names, self.numbers)) | {"get_type": self.kind, "get_name": self.name, "raw_data": self.raw, "sanity_check": check}
-        return {f"{place} {call}": answer for call, answer in (own | self.contents).items()}
+        return {f"{place} {call}": result for call, result in (own | self.contents).items()}
 
 
 @dataclasses.dataclass
@@ -51,7 +51,7 @@ class Wanted:
     program: str = err("NoProgramHeaders")
     links: tuple = (NONE, NONE, NONE)
 
-    def answers(self) -> dict:
+    def wanted_calls(self) -> dict:
         no_program, reserved = err("NoProgramHeaders"), err("ReservedIndex")
         found = {
             "header sanity_check": self.check, "section_count": self.section_count, "section_iter count": len(self.sections),
@@ -64,11 +64,11 @@ class Wanted:
         found |= dict(compared(*row) for row in self.compared)
         found |= {f"get_string {index}": string for index, string in self.strings.items()}
         found |= {"get_dyn_string 0": NO_DYNSTR, "get_dyn_string 9": NO_DYNSTR}
-        found |= {f"find_section_by_name {name}": answer for name, answer in self.named.items()}
+        found |= {f"find_section_by_name {name}": result for name, result in self.named.items()}
         calls = ("get_gnu_buildid", "get_gnu_debuglink", "get_gnu_debugaltlink")
-        found |= {f"extensions {call}": answer for call, answer in zip(calls, self.links)}
+        found |= {f"extensions {call}": result for call, result in zip(calls, self.links)}
         for index, section in enumerate(self.sections):
-            found |= section.answers(f"section {index}")
+            found |= section.wanted_calls(f"section {index}")
         return found | ({"report": report(*self.report)} if self.report else {})
 
 
@@ -92,11 +92,11 @@ def bytes_in(file: bytes, length: int, start: int, end: int):
 
 def held(kind: str, numbers: tuple, name: str, data, contents: dict) -> Section:
     """A section of this type, with its bytes where it has them, and then this of its data."""
-    refused = err("DataRange")
-    return Section(numbers, ok(kind), name, refused if data is None else ok(told(data)), {"get_data": refused} if data is None else contents)
+    past = err("DataRange")
+    return Section(numbers, ok(kind), name, past if data is None else ok(told(data)), {"get_data": past} if data is None else contents)
 
 
-def refused(length: int) -> dict:
+def none_of(length: int) -> dict:
     """What is wanted of a prefix that ends in its ELF header."""
     return {"file new": err("ShortPart1" if length < 16 else "ShortHeaders")}
 
@@ -134,12 +134,12 @@ def strtab_wanted(length: int) -> Wanted:
 def strtab_prefixes(rows: Rows):
     rows.case("string_table::each_prefix_of_a_string_table_answers_each_call")
     rows.file("strtab-little")
-    rows.want_by_length({length: refused(length) for length in range(52)})
-    rows.want_by_length({length: {"file new": "ok"} | strtab_wanted(length).answers() for length in range(52, 145)})
+    rows.want_by_length({length: none_of(length) for length in range(52)})
+    rows.want_by_length({length: {"file new": "ok"} | strtab_wanted(length).wanted_calls() for length in range(52, 145)})
 
 
 def no_strtab(sections: list, lines: str, **changes) -> Wanted:
-    """What is wanted of `strtab` where no section bears the name `.strtab`."""
+    """What is wanted of `strtab` where no section has the name `.strtab`."""
     wanted = {"names": {}, "compared": [], "strings": {0: NO_STRTAB, 9: NO_STRTAB}, "named": {".strtab": NONE, "": NONE}, "past": 2}
     report_of = (STRTAB_HEADER, "ok", lines)
     return Wanted(**({"sections": sections, "section_count": 2, "report": report_of} | wanted | changes))
@@ -155,7 +155,7 @@ def strtab_damaged(rows: Rows):
             0: text("\x7fELF\x01\x01\x01"), 1: text("ELF\x01\x01\x01"), 9: text(""), 144: err("TextEnd"), 145: err("TextStart"),
         },
         compared=[(1, ".strtab", False, 1), (2, "LF", False, 3)],
-    ).answers())
+    ).wanted_calls())
     rows.case("string_table::a_name_that_is_no_text_answers_each_call")
     file = BASES["strtab-little"].copy().put(133, b"\xff")
     rows.file("strtab-little", file)
@@ -163,7 +163,7 @@ def strtab_damaged(rows: Rows):
         [Section(), table_section(bytes(file[132:]), err("TextUtf8"))], "1 Ok(StrTab) ! Text is not valid UTF-8\n",
         names={0: text(""), 1: err("TextUtf8"), 2: text("strtab"), 9: text("ab")},
         compared=[(1, ".strtab", False, 1), (2, "strtab", True, 7)],
-    ).answers())
+    ).wanted_calls())
     # The zero byte behind `ab` is another.
     rows.case("string_table::a_text_without_its_end_answers_each_call")
     file = BASES["strtab-little"].copy().put(143, b"A")
@@ -172,7 +172,7 @@ def strtab_damaged(rows: Rows):
         [Section(), table_section(bytes(file[132:]), text(".strtab"))], "1 Ok(StrTab) = .strtab\n",
         names={1: text(".strtab"), 9: err("TextEnd"), 12: err("TextEnd")}, compared=[(1, ".strtab", True, 8), (9, "abA", False, 3)],
         strings={0: text(""), 1: text(".strtab"), 9: err("TextEnd")}, named={".strtab": ok(1, 132), "": NONE},
-    ).answers())
+    ).wanted_calls())
 
 
 def link_name(length: int, start: int, zero: int, value: str) -> str:
@@ -243,8 +243,8 @@ def link_wanted(length: int, **changes) -> Wanted:
 def link_prefixes(rows: Rows):
     rows.case("debug_link::each_prefix_of_a_link_answers_each_call")
     rows.file("debug-link-little")
-    rows.want_by_length({length: refused(length) for length in range(64)})
-    rows.want_by_length({length: {"file new": "ok"} | link_wanted(length).answers() for length in range(64, 398)})
+    rows.want_by_length({length: none_of(length) for length in range(64)})
+    rows.want_by_length({length: {"file new": "ok"} | link_wanted(length).wanted_calls() for length in range(64, 398)})
 
 
 def no_links(**changes) -> Wanted:
@@ -262,13 +262,13 @@ def link_damaged(rows: Rows):
     rows.case("debug_link::header_tables_past_64_bits_answer_each_call")
     rows.of("debug-link-little", ("header", 0, {"sh_offset": U64}))
     lines = header_lines("SixtyFour", sh_offset=U64, **away)
-    rows.want_all(no_links(report=(lines, "! section header table out of range", "")).answers())
+    rows.want_all(no_links(report=(lines, "! section header table out of range", "")).wanted_calls())
     rows.of("debug-link-little", ("header", 0, {"ph_offset": U64, "ph_entry_size": 56, "ph_count": 1}))
     lines = header_lines("SixtyFour", ph_offset=U64, sh_offset=64, ph_entry_size=56, ph_count=1, **away)
     rows.want_all(link_wanted(
         397, check=err("PhTableRange"), program_count=1, program=err("ShortProgramHeader"),
         report=(lines, "! program header table out of range", link_lines(397)),
-    ).answers())
+    ).wanted_calls())
     # The last byte of the build id is none of its section.
     rows.case("debug_link::a_note_that_passes_its_section_answers_each_call")
     file = rows.of("debug-link-little", ("section", 256, {"size": 19}))
@@ -278,7 +278,7 @@ def link_damaged(rows: Rows):
     rows.want_all(link_wanted(
         397, sections=sections, names={26: text(".note.gnu.build-id")}, compared=[],
         named={".note.gnu.build-id": ok(26, 377)}, links=(NONE, ok("a.debug", 0x12345678), NONE),
-    ).answers())
+    ).wanted_calls())
 
 
 def other_headers(rows: Rows):
@@ -288,7 +288,7 @@ def other_headers(rows: Rows):
     only = Section((0, 0, 0, 0x100000000, 3, 0, 132, 12, 0x100000000))
     rows.want_all(no_links(
         sections=[only], past=1, names={1: SHORT}, compared=[(1, ".strtab", False, 0)], strings={0: NO_STRTAB}, named={".strtab": NONE},
-    ).answers())
+    ).wanted_calls())
     rows.file("debug-link-little")
     rows.under("strtab-little")
     unknown = err("InvalidShType")
@@ -299,4 +299,4 @@ def other_headers(rows: Rows):
     rows.want_all(no_strtab(
         sections, "", past=8, names={1: text("ELF\x02\x01\x01"), 9: text("")}, compared=[(1, "ELF\x02\x01\x01", True, 7)],
         strings={0: NO_STRTAB}, named={".strtab": NONE}, report=None,
-    ).answers())
+    ).wanted_calls())

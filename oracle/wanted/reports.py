@@ -108,7 +108,7 @@ def names(rows: Rows):
     rows.case("reports::reports_the_strtab_file")
     rows.file("strtab-little")
     rows.want("report", report(STRTAB_HEADER, "ok", "1 Ok(StrTab) = .strtab\n"))
-    # A refused name doesn't leave the section out.
+    # A past name doesn't leave the section out.
     rows.case("reports::reports_names_that_are_cut")
     for length, lines in (
         (132, "1 Ok(StrTab) ! Text starts past the end of its data\n"), (133, "1 Ok(StrTab) ! Text has no terminating zero\n"),
@@ -145,7 +145,7 @@ def segments(rows: Rows):
     lines = "0 Ok(Null) ok\n1 Ok(Null) ! Invalid combination of virtual_addr, offset, and align\n"
     rows.file("overlaid")
     rows.want("report", report(header_lines("ThirtyTwo", ph_count=2, **own), "ok", "1 Ok(StrTab) = .strtab\n", lines))
-    # The count of segments stands in section header 0.
+    # The count of segments is in section header 0.
     rows.case("wide::segments_by_either_count")
     for order, name in (("little", "LittleEndian"), ("big", "BigEndian")):
         rows.of(f"strtab-{order}", ("header", 0, {"ph_offset": 52, "ph_entry_size": 32, "ph_count": 0xffff}), ("section", 52, {"info": 2}))

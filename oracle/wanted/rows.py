@@ -56,25 +56,25 @@ class Rows:
         """The symbols of a hash table, which is the record."""
         self.lines.append(f"symbols {data.hex()}")
 
-    def want(self, call: str, answer):
-        """The answer that is wanted of a call. No answer is empty, as that to an unknown call is."""
-        assert str(answer), call
-        self.lines.append(f"is {call} = {answer}")
+    def want(self, call: str, result):
+        """The result that is wanted of a call. No result is empty, as that to an unknown call is."""
+        assert str(result), call
+        self.lines.append(f"is {call} = {result}")
         self.count += 1
 
-    def want_all(self, answers: dict):
-        for call, answer in answers.items():
-            self.want(call, answer)
+    def want_all(self, results: dict):
+        for call, result in results.items():
+            self.want(call, result)
 
-    def want_by_length(self, answers: dict):
-        """The answers by the number of bytes that are left of the file; the same ones of several numbers as one row."""
-        calls = dict.fromkeys(call for of in answers.values() for call in of)
+    def want_by_length(self, results: dict):
+        """The results by the number of bytes that are left of the file; the same ones of several numbers as one row."""
+        calls = dict.fromkeys(call for of in results.values() for call in of)
         for call in calls:
-            lengths = sorted(length for length in answers if call in answers[length])
+            lengths = sorted(length for length in results if call in results[length])
             first = lengths[0]
             for length, after in zip(lengths, [*lengths[1:], None]):
-                answer = answers[length][call]
-                if after != length + 1 or answers[after].get(call) != answer:
+                result = results[length][call]
+                if after != length + 1 or results[after].get(call) != result:
                     self.cut(first, length)
-                    self.want(call, answer)
+                    self.want(call, result)
                     first = after

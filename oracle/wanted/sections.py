@@ -62,16 +62,16 @@ def made(rows: Rows):
     rows.case("sections::data_lies_in_the_input")
     rows.file("debug-link-little")
     whole = BASES["debug-link-little"]
-    for kind, size, answer in (
+    for kind, size, result in (
         (1, U64, err("DataRange")), (8, U64, err("DataRange")), (12, U64, err("InvalidShType")), (0, U64, err("NullData")),
         (0, 0, err("NullData")), (1, 0, ok(told(b""))), (1, 2, ok(told(whole[2:4]))), (1, 394, ok(told(whole[2:396]))),
         (1, 395, ok(told(whole[2:397]))), (1, 396, err("DataRange")),
     ):
         rows.record("section64", record("section", 64, type=kind, offset=2, size=size))
-        rows.want("made 0 raw_data", answer)
-    for kind, answer in ((1, GOOD), (12, err("InvalidShType"))):
+        rows.want("made 0 raw_data", result)
+    for kind, result in ((1, GOOD), (12, err("InvalidShType"))):
         rows.record("section64", record("section", 64, type=kind, offset=2))
-        rows.want("made 0 sanity_check", answer)
+        rows.want("made 0 sanity_check", result)
 
 
 def places(rows: Rows):
@@ -83,15 +83,15 @@ def places(rows: Rows):
     ):
         rows.file(base)
         rows.under(base)
-        for length, answer in lengths:
+        for length, result in lengths:
             rows.cut(length)
-            rows.want("parse_section_header 1", answer)
+            rows.want("parse_section_header 1", result)
     rows.case("sections::headers_lie_at_their_index")
     rows.file("debug-link-little")
-    # The bytes behind the fourth header, from 320 on, have room for a fifth, whose offset stands at 344.
+    # The bytes behind the fourth header, from 320 on, have room for a fifth, whose offset is at 344.
     offset = int.from_bytes(BASES["debug-link-little"][344:352], LITTLE)
-    for index, answer in ((3, ok(377)), (4, ok(offset)), (5, SHORT), (0xfeff, SHORT)):
-        rows.want(f"parse_section_header {index}", answer)
+    for index, result in ((3, ok(377)), (4, ok(offset)), (5, SHORT), (0xfeff, SHORT)):
+        rows.want(f"parse_section_header {index}", result)
     for index in (0xff00, 0xff01, 0xffff):
         rows.want(f"parse_section_header {index}", err("ReservedIndex"))
     # Sums of 64 bits don't wrap.
@@ -110,9 +110,9 @@ def entries(rows: Rows):
         ("strtab-little", ((0, small), (39, small), (40, ok(0)), (41, ok(0)))),
         ("debug-link-little", ((0, small), (63, small), (64, ok(0)), (65, ok(0)))),
     ):
-        for size, answer in sizes:
+        for size, result in sizes:
             rows.of(base, ("header", 0, {"sh_entry_size": size}))
-            rows.want("section_header 0", answer)
+            rows.want("section_header 0", result)
     rows.file("plain-32")
     rows.want("section_header 0", small)
     # Larger entries are read at their front.
@@ -141,15 +141,15 @@ def cut(rows: Rows):
     for first, last, count in ((52, 91, 0), (92, 131, 1), (132, 144, 2)):
         rows.cut(first, last)
         rows.want("section_iter count", count)
-    # What the check says then, and which name the second section bears.
+    # What the check says then, and which name the second section has.
     rows.case("sections::reads_what_is_left_of_a_file")
     rows.cut(52, 131)
     rows.want("header sanity_check", err("ShTableRange"))
     rows.cut(132, 144)
     rows.want("header sanity_check", GOOD)
-    for first, last, answer in ((132, 132, err("TextStart")), (133, 140, err("TextEnd")), (141, 144, text(".strtab"))):
+    for first, last, result in ((132, 132, err("TextStart")), (133, 140, err("TextEnd")), (141, 144, text(".strtab"))):
         rows.cut(first, last)
-        rows.want("section 1 get_name", answer)
+        rows.want("section 1 get_name", result)
     rows.case("sections::counts_what_is_left_of_a_wide_file")
     rows.file("debug-link-little")
     for length, count in ((64, 0), (127, 0), (128, 1), (192, 2), (256, 3), (319, 3), (320, 4), (397, 4)):

@@ -37,14 +37,14 @@ def whole(rows: Rows):
     changed = rows.of("segment", ("program", 52, {"file_size": 84}))
     rows.want("segment 0 raw_data", ok(told(changed)))
     rows.case("segments::says_what_is_wrong_with_a_segment")
-    for numbers, kind, answer in (
+    for numbers, kind, result in (
         ({"file_size": 84}, ok("Load"), err("EntryPointRange")), ({"type": 5}, ok("ShLib"), err("ShLibUsed")),
         ({"type": 8}, err("InvalidPhType"), err("InvalidPhType")), ({"align": 4, "virtual_addr": 1}, ok("Load"), err("BadAlign")),
         ({"align": 4, "virtual_addr": 8}, ok("Load"), GOOD),
     ):
         rows.of("segment", ("program", 52, numbers))
         rows.want("segment 0 get_type", kind)
-        rows.want("segment 0 sanity_check", answer)
+        rows.want("segment 0 sanity_check", result)
 
 
 def tables(rows: Rows):
@@ -59,16 +59,16 @@ def tables(rows: Rows):
         "program_iter count": 1, "program_header 1": SHORT, "program_header 2": NO_HEADERS, "header sanity_check": err("PhTableRange"),
     })
     rows.case("segments::a_table_has_a_place_and_entries")
-    # One byte before its place stand the zero behind the ELF header and three bytes of the type: the offset is 0x100 times 0.
-    for numbers, answer in (
+    # One byte before its place are the zero after the ELF header and three bytes of the type: the offset is 0x100 times 0.
+    for numbers, result in (
         ({"ph_offset": 51}, None), ({"ph_offset": 53}, SHORT), ({"ph_offset": 0}, NO_HEADERS), ({"ph_entry_size": 0}, NO_HEADERS),
         ({"ph_count": 0}, NO_HEADERS),
     ):
         changed = rows.of("segment", ("header", 0, numbers))
-        if answer is None:
+        if result is None:
             offset, align = (int.from_bytes(changed[51 + place : 55 + place], "little") for place in (4, 28))
-            answer = ok(offset, align)
-        rows.want("program_header 0", answer)
+            result = ok(offset, align)
+        rows.want("program_header 0", result)
     rows.file("plain-32")
     rows.want("program_header 0", NO_HEADERS)
 
@@ -92,22 +92,22 @@ def made(rows: Rows):
     # By type, offset and file size, how many bytes of the file from its start are the data.
     rows.case("segments::an_empty_segment_may_lie_anywhere")
     plain = rows.of("plain-32", ("header", 0, {"ph_entry_size": 32}))
-    for kind, offset, size, answer in (
+    for kind, offset, size, result in (
         (1, U32, 0, ok(told(b""))), (1, U32, 2, err("DataRange")), (1, 0, 52, ok(told(plain))), (1, 0, 53, err("DataRange")),
         (0, 0, 53, err("NullData")), (8, 0, 53, err("InvalidPhType")),
     ):
         rows.record("segment32", record("program", 32, type=kind, offset=offset, file_size=size))
-        rows.want("made 0 raw_data", answer)
+        rows.want("made 0 raw_data", result)
     rows.want("made 0 get_type", err("InvalidPhType"))
     rows.case("segments::a_segment_ends_before_the_end_of_the_input")
-    for offset, size, answer in ((U32, 2, err("EntryPointRange")), (0, 52, err("EntryPointRange")), (0, 51, GOOD)):
+    for offset, size, result in ((U32, 2, err("EntryPointRange")), (0, 52, err("EntryPointRange")), (0, 51, GOOD)):
         rows.record("segment32", record("program", 32, type=1, offset=offset, file_size=size))
-        rows.want("made 0 sanity_check", answer)
+        rows.want("made 0 sanity_check", result)
     rows.case("segments::sums_of_64_bits_do_not_wrap")
     rows.of("debug-link-little", ("header", 0, {"ph_entry_size": 56}))
-    for size, answer in ((1, err("DataRange")), (0, ok(told(b"")))):
+    for size, result in ((1, err("DataRange")), (0, ok(told(b"")))):
         rows.record("segment64", record("program", 64, type=1, offset=U64, file_size=size))
-        rows.want("made 0 raw_data", answer)
+        rows.want("made 0 raw_data", result)
         rows.want("made 0 sanity_check", err("EntryPointRange"))
     rows.case("segments::a_segment_has_the_class_of_its_file")
     rows.record("segment32", record("program", 32))

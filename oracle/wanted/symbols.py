@@ -1,4 +1,4 @@
-"""Symbols, which stand in no file here: their numbers, meanings and names, and the sections that they belong to."""
+"""Symbols, which are in no file here: their numbers, meanings and names, and the sections that they belong to."""
 from wanted.files import ORDERS, err, ok, record, text
 from wanted.rows import Rows
 
@@ -104,34 +104,34 @@ def meanings(rows: Rows):
 def names(rows: Rows):
     rows.case("symbols::symbols_have_names")
     for place, name in ((0, text("")), (9, text("ab")), (12, err("TextEnd")), (13, err("TextStart"))):
-        for kind, base, without, refusal in (
+        for kind, base, without, error in (
             ("symbols", "strtab-little", "dynstr-little", err("NoStrtab")),
             ("dynamic_symbols", "dynstr-little", "strtab-little", err("NoDynstr")),
         ):
             for bits in (32, 64):
-                for own, answer in ((base, name), (without, refusal)):
+                for own, result in ((base, name), (without, error)):
                     rows.file(own)
                     rows.record(f"{kind}{bits}", record("symbol", bits, name=place))
-                    rows.want(f"{FIRST} get_name", answer)
+                    rows.want(f"{FIRST} get_name", result)
 
 
-def want_section(rows: Rows, index: int, answer: str):
+def want_section(rows: Rows, index: int, result: str):
     """The section of symbol 1 with this section index, by an entry of either class."""
     for kind, bits in (("symbols", 32), ("dynamic_symbols", 64)):
         size = len(record("symbol", bits))
         rows.record(f"{kind}{bits}", bytes(size) + record("symbol", bits, shndx=index))
-        rows.want("made 0 symbol 1 get_section_header", answer)
+        rows.want("made 0 symbol 1 get_section_header", result)
 
 
 def sections(rows: Rows):
     rows.case("symbol_sections::symbols_belong_to_the_section_at_their_index")
     rows.file("strtab-little")
     reserved, symbol = err("ReservedIndex"), err("ReservedSymbolIndex")
-    for index, answer in (
+    for index, result in (
         (1, ok(1, 132)), (2, err("ShortSectionHeader")), (0xfeff, err("ShortSectionHeader")), (0, symbol), (0xfff1, symbol),
         (0xfff2, symbol), (0xff00, reserved), (0xff05, reserved), (0xfff0, reserved), (0xfff3, reserved), (0xfffe, reserved),
     ):
-        want_section(rows, index, answer)
+        want_section(rows, index, result)
     want_section(rows, 0xffff, err("NoShIndex"))
 
 
@@ -139,23 +139,23 @@ def wide_indices(rows: Rows):
     rows.case("symbol_sections::wide_indices_stand_at_the_place_of_the_symbol")
     for order in ORDERS:
         rows.file(f"shndx-{order}")
-        for place, answer in ((0, err("ReservedSymbolIndex")), (1, ok(1, 172)), (2, err("SymbolIndex"))):
+        for place, result in ((0, err("ReservedSymbolIndex")), (1, ok(1, 172)), (2, err("SymbolIndex"))):
             for kind, bits in (("symbols", 32), ("dynamic_symbols", 64)):
                 rows.record(f"{kind}{bits}", record("symbol", bits, order, shndx=0xffff) * 3)
-                rows.want(f"made 0 symbol {place} get_section_header", answer)
+                rows.want(f"made 0 symbol {place} get_section_header", result)
     rows.case("symbol_sections::wide_indices_are_not_cut")
     short = err("ShortSectionHeader")
-    for word, answer in (
+    for word, result in (
         (1, ok(1, 172)), (2, ok(9, 195)), (0xff00, short), (0xfff1, short), (0x10000, short), (0x10001, short), (0xffffffff, short),
     ):
         rows.of("shndx-little", ("word", 199, {"word": word}))
-        want_section(rows, 0xffff, answer)
+        want_section(rows, 0xffff, result)
     # By the type and the size of the section of wide indices; the type is asked before the data is read.
     rows.case("symbol_sections::wide_indices_are_refused")
     expected = err("ExpectedShIndex")
-    for kind, size, answer in (
+    for kind, size, result in (
         (18, 8, ok(1, 172)), (18, 7, err("NotMultiple")), (18, 4, err("SymbolIndex")), (18, 9, err("DataRange")), (1, 8, expected),
         (1, 9, expected), (8, 8, expected), (0, 8, err("NoShIndex")),
     ):
         rows.of("shndx-little", ("section", 132, {"type": kind, "size": size}))
-        want_section(rows, 0xffff, answer)
+        want_section(rows, 0xffff, result)

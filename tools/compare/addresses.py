@@ -14,12 +14,13 @@ import os
 import random
 import re
 import shutil
-import subprocess
 import sys
 import tempfile
 from typing import Callable
 
-from comparing import CONTROLS, INDIRECT, LOAD, LOCAL, ROOT, Symbol, Tally, dynamic_symbols, llvm, parser_of, parts, raw, read_elf, symbol_of
+from comparing import (
+    CONTROLS, INDIRECT, LOAD, LOCAL, ROOT, Symbol, Tally, dynamic_symbols, llvm, nm, parser_of, parts, raw, read_elf, run,
+    symbol_of)
 from loading import named
 
 # Types of symbols that name addresses: none, an object, a function, an indirect function. A section index from RESERVED on is none.
@@ -59,11 +60,9 @@ class Image:
         return listed
 
 
-def answers(command: list[str], addresses: list[int], form: str = "{:x}\n", **more) -> list[str]:
+def lines_for(command: list[str], addresses: list[int], form: str = "{:x}\n") -> list[str]:
     """The lines that a program writes for addresses on its standard input."""
-    text = "".join(form.format(it) for it in addresses).encode()
-    done = subprocess.run(command, input=text, capture_output=True, check=False, env={"PATH": os.environ["PATH"], "LC_ALL": "C"}, **more)
-    return done.stdout.decode("utf-8", "surrogateescape").split("\n")[:-1]
+    return run(command, given="".join(form.format(it) for it in addresses).encode()).output.split("\n")[:-1]
 
 
 def compare_dladdr(elfaddr: str, path: str, count: int, tally: Tally) -> None:
@@ -77,7 +76,7 @@ def compare_dladdr(elfaddr: str, path: str, count: int, tally: Tally) -> None:
         tally["libraries not loaded"] += 1
         return
     tally["libraries"] += 1
-    found = answers([elfaddr, "--dladdr", path, "-"], addresses)
+    found = lines_for([elfaddr, "--dladdr", path, "-"], addresses)
     if len(found) != len(addresses):
         tally.fault(f"{path}: elfaddr writes {len(found)} lines for {len(addresses)} addresses")
         return
@@ -95,9 +94,9 @@ def by_gdb(path: str, addresses: list[int]) -> list[str]:
     with tempfile.NamedTemporaryFile("w", suffix=".gdb") as script:
         script.writelines(f"info symbol 0x{it:x}\n" for it in addresses)
         script.flush()
-        said = subprocess.run(["gdb", "-nx", "-q", "-batch", "-iex", "set debuginfod enabled off", "-iex", "set print demangle off",
-            "-iex", "set print asm-demangle off", "-ex", f"source {script.name}", path], capture_output=True, check=False)
-    lines = (said.stdout + said.stderr).decode("utf-8", "surrogateescape").split("\n")
+        said = run(["gdb", "-nx", "-q", "-batch", "-iex", "set debuginfod enabled off", "-iex", "set print demangle off",
+            "-iex", "set print asm-demangle off", "-ex", f"source {script.name}", path])
+    lines = (said.output + said.errors).split("\n")
     kept = [it for it in lines if " in section " in it or it.startswith("No symbol matches")]
     return ["" if it.startswith("No symbol") else re.split(r" \+ \d+ in section | in section ", it)[0] for it in kept]
 
@@ -106,7 +105,7 @@ def by_lines(*command: str) -> Callable[[str, list[int]], list[str]]:
     """A tool that writes two lines for each address: a name with an offset where there is one, and the source."""
 
     def ask(path: str, addresses: list[int]) -> list[str]:
-        names = [it for it in answers([*command, path], addresses, "0x{:x}\n") if it][::2]
+        names = [it for it in lines_for([*command, path], addresses, "0x{:x}\n") if it][::2]
         return ["" if it == "??" or it[0] == "(" else re.sub(r"\+0x[0-9a-f]+$", "", it) for it in names]
 
     return ask
@@ -114,13 +113,9 @@ def by_lines(*command: str) -> Callable[[str, list[int]], list[str]]:
 
 def by_nm(path: str, addresses: list[int]) -> list[str]:
     """The last symbol of `nm -n` up to the address."""
-    said = subprocess.run(["nm", "-n", path], capture_output=True, check=False, env={"PATH": os.environ["PATH"], "LC_ALL": "C"}).stdout
-    if not said:
-        said = subprocess.run(["nm", "-nD", "--without-symbol-versions", path], capture_output=True, check=False).stdout
-    rows = [it.split(" ", 2) for it in said.decode("utf-8", "surrogateescape").split("\n") if it[:1].strip()]
-    rows = [(int(value, 16), name) for value, kind, name in rows if kind not in "aANU"]
-    values = [value for value, _ in rows]
-    places = [bisect.bisect_right(values, it) - 1 for it in addresses]
+    # Of one value they stay in the order of their names, as by `nm -n`.
+    rows = sorted(((value, name) for value, _, letter, name in nm(path) if letter not in "aANU"), key=lambda row: row[0])
+    places = [bisect.bisect_right(rows, it, key=lambda row: row[0]) - 1 for it in addresses]
     return [rows[place][1] if place >= 0 else "" for place in places]
 
 
@@ -167,7 +162,7 @@ def compare_others(elfaddr: str, path: str, count: int, tables: dict[str, collec
     by_name, found = collections.defaultdict(list), []
     for it in symbols:
         by_name[it.name].append(it)
-    for line in answers([elfaddr, path, "-"], addresses):
+    for line in lines_for([elfaddr, path, "-"], addresses):
         name = line.rpartition("+")[0]
         found.append(name if name in by_name else "")
     tally["files beside tools"] += 1

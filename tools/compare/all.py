@@ -52,7 +52,6 @@ class Oracle(collections.namedtuple("Oracle", "whole sample needs first script",
 
 ORACLES = {
     "readelf": Oracle(SYSTEM, FEW, (built("elfinfo"), "llvm-readelf")),
-    "sections": Oracle(SYSTEM, FEW, (ARCHIVE, "llvm-readelf", "readelf", "gcc"), ("bindings/python/wheel_backend.py",)),
     "elfsym": Oracle(SYSTEM, FEW, (built("elfsym"), "llvm-readelf", "readelf")),
     "recipes": Oracle([], [], (built("elfrecipes"), "llvm-readelf", "readelf", "nm", "gcc")),
     "dump": Oracle(SYSTEM, LIBRARIES, (ARCHIVE, "llvm-readelf", "readelf", "g++", "cargo")),
@@ -62,11 +61,12 @@ ORACLES = {
     "sizes": Oracle(["--damaged", "20000"], ["--damaged", "300", *FEW], (built("elfsize"), "readelf")),
     "sizes_of_symbols": Oracle(["--symbols", "--most", "400", "/usr/lib", "/usr/bin"], ["--symbols", "--most", "3", "/usr/lib/x86_64-linux-gnu"],
         (built("elfsize"), "nm"), script="sizes"),
-    "bindings": Oracle(PROGRAMS, TWO, (built("elfbind"), "llvm-readelf")),
+    "differences": Oracle([], ["--pairs", "3"], (built("elfsize"), "size", "readelf", "gcc")),
+    "bindings": Oracle(PROGRAMS, TWO, (built("elfbind"), built("elfload"), "llvm-readelf")),
     "loads": Oracle([*PROGRAMS, "--damaged", "4000"], [*TWO, "--damaged", "60"], (built("elfload"), "readelf", "llvm-readelf")),
     "memory": Oracle(PROGRAMS, TWO, (built("elfload"), "readelf", "llvm-readelf")),
     "memory_lazy": Oracle(["--lazy", "1", "--step", "8", *PROGRAMS], ["--lazy", "1", *TWO[:1]], (built("elfload"), "readelf", "llvm-readelf"), script="memory"),
-    "search": Oracle(["--trees", "4000", *SYSTEM], ["--trees", "40", *FEW]),
+    "search": Oracle(["--trees", "4000", *SYSTEM], ["--trees", "40", *FEW], (built("elftree"),)),
     "fuzz_bindings": Oracle(["--seed", "1", "--count", "2500"], ["--seed", "1", "--count", "100"], (built("elfbind"), built("elfsym"), "gcc")),
     "rust": Oracle([*FROM, "--damaged", "1", "--worked", "2000", "/usr/bin", "/usr/lib"], [*FROM, "--worked", "40", *LIBRARIES[:1]],
         (built("elfanswers"), "cargo"), ("oracle/build.sh", *CRATE)),
@@ -95,7 +95,7 @@ def write(name: str, said: str, command: str) -> None:
     PAGE.write_text(ROOM.sub(lambda _: held + "\n", text, count=1), encoding="utf-8")
 
 
-def main() -> int:
+if __name__ == "__main__":
     parser = argparse.ArgumentParser(description=__doc__, formatter_class=argparse.RawDescriptionHelpFormatter)
     parser.add_argument("--sample", action="store_true", help="over a few files")
     parser.add_argument("--write", action="store_true", help="write the counts into the page")
@@ -124,8 +124,4 @@ def main() -> int:
         elif given.write:
             write(name, said, " ".join("FOLDER" if it in CRATE else it for it in command))
     print(f"{len(failed)} comparisons failed" + (f": {', '.join(failed)}" if failed else ""))
-    return 1 if failed else 0
-
-
-if __name__ == "__main__":
-    sys.exit(main())
+    sys.exit(1 if failed else 0)

@@ -1,21 +1,22 @@
 #!/usr/bin/env python3
 """Compare what elfbind says of references with what the system's dynamic linker does.
 
-    tools/compare/bindings.py [--elfbind PATH] [--times N] FILE..
+    tools/compare/bindings.py [--elfbind PATH] [--elfload PATH] [--times N] FILE..
 
 elfbind is run on each dynamically linked program among the files and folders, with its libraries in the order in which the linker
-lists them; the linker binds all references, prints each (BINDINGS), and runs nothing. Another binding is a line with its cause:
+lists them; the linker binds all references, prints each (BINDINGS), and runs nothing. elfbind and elfload must end with the program
+alone, whose libraries they find, as with this list. Another binding is a line with its cause:
 `unique`, a symbol that glibc merges by name over the process, `ifunc`, or `unexplained`, which is a difference. --times N prints for
 the N programs with most bindings the least time of five runs of elfbind, and of the linker with and without binding.
 """
-import functools
 import os
 import re
 import sys
 import timeit
 from collections import defaultdict, namedtuple
 
-from comparing import INDIRECT, UNIQUE, Finished, Tally, dynamic_symbols, parser_of, read_elf, run
+from comparing import INDIRECT, UNIQUE, Finished, Tally, dynamic_symbols, parser_of, run
+from processes import linker_of, programs_in, real
 
 LISTED = re.compile(r"^\t(?:.* => )?(/.*) \(0x[0-9a-f]+\)$", re.M)
 BOUND = re.compile(r"^ *\d+:\tbinding file (.*) \[\d+\] to (.*) \[\d+\]: \w+ symbol `(.*)'(?: \[(.*)\])?$", re.M)
@@ -25,19 +26,11 @@ TRACE = {"LD_TRACE_LOADED_OBJECTS": "1"}
 BINDINGS = {**TRACE, "LD_DEBUG": "bindings", "LD_BIND_NOW": "1", "LD_WARN": "1"}
 
 Key = tuple[str, str, str]
-real = functools.lru_cache(maxsize=None)(os.path.realpath)
 
 # A program, the linker that it names, and its files in the order of the scope.
 Program = namedtuple("Program", "path linker files")
 # The files to which each name of a file with its version is bound, how many references are unresolved, and whether a symbol is missing.
 Bindings = namedtuple("Bindings", "bound unresolved missing")
-
-
-def linker_of(path: str) -> str | None:
-    """The linker that a dynamically linked program names, if the file is one."""
-    said = run(["readelf", "-lW", "--", path]).output if read_elf(path) else ""
-    found = re.search(r"\[Requesting program interpreter: (.*)\]$", said, re.M)
-    return found[1] if found and re.search(r"^  DYNAMIC ", said, re.M) else None
 
 
 def read_program(path: str) -> Program | None:
@@ -49,12 +42,6 @@ def read_program(path: str) -> Program | None:
     if listed.status != 0 or "not found" in listed.output:
         return None
     return Program(path, linker, [path, *LISTED.findall(listed.output)])
-
-
-def programs_in(paths: list[str]) -> list[str]:
-    """The dynamically linked programs among these and in the folders among these, each once."""
-    files = [[path] if not os.path.isdir(path) else sorted({real(it.path) for it in os.scandir(path) if it.is_file()}) for path in paths]
-    return [it for it in dict.fromkeys(real(it) for some in files for it in some) if linker_of(it)]
 
 
 def bound_in(program: Program, rows) -> dict[Key, set[str]]:
@@ -80,8 +67,11 @@ def read_linker(program: Program, said: Finished) -> Bindings:
     return Bindings(bound_in(program, BOUND.findall(text)), 0, "undefined symbol" in text or "symbol lookup error" in text)
 
 
-def compare(program: Program, elfbind: str, tally: Tally) -> int:
+def compare(program: Program, elfbind: str, elfload: str, tally: Tally) -> int:
     said = run([elfbind, *program.files])
+    for name, of_list in (elfbind, said), (elfload, run([elfload, *program.files])):
+        if run([name, program.path]) != of_list:
+            tally.fault(f"{program.path}: {name} ends otherwise with the libraries that it finds than with {program.files[1:]}")
     own = read_elfbind(program, said)
     if said.errors:
         tally.fault(f"{program.path}: {said.errors.strip()}")
@@ -117,11 +107,11 @@ def print_times(programs: list[tuple[int, Program]], elfbind: str) -> None:
 
 
 if __name__ == "__main__":
-    given = parser_of(__doc__, "elfbind", files="*", times=0).parse_args()
+    given = parser_of(__doc__, "elfbind", "elfload", files="*", times=0).parse_args()
     tally, most = Tally("elfbind", "programs", "programs left out", "bindings compared", "unresolved"), []
     for path in programs_in(given.files):
         if program := read_program(path):
-            most.append((compare(program, given.elfbind, tally), program))
+            most.append((compare(program, given.elfbind, given.elfload, tally), program))
         else:
             tally["programs left out"] += 1
             print(f"{path}: left out, since the linker does not load it")

@@ -12,6 +12,8 @@ import sys
 from collections import namedtuple
 from typing import Callable, Iterator
 
+from damage import Headers
+
 ROOT = pathlib.Path(__file__).resolve().parents[2]
 MAGIC = b"\x7fELF"
 
@@ -68,12 +70,13 @@ class Tally(collections.Counter):
         return 1 if self["differences"] else 0
 
 
-def run(command: list[str], seconds=600, **variables: str) -> Finished:
-    """Runs a command in the C locale, without what it would hand to a dynamic linker; ends the script where it can't be run."""
+def run(command: list[str], seconds=600, given=b"", **variables: str) -> Finished:
+    """Runs a command in the C locale, without what it would hand to a dynamic linker, and with these bytes on its standard input;
+    ends the script where it can't be run."""
     clean = {name: held for name, held in os.environ.items() if not name.startswith("LD_")}
     try:
         done = subprocess.run(
-            command, stdin=subprocess.DEVNULL, capture_output=True, env={**clean, "LC_ALL": "C", **variables}, timeout=seconds)
+            command, input=given, capture_output=True, env={**clean, "LC_ALL": "C", **variables}, timeout=seconds)
     except OSError as error:
         print(f"cannot run {command[0]}: {error.strerror}", file=sys.stderr)
         sys.exit(2)
@@ -148,6 +151,7 @@ def texts_of(path: str, *tags: str) -> list[str]:
     return re.findall(rf"\((?:{'|'.join(tags)})\) +[^\[]*\[(.*)\]$", run(["readelf", "-dW", "--", path]).output, re.M)
 
 
+@functools.lru_cache(maxsize=8)
 def nm(path: str) -> list[tuple]:
     """The value, the size, the letter of the type and the name of each symbol that has a value; those for dynamic linking of a
     stripped file."""
@@ -156,6 +160,20 @@ def nm(path: str) -> list[tuple]:
         if found := re.findall(r"^([0-9a-f]+)(?: ([0-9a-f]+))? (\S) (\S+)$", said, re.M):
             return [(int(value, 16), int(size or "0", 16), letter, name) for value, size, letter, name in found]
     return []
+
+
+def addr2line(path: str, addresses: list[int]) -> list[str]:
+    """The name of the function at each address, without its version."""
+    printed = run(["addr2line", "-f", "-e", path, *(f"{it:#x}" for it in addresses)]).output if addresses else ""
+    return [it.partition("@")[0] for it in printed.splitlines()[::2]]
+
+
+def is_other_name(path: str, symbol: tuple, name: str, address: int) -> bool:
+    """Whether a name of addr2line is none of what covers the address, or one of the same or an outer range than a symbol, which is
+    its value, size and name."""
+    value, size, own = symbol
+    covers = [(it[0], it[1]) for it in nm(path) if it[3].partition("@")[0] == name and it[0] <= address < it[0] + it[1]]
+    return own == name or not covers or (value, size) in covers or value >= max(covers)[0]
 
 
 def build_ids(path: str) -> list[str]:
@@ -183,7 +201,7 @@ def relocation_tables(path: str, *options: str) -> list[RelocationTable]:
             found[-1].packed.append(int(line, 16))
         elif row := re.match(r"([0-9a-f]{8,16}) +([0-9a-f]{8,16}) (\S+)(.*)$", line):
             digits, addend, text = len(row[1]), None, ""
-            # An addend stands last, after a sign where there is a symbol, and else as a number of the width of an address.
+            # An addend comes last, after a sign where there is a symbol, and else as a number of the width of an address.
             if found[-1].has_addends and (shown := re.search(r"(?:([+-]) |\s)(-?[0-9a-f]+)$", row[4])):
                 addend = int((shown[1] or "") + shown[2], 16)
                 text = ("-" if shown[1] == "-" and addend else "") + shown[2]
@@ -211,11 +229,10 @@ def spread(count: int, largest: int) -> list[pathlib.Path]:
 
 
 def stripped(content: bytes) -> bytes:
-    """The same file without section headers: e_shoff, e_shnum and e_shstrndx are 0."""
-    copy = bytearray(content)
-    for place, size in [(32, 4), (48, 4)] if copy[4] == 1 else [(40, 8), (60, 4)]:
-        copy[place : place + size] = bytes(size)
-    return bytes(copy)
+    """The same file without section headers."""
+    copy = Headers(bytearray(content))
+    copy.layout.fill(copy.content, 0, copy.layout.header, shoff=0, shnum=0, shstrndx=0)
+    return bytes(copy.content)
 
 
 def parser_of(doc: str | None, *programs: str, files: str = "", **numbers: int) -> argparse.ArgumentParser:

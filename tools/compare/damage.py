@@ -1,10 +1,12 @@
 """Small ELF files with everything that the library reads, and seeded damage of them.
 
 `worked(wide, order, hostile)` is such a file; `damaged(seed, index)` is one with some of its fields, names,
-tables and sizes changed, the same for the same two numbers; `mutated(data, random)` damages any ELF file.
+tables and sizes changed, the same for the same two numbers; `mutated(data, random)` damages any ELF file. `Headers(content)` reads the
+headers and the dynamic segment of a file.
 """
 import random as randoms
 import struct
+from collections import namedtuple
 
 EDGES_16 = (0, 1, 2, 3, 0x1f, 0x20, 0x27, 0x28, 0x37, 0x38, 0x3f, 0x40, 0x41, 0x7fff, 0x8000, 0xfeff, 0xff00, 0xfff1, 0xfffe, 0xffff)
 EDGES_32 = (0, 1, 2, 3, 4, 8, 12, 16, 24, 0x7fffffff, 0x80000000, 0xfffffffc, 0xffffffff)
@@ -21,7 +23,7 @@ SEGMENT_64 = "type I flags I offset Q vaddr Q paddr Q filesz Q memsz Q align Q"
 
 
 class Layout:
-    """Where the fields of one class and order stand."""
+    """Where the fields of one class and order are."""
 
     def __init__(self, wide: bool, order: str):
         self.wide, self.order, self.mark, self.address = wide, order, "<" if order == "little" else ">", "Q" if wide else "I"
@@ -61,6 +63,40 @@ class Layout:
         if self.wide:
             return struct.pack(self.mark + "IBBHQQ", name, info, other, index, value, 8)
         return struct.pack(self.mark + "IIIBBH", name, value, 8, info, other, index)
+
+
+# A program header, by the names of its fields.
+Segment = namedtuple("Segment", "type flags offset vaddr filesz memsz align")
+
+
+class Headers:
+    """The headers of a file of either class and order, by its own numbers."""
+
+    def __init__(self, content):
+        self.content = content
+        self.layout = Layout(content[4:5] == b"\2", "big" if content[5:6] == b"\2" else "little")
+
+    def header(self, name: str) -> int:
+        return self.layout.get(self.content, 0, self.layout.header[name])
+
+    def places(self, letters: str, most: int = 2**16) -> list:
+        """Where the section headers (`sh`) or the program headers (`ph`) are, as many as the ELF header says."""
+        start, size, count = (self.header(letters + it) for it in ("off", "entsize", "num"))
+        return [start + size * index for index in range(min(count, most))]
+
+    def of_section(self, place: int, name: str) -> int:
+        return self.layout.get(self.content, place, self.layout.section[name])
+
+    def program_headers(self) -> list:
+        get, fields = self.layout.get, self.layout.segment
+        return [Segment(*(get(self.content, place, fields[it]) for it in Segment._fields)) for place in self.places("ph")]
+
+    def dynamic(self) -> list:
+        """The place, the tag and the value of each entry of the dynamic segment, if there is one."""
+        segment = next((it for it in self.program_headers() if it.type == 2), None)
+        held, form = self.content[segment.offset :][: segment.filesz] if segment else b"", self.layout.mark + 2 * self.layout.address
+        size = struct.calcsize(form)
+        return [(segment.offset + at, *struct.unpack_from(form, held, at)) for at in range(0, len(held) - size + 1, size)]
 
 
 def hash_number(name: bytes) -> int:
@@ -190,15 +226,13 @@ def elf_file(contents, segments=()):
     return bytes(data)
 
 
-class Damage:
+class Damage(Headers):
     """One way to damage an ELF file a call."""
 
     def __init__(self, data: bytes, random: randoms.Random):
-        self.data, self.random, self.pick = bytearray(data), random, random.choice
-        self.layout = Layout(len(data) > 4 and data[4] == 2, "big" if len(data) > 5 and data[5] == 2 else "little")
-        read = lambda name: self.layout.get(self.data, 0, self.layout.header[name])
-        self.sections = [read("shoff") + k * read("shentsize") for k in range(min(read("shnum"), 200))]
-        self.segments = [read("phoff") + k * read("phentsize") for k in range(min(read("phnum"), 40))]
+        super().__init__(bytearray(data))
+        self.data, self.random, self.pick = self.content, random, random.choice
+        self.sections, self.segments = self.places("sh", 200), self.places("ph", 40)
 
     def edge(self, letter: str) -> int:
         """A number at an edge of its field, of the file, or any."""
@@ -221,9 +255,6 @@ class Damage:
     def segment_header(self):
         if self.segments:
             self.set_field(self.pick(self.segments), self.layout.segment)
-
-    def of_section(self, base: int, name: str) -> int:
-        return self.layout.get(self.data, base, self.layout.section[name])
 
     def put_in(self, base: int, **values: int):
         """Changes fields of a section header."""
@@ -291,8 +322,7 @@ class Damage:
         elif which == 1:
             self.put_in(first, info=self.pick((len(self.segments), self.edge("I"))))
         else:
-            index = self.layout.get(self.data, 0, self.layout.header["shstrndx"])
-            self.put_in(first, link=self.pick((index, self.edge("I"))))
+            self.put_in(first, link=self.pick((self.header("shstrndx"), self.edge("I"))))
         self.layout.fill(self.data, 0, self.layout.header, **({"shnum": 0}, {"phnum": 0xffff}, {"shstrndx": 0xffff})[which])
 
     def bytes(self):
@@ -312,28 +342,30 @@ class Damage:
     IN_PLACE = (links, hash_table, hash_table, notes, names, cut)
 
 
-def lost(data: bytes, symbols: int = 2):
-    """Fifty copies of a file of which symbols can't be listed, with what is lost at its place, so that a reader can say so: cut off in
-    front of the end of the section headers, or with headers that are wrong. `symbols` is the type of a section of symbols."""
-    whole = Damage(data, randoms.Random(0))
-    end = whole.sections[-1] + whole.layout.section_size
-    for index in range(25):
-        yield data[: 64 + index * (end - 1 - 64) // 24]
-    table = next(it for it in whole.sections if whole.of_section(it, "type") == symbols)
-    names = whole.sections[whole.of_section(table, "link")]
-    fields = [(table, "offset", value) for value in (len(data), 2**40, 2**64 - 1, len(data) - 8)]
-    fields += [(table, "size", value) for value in (2**40, 2**64 - 1, whole.of_section(table, "size") - 1, len(data))]
-    fields += [(table, "link", value) for value in (len(whole.sections), 2**31, 2**32 - 1)]
-    fields += [(names, "offset", value) for value in (len(data), 2**40, 2**64 - 1)] + [(names, "size", value) for value in (2**40, 2**64 - 1, 2, 9)]
-    for base, name, value in fields:
-        copy = Damage(data, randoms.Random(0))
-        copy.put_in(base, **{name: value})
-        yield bytes(copy.data)
-    heads = [("shoff", len(data)), ("shoff", 2**40), ("shoff", end - 8), ("shentsize", 1), ("shentsize", 0x7fff), ("shnum", 0x7fff), ("shnum", len(whole.sections) + 1)]
-    for name, value in heads:
-        copy = bytearray(data)
-        whole.layout.fill(copy, 0, whole.layout.header, **{name: value})
-        yield bytes(copy[:end])
+def missing(data: bytes, seed: int, count: int = 50):
+    """Copies of a file of which parts are missing, so that a reader of these parts can say so: cut off, or with headers that name bytes
+    past the end, more headers than there are, or addresses of no segment. The same for the same seed."""
+    random = randoms.Random(f"{seed} missing")
+    whole = Damage(data, random)
+    layout = whole.layout
+    end = whole.sections[-1] + layout.section_size
+    kept = lambda bases, fields, types: [it for it in bases if layout.get(data, it, fields["type"]) in types]
+    tables = kept(whole.sections, layout.section, (2, 3, 4, 5, 6, 7, 9, 11, 19, 0x6ffffff6, 0x6ffffffd, 0x6ffffffe, 0x6fffffff))
+    parts = kept(whole.segments, layout.segment, (1, 2, 4))
+    past = lambda: random.choice((len(data), 2**40, 2**63, 2**64 - 1))
+    for index in range(count):
+        copy, which = bytearray(data), index % 5
+        if which == 0:
+            del copy[random.randrange(64, end) :]
+        elif which == 1:
+            name, value = random.choice((("shoff", past()), ("shnum", 0x7fff), ("shentsize", 1), ("phoff", past()), ("phnum", 0x7fff), ("phentsize", 1)))
+            layout.fill(copy, 0, layout.header, **{name: value})
+        elif which == 2:
+            layout.fill(copy, random.choice(parts), layout.segment, **{random.choice(("offset", "filesz", "vaddr")): past()})
+        else:
+            name = random.choice(("offset", "size", "link"))
+            layout.fill(copy, random.choice(tables), layout.section, **{name: len(whole.sections) + random.randrange(9) if name == "link" else past()})
+        yield bytes(copy)
 
 
 def mutated(data: bytes, random: randoms.Random, ways=Damage.ALL) -> bytes:

@@ -41,7 +41,7 @@ def queries_of(path: str) -> tuple[list[tuple[str, str | None, str]], int]:
 
 
 def verdict(symbol, loaded: str) -> str:
-    """What the two answers are beside each other: `same`, `different`, or why they aren't compared."""
+    """What the two results are beside each other: `same`, `different`, or why they aren't compared."""
     place, _, numbers = loaded.partition(" ")
     if symbol is None:
         return "same" if place == "none" else "elsewhere" if place in ("elsewhere", "nowhere") else "different"

@@ -118,7 +118,7 @@ class Fuzzing:
         self.files += len(held)
 
 
-def main() -> int:
+if __name__ == "__main__":
     options = parser_of(__doc__, seed=1, count=500).parse_args()
     resource.setrlimit(resource.RLIMIT_AS, (ROOM, ROOM))
     began = time.monotonic()
@@ -128,7 +128,7 @@ def main() -> int:
             sys.exit("no program is built: run `rt run` in crates/elfinfo and crates/elfanswers first")
         for name, data in long_files():
             fuzzing.files_at_once([(name, data)])
-        # A check that walks along the chain for each name would take minutes.
+        # A check that follows the chain for each name would take minutes.
         pathlib.Path(room, "shared").write_bytes(hash_file(200_000, 200_000))
         fuzzing.check("elfinfo", ["200,000 buckets that share one chain of 200,000 names"], [f"{room}/shared"])
         for some in (range(options.count)[at : at + AT_ONCE] for at in range(0, options.count, AT_ONCE)):
@@ -139,8 +139,4 @@ def main() -> int:
         print(f"{program}: {count} files in runs that ended with {status}")
     for program, (worst, name) in fuzzing.slowest.items():
         print(f"{program}: at most {worst:.2f} s for one run: {name}")
-    return 1 if fuzzing.faults else 0
-
-
-if __name__ == "__main__":
-    sys.exit(main())
+    sys.exit(1 if fuzzing.faults else 0)

@@ -17,7 +17,8 @@ from pathlib import Path
 from typing import Callable, Iterable
 
 from bindings import BINDINGS, Program, read_elfbind, read_linker
-from comparing import INDIRECT, ROOT, THREAD, UNIQUE, Tally, parser_of, run
+from comparing import INDIRECT, LOAD, ROOT, THREAD, UNIQUE, Tally, parser_of, run
+from damage import Headers
 from loading import asked
 
 DATA = ROOT / "crates"
@@ -38,26 +39,29 @@ COMPILED = (
 )
 
 # The flag DF_SYMBOLIC of the entry DT_FLAGS.
-SYMBOLIC = 2
+FLAGS, SYMBOLIC = 30, 2
+VERSYM, VERDEF, VERDEFNUM, VERNEED, VERNEEDNUM = 0x6FFFFFF0, 0x6FFFFFFC, 0x6FFFFFFD, 0x6FFFFFFE, 0x6FFFFFFF
 
-# A number at a place of a file, by its format, and what it becomes.
-Change = namedtuple("Change", "what place form number")
+# A tag that the linker doesn't read.
+UNREAD = 0x6FFFFEF0
+
+# A number at a place of a file, its size in bytes, and what it becomes.
+Change = namedtuple("Change", "what place size number")
 
 
-class Object:
+class Object(Headers):
     """The dynamic parts of a little-endian file of class 64, by their places."""
 
     def __init__(self, content: bytes) -> None:
-        self.content = content
-        table, = self.fields("Q", 32)
-        self.parts = [self.fields("IIQQQQ", table + 56 * index) for index in range(*self.fields("H", 56))]
-        dynamic = next(offset for kind, _, offset, *_ in self.parts if kind == 2)
-        self.entries: dict[int, tuple[int, int]] = {}
-        for place in range(dynamic, len(content) - 15, 16):
-            tag, number = self.fields("QQ", place)
-            if tag == 0:
-                break
-            self.entries.setdefault(tag, (number, place + 8))
+        super().__init__(content)
+        self.loads = [it for it in self.program_headers() if it.type == LOAD]
+        entries = self.dynamic()
+        end = next((index for index, (_, tag, _) in enumerate(entries) if tag == 0), len(entries))
+        # The number of the last entry of each tag, and its place.
+        self.entries = {tag: (number, place + 8) for place, tag, number in entries[:end]}
+        # GNU ld leaves room for entries behind those of a file.
+        spare = [place for place, *numbers in entries[end : end + 2] if numbers == [0, 0]]
+        self.spare = spare[0] if len(spare) == 2 else 0
         self.strings, self.symbols = self.offset(5), self.offset(6)
         # GNU ld puts the strings behind the symbols.
         self.count = (self.strings - self.symbols) // 24
@@ -71,8 +75,7 @@ class Object:
     def offset(self, tag: int) -> int:
         """The offset in the file of the address that an entry has, or 0."""
         address = self.entries.get(tag, (0, 0))[0]
-        loads = [(offset, start) for kind, _, offset, start, _, size in self.parts if kind == 1 and start <= address < start + size]
-        return loads[0][0] + address - loads[0][1] if loads else 0
+        return next((it.offset + address - it.vaddr for it in self.loads if it.vaddr <= address < it.vaddr + it.filesz), 0)
 
     def text(self, name: int) -> str:
         place = self.strings + name
@@ -96,16 +99,19 @@ class Object:
 
     def definitions(self) -> list[tuple[int, int]]:
         """The places of the definitions of versions, and of the first name of each."""
-        return [(it, it + self.number(it + 12)) for it in self.chain(self.offset(0x6FFFFFFC), 16)]
+        return [(it, it + self.number(it + 12)) for it in self.chain(self.offset(VERDEF), 16)]
 
     def needs(self) -> list[int]:
         """The places of the parts of the needs of versions."""
-        found = self.chain(self.offset(0x6FFFFFFE), 12)
-        return [part for it in found for part in self.chain(it + self.number(it + 8), 12, self.number(it + 2, "H"))]
+        return [part for it in self.needed_files() for part in self.chain(it + self.number(it + 8), 12)]
+
+    def needed_files(self) -> list[int]:
+        """The places of the needs of versions, of which each names a file."""
+        return self.chain(self.offset(VERNEED), 12)
 
     def numbers(self) -> tuple[set[int], set[int]]:
         """The numbers of versions that symbols have, and those that definitions and needs have, their low 15 bits."""
-        table = self.offset(0x6FFFFFF0)
+        table = self.offset(VERSYM)
         used = {self.number(table + 2 * i, "H") & 0x7FFF for i in range(self.count)} if table else set()
         places = [place + 4 for place, _ in self.definitions()] + [place + 6 for place in self.needs()]
         return used, {self.number(place, "H") & 0x7FFF for place in places}
@@ -114,6 +120,9 @@ class Object:
         """Whether the linker's own table of versions, which has a place for each number, has all versions of the file: no two
         definitions or needs have one number, only the base has number 1, and no symbol has a greater number than all of them."""
         used, known = self.numbers()
+        if not known:
+            # Without definitions and needs it has no versions.
+            return True
         places = [place + 4 for place, _ in self.definitions() if not self.number(place + 2, "H") & 1] + [place + 6 for place in self.needs()]
         numbers = [self.number(place, "H") & 0x7FFF for place in places]
         return len(set(numbers)) == len(numbers) and min(numbers, default=2) >= 2 and max(used, default=0) <= max(known, default=1)
@@ -124,19 +133,19 @@ def change_of_symbol(held: Object, chance: random.Random, kinds: list[int]) -> C
     name, info, other, _, value = held.symbol(index)
     place = held.symbols + 24 * index
     what = chance.choice(("type", "binding", "visibility", "section", "value"))
-    at, form, number = {
-        "type": lambda: (4, "<B", info // 16 * 16 + chance.choice(kinds)),
-        "binding": lambda: (4, "<B", chance.choice((0, 1, 2, 3, 10, 13)) * 16 + info % 16),
-        "visibility": lambda: (5, "<B", other // 4 * 4 + chance.randrange(4)),
-        "section": lambda: (6, "<H", chance.choice((0, 1, 5, 0xFFF1, 0xFFF2))),
-        "value": lambda: (8, "<Q", chance.choice((0, value, value + 4))),
+    at, size, number = {
+        "type": lambda: (4, 1, info // 16 * 16 + chance.choice(kinds)),
+        "binding": lambda: (4, 1, chance.choice((0, 1, 2, 3, 10, 13)) * 16 + info % 16),
+        "visibility": lambda: (5, 1, other // 4 * 4 + chance.randrange(4)),
+        "section": lambda: (6, 2, chance.choice((0, 1, 5, 0xFFF1, 0xFFF2))),
+        "value": lambda: (8, 8, chance.choice((0, value, value + 4))),
     }[what]()
-    return Change(f"{what} of {name}", place + at, form, number)
+    return Change(f"{what} of {name}", place + at, size, number)
 
 
 def change_of_version(held: Object, chance: random.Random) -> Change:
     """A change of the version tables, or of a symbol's number."""
-    table = held.offset(0x6FFFFFF0)
+    table = held.offset(VERSYM)
     _, known = held.numbers()
     known = sorted(known | {0, 1})
     what = chance.randrange(4)
@@ -144,30 +153,48 @@ def change_of_version(held: Object, chance: random.Random) -> Change:
     if what < 2 or not (definitions or needs):
         index = chance.randrange(1, held.count)
         number = chance.choice(known) | chance.choice((0, 0x8000))
-        return Change(f"version number of {held.symbol(index)[0]}", table + 2 * index, "<H", number)
+        return Change(f"version number of {held.symbol(index)[0]}", table + 2 * index, 2, number)
     hashes = [held.number(place) for place in [*(place + 8 for place, _ in definitions), *needs]]
     names = [held.number(place) for place in [*(aux for _, aux in definitions), *(place + 8 for place in needs)]]
     number = chance.choice(known[1:]) | chance.choice((0, 0x8000))
     if definitions and (what == 2 or not needs):
         place, aux = chance.choice(definitions)
         return chance.choice((
-            Change("flags of a definition", place + 2, "<H", chance.randrange(4)), Change("number of a definition", place + 4, "<H", number),
-            Change("hash of a definition", place + 8, "<I", chance.choice([*hashes, 0, 1])),
-            Change("name of a definition", aux, "<I", chance.choice(names)),
+            Change("flags of a definition", place + 2, 2, chance.randrange(4)), Change("number of a definition", place + 4, 2, number),
+            Change("hash of a definition", place + 8, 4, chance.choice([*hashes, 0, 1])),
+            Change("name of a definition", aux, 4, chance.choice(names)),
         ))
     place = chance.choice(needs)
     return chance.choice((
-        Change("hash of a need", place, "<I", chance.choice([*hashes, 0, 1])), Change("flags of a need", place + 4, "<H", chance.randrange(4)),
-        Change("number of a need", place + 6, "<H", number), Change("name of a need", place + 8, "<I", chance.choice(names)),
+        Change("hash of a need", place, 4, chance.choice([*hashes, 0, 1])), Change("flags of a need", place + 4, 2, chance.randrange(4)),
+        Change("number of a need", place + 6, 2, number), Change("name of a need", place + 8, 4, chance.choice(names)),
     ))
+
+
+def change_of_list(held: Object, chance: random.Random) -> Change | None:
+    """A change of the number of records of a list, of its end or its begin, or of the flags, by a further entry."""
+    counts = [Change(f"number in {tag:#x}", held.entries[tag][1], 8, chance.choice((0, 1, 9))) for tag in (VERDEFNUM, VERNEEDNUM) if tag in held.entries]
+    counts += [Change("number of parts", place + 2, 2, chance.choice((0, 1, 9))) for place in held.needed_files()]
+    lists = [(place + 16, held.number(place + 16)) for place, _ in held.definitions()]
+    lists += [(place + 12, held.number(place + 12)) for place in (*held.needed_files(), *held.needs())]
+    ends = [Change("next", place, 4, 0) for place, offset in lists if offset]
+    firsts = [(VERDEF, [place for place, _ in held.definitions()]), (VERNEED, held.needed_files())]
+    later = [(tag, held.entries[tag][0] + places[1] - places[0]) for tag, places in firsts if places[1:]]
+    further = [*later, (FLAGS, held.entries.get(FLAGS, (0, 0))[0] ^ SYMBOLIC)]
+    doubled = [Change(f"further entry {tag:#x}", held.spare, 16, tag | number << 64) for tag, number in further if held.spare]
+    unread = [Change(f"no entry {tag:#x}", held.entries[tag][1] - 8, 8, UNREAD) for tag in (VERDEF, VERNEED) if tag in held.entries]
+    kinds = [it for it in (counts, ends, doubled, unread) if it]
+    return chance.choice(chance.choice(kinds)) if kinds else None
 
 
 def change_of(held: Object, chance: random.Random, kinds: list[int]) -> Change:
     what = chance.random()
-    if what < 0.1 and 30 in held.entries:
-        number, place = held.entries[30]
-        return Change("flag DF_SYMBOLIC", place, "<Q", number ^ SYMBOLIC)
-    return change_of_version(held, chance) if what < 0.5 and held.offset(0x6FFFFFF0) else change_of_symbol(held, chance, kinds)
+    if what < 0.1 and FLAGS in held.entries:
+        number, place = held.entries[FLAGS]
+        return Change("flag DF_SYMBOLIC", place, 8, number ^ SYMBOLIC)
+    if what < 0.3 and (found := change_of_list(held, chance)):
+        return found
+    return change_of_version(held, chance) if what < 0.6 and held.offset(VERSYM) else change_of_symbol(held, chance, kinds)
 
 
 def changed(content: bytes, chance: random.Random, kinds: list[int]) -> tuple[bytes, str]:
@@ -176,7 +203,7 @@ def changed(content: bytes, chance: random.Random, kinds: list[int]) -> tuple[by
         copy, changes = bytearray(content), []
         for _ in range(chance.randint(1, 3)):
             change = change_of(Object(bytes(copy)), chance, kinds)
-            struct.pack_into(change.form, copy, change.place, change.number)
+            copy[change.place : change.place + change.size] = change.number.to_bytes(change.size, "little")
             changes.append(change)
         if bytes(copy) != content and Object(bytes(copy)).has_room():
             return bytes(copy), ", ".join(f"{it.what} {it.number:#x}" for it in changes)
@@ -197,7 +224,7 @@ class Comparison(namedtuple("Comparison", "elfbind elfsym room tally")):
         program = Program(paths[0], LINKER, paths)
         said = run([self.elfbind, *paths])
         if said.errors:
-            self.tally["refused by elfbind"] += 1
+            self.tally["errors of elfbind"] += 1
             return
         linked = run([LINKER, paths[0]], **BINDINGS, LD_LIBRARY_PATH=self.room)
         own, reads = read_elfbind(program, said), read_linker(program, linked)
@@ -230,7 +257,7 @@ class Comparison(namedtuple("Comparison", "elfbind elfsym room tally")):
             return
         said = run([self.elfsym, str(copy), *(name + (f"@{version}" if version else "") for name, version in queries)])
         if said.errors:
-            self.tally["refused by elfsym"] += 1
+            self.tally["errors of elfsym"] += 1
             return
         unique, threads = unique_names([content]), held.names_with(lambda info: info % 16 == THREAD)
         for (name, version), line, other in zip(queries, said.output.split("\n"), loaded):

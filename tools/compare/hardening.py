@@ -17,9 +17,6 @@ import tempfile
 
 from comparing import ABOUT, ROOT, Tally, files_of, parser_of, read_elf, run
 
-sys.path.insert(0, str(ROOT / "bindings/python"))
-from xmas_elf import hardening_row  # noqa: E402
-
 LIBC = "/lib/x86_64-linux-gnu/libc.so.6"
 FEATURES = {"ibt": "IBT", "shstk": "SHSTK", "bti": "BTI", "pac": "PAC"}
 
@@ -70,6 +67,10 @@ def processor_seconds(of: int) -> float:
 
 
 if __name__ == "__main__":
+    # Who asks for checksec's words alone needs no package.
+    sys.path.insert(0, str(ROOT / "bindings/python"))
+    from xmas_elf import hardening_row
+
     given, tally = parser_of((__doc__ or "") + ABOUT, files="+").parse_args(), Tally("the package", "files", "words")
     paths = [it for it in files_of(given.files) if read_elf(it)]
     with concurrent.futures.ThreadPoolExecutor() as pool:

@@ -3,9 +3,9 @@
     asked("/usr/lib/x86_64-linux-gnu/libm.so.6", [("exp", "GLIBC_2.29"), ("exp", None)])
     named("/usr/lib/x86_64-linux-gnu/libm.so.6", [0x10000])
 
-`asked` calls dlsym and dlvsym. For each name the answer is `none`, or where it is found (`here`, `elsewhere` in another
+`asked` calls dlsym and dlvsym. For each name the result is `none`, or where it is found (`here`, `elsewhere` in another
 library, or `nowhere`), its offset in the library, and its address. `named` calls dladdr. For each address of the file the
-answer is a name with an offset, `none`, or `outside` where the address is in no or in another library. Of a library that can't
+result is a name with an offset, `none`, or `outside` where the address is in no or in another library. Of a library that can't
 be loaded, or whose process doesn't end by itself, both are None.
 """
 import ctypes
@@ -66,7 +66,7 @@ class Library:
         is_known = self.libc.dladdr1(ctypes.c_void_p(address), ctypes.byref(info), ctypes.byref(other), LINK_MAP)
         return info, "nowhere" if not is_known else "here" if other.value == self.map else "elsewhere"
 
-    def answer(self, line: bytes) -> bytes:
+    def line_of(self, line: bytes) -> bytes:
         name, is_name, version = line.partition(b" ")
         if not is_name:
             address = self.start + int(name, 16)
@@ -79,10 +79,10 @@ class Library:
         return b"%s %x %x" % (self.at(address)[1].encode(), (address - self.start) % 2**64, address)
 
 
-def answers(path: str) -> Iterator[bytes]:
-    """Loads a library, and answers the lines of the standard input."""
+def lines_of(path: str) -> Iterator[bytes]:
+    """Loads a library, and writes a line for each of the standard input."""
     library = Library(path)
-    yield from map(library.answer, sys.stdin.buffer.read().split(b"\n")[:-1])
+    yield from map(library.line_of, sys.stdin.buffer.read().split(b"\n")[:-1])
     yield b"end"
 
 
@@ -91,6 +91,6 @@ if __name__ == "__main__":
     output = os.fdopen(os.dup(1), "wb")
     os.dup2(os.open(os.devnull, os.O_WRONLY), 1)
     resource.setrlimit(resource.RLIMIT_CORE, (0, 0))
-    output.writelines(it + b"\n" for it in answers(sys.argv[1]))
+    output.writelines(it + b"\n" for it in lines_of(sys.argv[1]))
     output.flush()
     os._exit(0)

@@ -26,9 +26,10 @@ from collections import namedtuple
 from pathlib import Path
 from typing import Dict, Iterator, List, Optional, Set, Tuple
 
-from bindings import linker_of, programs_in, real
 from comparing import Finished, Tally, parser_of, read_elf, run
-from processes import PAGE, Mapping, Stopped, can_trace, content_of, linker_in, mapping_of, to_debug_state
+from processes import (
+    PAGE, Mapping, Stopped, can_trace, content_of, linker_in, linker_of, mapping_of, programs_in, real,
+    to_debug_state)
 
 LONGEST = 2.0
 LINE = re.compile(r"^([0-9a-f]+)-([0-9a-f]+) (...)p ([0-9a-f]+) (file|zero|none)$")
@@ -65,7 +66,7 @@ def plan_of(text: str) -> Plan:
 
 def said_of(elfload: str, path: str) -> Tuple[Finished, Optional[Plan]]:
     """How a run of elfload ended, and the plan if it printed one."""
-    done = run([elfload, path])
+    done = run([elfload, "--alone", path])
     return done, plan_of(done.output) if done.status == 0 else None
 
 
@@ -79,7 +80,7 @@ class Plans(Tally):
         self.compared: Set[Tuple[str, str]] = set()
 
     def plan(self, path: str) -> Optional[Plan]:
-        """The plan of a file; one that is refused is a difference."""
+        """The plan of a file; one with an error is a difference."""
         if path not in self.plans:
             said, self.plans[path] = said_of(self.program, path)
             if said.status != 0:
@@ -288,11 +289,11 @@ def try_damaged(files: Dict[str, str], program: str, copies: int, seed: int, tal
     print(f"damaged copies: {longest:.2f} s at most")
 
 
-def main() -> int:
+if __name__ == "__main__":
     given = parser_of(__doc__, "elfload", files="*", damaged=0, seed=1).parse_args()
     if not can_trace():
         print("0 programs, 0 differences: processes can't be traced here")
-        return 0
+        sys.exit(0)
     tally, programs = Plans(given.elfload), programs_in(given.files)
     for path in programs:
         compare(path, tally)
@@ -300,8 +301,4 @@ def main() -> int:
         program = min(programs, key=os.path.getsize)
         libraries = [it for it in tally.plans if ".so" in os.path.basename(it) and real(linker_of(program) or "") != it]
         try_damaged({"kernel": program, "glibc": min(libraries, key=os.path.getsize)}, program, given.damaged, given.seed, tally)
-    return tally.ended()
-
-
-if __name__ == "__main__":
-    sys.exit(main())
+    sys.exit(tally.ended())

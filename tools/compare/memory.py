@@ -18,10 +18,11 @@ import sys
 from collections import namedtuple
 from typing import Dict, Iterator, List, Optional, Set, Tuple
 
-import damage
-from bindings import linker_of, programs_in, real
 from comparing import LOAD, UNIQUE, Tally, dynamic_symbols, parser_of, run
-from processes import PAGE, Emulated, Stopped, can_emulate, can_trace, content_of, is_narrow, linker_in, to_debug_state, value_of
+from damage import Headers, Segment
+from processes import (
+    PAGE, Emulated, Stopped, can_emulate, can_trace, content_of, is_narrow, linker_in, linker_of, programs_in,
+    real, to_debug_state, value_of)
 
 WORD = re.compile(r"word 0x([0-9a-f]+) (\d+) (\w+) = (.*)")
 NUMBER = re.compile(r"(?:(base|thread)\((\d+)\) \+ )?0x([0-9a-f]+)(?: - (base|thread)\((\d+)\))?")
@@ -40,8 +41,6 @@ AARCH64, BLOCK = 183, 16
 # The folders of libraries of 386.
 LIBRARIES = ("lib/i386-linux-gnu", "usr/lib/i386-linux-gnu")
 
-# A program header, by the names of its fields in damage.py.
-Segment = namedtuple("Segment", "type flags offset vaddr filesz memsz align")
 # A file in a process: its path, its base, and whether Linux has mapped it.
 File = namedtuple("File", "path base is_by_kernel")
 # A word that elfload prints.
@@ -50,10 +49,6 @@ Word = namedtuple("Word", "address width kind value")
 Storage = namedtuple("Storage", "index size align first")
 # A process that is stopped where relocation is done, and the words of its files if all slots get their symbols at once.
 Process = namedtuple("Process", "program process files linker numbers at_once")
-
-
-def layout_of(path: str) -> damage.Layout:
-    return damage.Layout(not is_narrow(path), "little")
 
 
 def address_size(path: str) -> int:
@@ -66,10 +61,7 @@ def is_aarch64(path: str) -> bool:
 
 @functools.lru_cache(maxsize=None)
 def segments_of(path: str) -> Tuple[Segment, ...]:
-    content, layout = content_of(path), layout_of(path)
-    start, count = (layout.get(content, 0, layout.header[name]) for name in ("phoff", "phnum"))
-    places = (start + layout.segment_size * index for index in range(count))
-    return tuple(Segment(*(layout.get(content, place, layout.segment[name]) for name in Segment._fields)) for place in places)
+    return tuple(Headers(content_of(path)).program_headers())
 
 
 def last_of(path: str, kind: int) -> Optional[Segment]:
@@ -79,9 +71,7 @@ def last_of(path: str, kind: int) -> Optional[Segment]:
 @functools.lru_cache(maxsize=None)
 def entries_of(path: str) -> Tuple[Tuple[int, int], ...]:
     """The tags and values of the dynamic segment."""
-    segment = last_of(path, DYNAMIC)
-    held = content_of(path)[segment.offset :][: segment.filesz] if segment else b""
-    return tuple(struct.iter_unpack("<" + 2 * layout_of(path).address, held))
+    return tuple((tag, value) for _, tag, value in Headers(content_of(path)).dynamic())
 
 
 def down(address: int) -> int:
@@ -216,7 +206,7 @@ def to_relocated(process: Stopped, program: str) -> Optional[Tuple[str, int]]:
 
 def files_of(process: Stopped, program: str, linker: str, base: int) -> Iterator[File]:
     """The files in the linker's list (`struct link_map`)."""
-    form, size = layout_of(linker).address, address_size(linker)
+    form, size = "I" if is_narrow(linker) else "Q", address_size(linker)
     (at,) = struct.unpack(f"<{form}", process.memory(base + value_of(linker, "_r_debug") + size, size))
     while at:
         moved, name, _, at = struct.unpack(f"<4{form}", process.memory(at, 4 * size))
@@ -347,13 +337,13 @@ def compare(program: str, root: Root, is_lazy: bool, compared: Set[Tuple[str, in
         process.end()
 
 
-def main() -> int:
+if __name__ == "__main__":
     parser = parser_of(__doc__, "elfload", files="+", lazy=0, step=1)
     parser.add_argument("--root", default="", metavar="FOLDER")
     given = parser.parse_args()
     if not can_trace():
         print("0 programs, 0 differences: no process can be stopped by ptrace here")
-        return 0
+        sys.exit(0)
     root = Root(given.root and real(given.root))
     tally = Tally(given.elfload, "programs", "programs not loaded", "files", "words", "words equal", "words without a number", "bytes")
     compared: Set[Tuple[str, int]] = set()
@@ -362,8 +352,4 @@ def main() -> int:
             tally["left for want of an emulator"] += 1
         else:
             compare(program, root, bool(given.lazy), compared, tally)
-    return tally.ended()
-
-
-if __name__ == "__main__":
-    sys.exit(main())
+    sys.exit(tally.ended())

@@ -25,9 +25,10 @@ from collections import namedtuple
 from pathlib import Path
 from typing import List, Optional, Tuple
 
-from comparing import UNDEFINED, dynamic_symbols
+from comparing import UNDEFINED, dynamic_symbols, read_elf, run
 
 PAGE = 4096
+real = functools.lru_cache(maxsize=None)(os.path.realpath)
 MAPPED = re.compile(r"^([0-9a-f]+)-([0-9a-f]+) (...). ([0-9a-f]+) \S+ \d+ *(.*)$")
 
 # Requests of ptrace, and the call mprotect of x86-64 and of 386 with PROT_READ.
@@ -56,6 +57,19 @@ def is_narrow(path: str) -> bool:
     """Whether a file is of class 32."""
     with open(path, "rb") as file:
         return file.read(5)[4:] == b"\x01"
+
+
+def linker_of(path: str) -> Optional[str]:
+    """The linker that a dynamically linked program names, if the file is one."""
+    said = run(["readelf", "-lW", "--", path]).output if read_elf(path) else ""
+    found = re.search(r"\[Requesting program interpreter: (.*)\]$", said, re.M)
+    return found[1] if found and re.search(r"^  DYNAMIC ", said, re.M) else None
+
+
+def programs_in(paths: List[str]) -> List[str]:
+    """The dynamically linked programs among these and in the folders among these, each once."""
+    files = [[path] if not os.path.isdir(path) else sorted({real(it.path) for it in os.scandir(path) if it.is_file()}) for path in paths]
+    return [it for it in dict.fromkeys(real(it) for some in files for it in some) if linker_of(it)]
 
 
 class Stopped:
@@ -184,9 +198,9 @@ def can_trace() -> bool:
 
 
 EMULATOR = "qemu-aarch64"
-# The stub's answers: a breakpoint is set or deleted; the process has stopped by the signal SIGTRAP.
+# What the stub says: a breakpoint is set or deleted; the process has stopped by the signal SIGTRAP.
 DONE, STOPPED = "OK", f"T{signal.SIGTRAP:02x}"
-# How long the stub may take to be there, and to answer.
+# How long the stub may take to be there, and to reply.
 SECONDS = 60.0
 
 
@@ -216,7 +230,7 @@ class Emulated(Stopped):
         return self.process.poll() is None
 
     def ask(self, text: str) -> str:
-        """What the stub answers to a packet: `$text#sum`, which it confirms by `+`. Empty where it has ended."""
+        """What the stub replies to a packet: `$text#sum`, which it confirms by `+`. Empty where it has ended."""
         try:
             self.stub.sendall(b"$%s#%02x" % (text.encode(), sum(text.encode()) % 256))
             while b"#" not in self.left or len(self.left) < self.left.index(b"#") + 3:

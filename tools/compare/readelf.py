@@ -5,8 +5,8 @@
     readelf.sections("/usr/bin/ls")                  for bindings/web/tests: rows in the form in which the page has them
 
 The numbers of the ELF header, the name and type of each section, and the type of each segment are written as elfinfo must print them.
-What elfinfo refuses by design is counted as an expected error. Its own checks aren't compared. With extended numbering the fields of
-the ELF header are compared as they stand there, and the lists go by section 0.
+What is an error of elfinfo by design is counted as an expected error. Its own checks aren't compared. With extended numbering the fields of
+the ELF header are compared as they are there, and the lists go by section 0.
 """
 import re
 import sys
@@ -140,10 +140,10 @@ SECTIONS = {
     11: "DynSym", 14: "InitArray", 15: "FiniArray", 16: "PreInitArray", 17: "Group", 18: "SymTabShIndex"}
 SEGMENTS = {0: "Null", 1: "Load", 2: "Dynamic", 3: "Interp", 4: "Note", 5: "ShLib", 6: "Phdr", 7: "Tls", 0x6474E552: "GnuRelro"}
 
-# The words for types with a number: their first numbers. Other types are refused, as are those of users for segments.
+# The words for types with a number: their first numbers. Other types are errors, as are those of users for segments.
 WORDS = {0x60000000: "OsSpecific", 0x70000000: "ProcessorSpecific", 0x80000000: "User"}
 
-# The fields of the ELF header: elfinfo's label and llvm-readelf's. A label that stands twice has " (2)" the second time.
+# The fields of the ELF header: elfinfo's label and llvm-readelf's. A label that is there twice has " (2)" the second time.
 IDENT = {"class": "Class", "data": "DataEncoding", "version": "FileVersion", "os abi": "OS/ABI", "abi version": "ABIVersion"}
 FIELDS = {
     "type": "Type", "machine": "Machine", "version (2)": "Version", "entry_point": "Entry", "ph_offset": "ProgramHeaderOffset",
@@ -162,11 +162,11 @@ def wanted_fields(reads: dict) -> dict[str, str]:
     return found
 
 
-def kind_of(number: int, names: dict[int, str], last: int, refusal: str) -> str:
+def kind_of(number: int, names: dict[int, str], last: int, error: str) -> str:
     """How elfinfo must print a type, of those below `last`."""
     word = next((word for first, word in reversed(WORDS.items()) if number >= first), None)
     name = names.get(number) or (f"{word}({number})" if word and number < last else None)
-    return f"Ok({name})" if name else f'Err("{refusal}")'
+    return f"Ok({name})" if name else f'Err("{error}")'
 
 
 def wanted_section(it: dict) -> str:
@@ -183,7 +183,7 @@ def compare(path: str, elfinfo: str, tally: Tally) -> None:
     status, own, errors = run([elfinfo, path])
     reads = llvm(path, "-h", "-S", "-l")
     if status != 0 or "ElfHeader" not in reads:
-        # What elfinfo refuses, llvm-readelf has to refuse, in whole or in part.
+        # Where elfinfo has an error, llvm-readelf has to have one, in whole or in part.
         if status == 1 and not {"Sections", "ProgramHeaders"} <= reads.keys():
             tally["expected errors"] += 1
         else:

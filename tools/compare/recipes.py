@@ -129,7 +129,7 @@ def largest(path: str) -> list:
     return sorted(found.values(), reverse=True)[:10]
 
 
-def main() -> int:
+if __name__ == "__main__":
     given, tally = parser_of(__doc__, "elfrecipes", files="*").parse_args(), Tally("elfrecipes", "files", "addresses")
     is_built = (PACKAGE / "xmas_elf/libxmas_elf.so").exists()
     if not is_built:
@@ -151,8 +151,4 @@ def main() -> int:
                 ours = [int(line.split()[0]) for line in done.stdout.splitlines()]
                 if done.returncode or ours != largest(path):
                     tally.differ(path, "the largest functions", ours or done.stderr[-200:], largest(path))
-    return tally.ended() or int(not tally["files"])
-
-
-if __name__ == "__main__":
-    sys.exit(main())
+    sys.exit(tally.ended() or int(not tally["files"]))

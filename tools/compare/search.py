@@ -1,41 +1,48 @@
 #!/usr/bin/env python3
-"""Compare a model of how ld.so finds the libraries of a program with ld.so, and a program that prints them with both.
+"""Compare the libraries that elftree finds for a program with those that ld.so finds.
 
     tools/compare/search.py [--elftree PATH] [--trees N] [--seed N] [FILE..]
 
 Each dynamically linked program and library among the files, and in the folders among them, is given to ld.so, which lists its
 libraries and runs nothing (LD_TRACE_LOADED_OBJECTS). Compared are the paths in the order of the scope, missing names, messages of
-versions, errors, and with LD_DEBUG=libs each path tried.
+versions and errors; and, where strace can trace elftree, each path tried, which ld.so says with LD_DEBUG=libs.
 
 --trees N makes N trees of small programs and libraries, at random from the seed: with RPATH, RUNPATH, tokens, links, other classes,
 sonames of other files, filters, versions, damaged headers, and a cache, of which half are damaged. Their ld.so is a copy that reads
-this cache. A program that misses nothing is also run, for the order of initialisers and finalisers (LD_DEBUG=files).
+this cache. A program that misses nothing is also run, for the order of initialisers (LD_DEBUG=files).
 
---elftree compares a program of that name too. Where it differs, the line says what the model has: if that is as ld.so's, the fault
-is the program's, and else the rules are others. Where ld.so crashes or trips over an assertion of its own,
-the tree is counted, and not compared. The exit status is 1 if something differs. On another machine than x86-64 the
-script says so, and passes.
+Where ld.so crashes or trips over an assertion of its own, the tree is counted, and not compared. The exit status is 1 if something
+differs. On another machine than x86-64 the script says so, and passes.
 """
-import functools
 import os
 import pathlib
 import random
 import re
+import shutil
 import struct
 import sys
 import tempfile
+from collections import namedtuple
 
-import searching
 from comparing import Tally, files_of, parser_of, read_elf, run
-from searching import Cache, Machine, Tree, machine_of, model
+from damage import hash_number
+from processes import can_trace, linker_of
 
+NEEDED, SONAME, RPATH, RUNPATH, FLAGS_1, VERDEF, VERNEED, AUXILIARY, FILTER = 1, 14, 15, 29, 0x6FFFFFFB, 0x6FFFFFFC, 0x6FFFFFFE, 0x7FFFFFFD, 0x7FFFFFFF
+INITFIRST, NODEFLIB, PIE = 0x20, 0x800, 0x8000000
 LINKERS = {62: "/lib64/ld-linux-x86-64.so.2", 3: "/lib/ld-linux.so.2"}
 LISTED = re.compile(r"^\t(?:(.*) => )?(.*?)(?: \(0x[0-9a-f]+\))?$", re.M)
-LONGEST = 2.0
+LONGEST = 30.0
+# Runs a program, and lists the files that it asks for, with the bytes of their names in hexadecimal.
+STRACE = ["strace", "-qq", "-xx", "-s", "9999", "-e", "trace=stat,newfstatat,statx", "-o"] if shutil.which("strace") and can_trace() else []
+
+# What becomes of a program: its objects in the order of the scope, missing names, messages of versions, paths in the order of their
+# initialisers, the error that ends all, and the paths tried for names without a slash, if these are known.
+Tree = namedtuple("Tree", "paths missing messages starts error tried")
 
 
-def linker_said(command: list, path: str, **variables: str):
-    """What ld.so says of a program, in the words of the model; None where it crashes or has nothing to list."""
+def linker_said(command: list, **variables: str):
+    """What ld.so says of a program; None where it crashes or has nothing to list."""
     done = run(command, LD_TRACE_LOADED_OBJECTS="1", LD_DEBUG="libs", **variables)
     tried = re.findall(r"^ *\d+:\t  trying file=(.*)$", done.errors, re.M)
     said = re.findall(r"^(?! *\d+:\t)[^:\n]*: (.*)$", done.errors, re.M)
@@ -44,23 +51,43 @@ def linker_said(command: list, path: str, **variables: str):
     if done.status < 0 or "Assertion" in done.errors or "Inconsistency" in done.errors or done.output == "\tstatically linked\n":
         return None
     if error is not None:
-        return Tree([], [], [], [], [], re.sub(r": (?:Error \d+|Is a directory)$", "", error), tried)
+        return Tree([], [], [], [], re.sub(r": (?:Error \d+|Is a directory)$", "", error), tried)
     rows = [(name, it) for name, it in LISTED.findall(done.output) if not re.match(r"linux-(?:vdso|gate)\.so", it)]
     paths = [it for name, it in rows if it != "not found" or not name]
-    return Tree(paths, sorted(name for name, it in rows if it == "not found" and name), said, [], [], None, tried)
+    return Tree(paths, sorted(name for name, it in rows if it == "not found" and name), said, [], None, tried)
 
 
-def elftree_said(elftree: str, path: str, *options: str) -> Tree:
-    """What elftree says of a program, in the same words."""
-    done = run([elftree, *options, "--start", path], LONGEST)
+def elftree_said(elftree: str, path: str, linker: str, *options: str) -> Tree:
+    """What elftree says of a program with this linker, in the words of ld.so."""
+    with tempfile.NamedTemporaryFile("r") as trace:
+        done = run([*STRACE, *[trace.name] * bool(STRACE), elftree, *options, "--start", path], LONGEST)
+        found = re.findall(r'^\w+\((?:AT_FDCWD, )?"((?:\\x..)+)"(?!.*AT_SYMLINK_NOFOLLOW)', trace.read(), re.M)
+    asked = [bytes.fromhex(it.replace("\\x", "")).decode("utf-8", "surrogateescape") for it in found]
     lines = done.output.splitlines()
+    named = {it[1] for line in lines if (it := re.match(r" +(.*/.*) => .*", line))}
+    # After the program elftree asks for its linker.
+    tried = tried_of(asked[asked.index(linker) + 1 :], named) if linker in asked else None
     if done.status == 1 and not lines:
-        return Tree([], [], [], [], [], done.errors.rstrip("\n").removeprefix("elftree: "), [])
+        return Tree([], [], [], [], done.errors.rstrip("\n").removeprefix("elftree: "), tried)
     found = sorted((int(it[2]), it[1]) for line in lines if (it := re.match(r" +.* => (.*) \([\w, -]+\) #(\d+)$", line)))
     missing = [it[1] for line in lines if (it := re.match(r" +(.*) => not found(?: \(auxiliary\))?$", line))]
     starts = [line.removeprefix("start ") for line in lines if line.startswith("start ")]
     messages = [line for line in lines[1:] if not line.startswith((" ", "start "))]
-    return Tree([it for _, it in found], sorted(missing), messages, starts, [], None, [])
+    return Tree([it for _, it in found], sorted(missing), messages, starts, None, tried)
+
+
+def tried_of(asked: list, named: set) -> list:
+    """Those of the files that elftree asks for that ld.so tries too: no names with a slash, no folder of a file that it can't open, and
+    of a folder that isn't there the first file alone."""
+    tried, gone, before = [], set(), ""
+    for path in asked:
+        folder = os.path.dirname(path)
+        if path not in named and not re.search("//[^/]*$", path) and path != before and folder not in gone:
+            tried.append(path)
+        if folder.startswith("/") and not os.path.isdir(folder):
+            gone.add(folder)
+        before = folder
+    return tried
 
 
 def plain(value):
@@ -68,34 +95,33 @@ def plain(value):
     return re.sub("^.*: (?=cannot dynamically load|object file has no)", "", value) if isinstance(value, str) else value
 
 
-def differences(wanted: Tree, says: Tree, *names: str):
-    return [name for name in names if plain(getattr(wanted, name)) != plain(getattr(says, name))]
+def compare(what: str, wanted: Tree, says: Tree, tally: Tally, *names: str) -> None:
+    for name in names:
+        a, b = plain(getattr(says, name)), plain(getattr(wanted, name))
+        if a == b or name == "tried" and a is None:
+            continue
+        lists = isinstance(a, list) and isinstance(b, list)
+        at = next((it for it, (x, y) in enumerate(zip(a, b)) if x != y), min(len(a), len(b))) if lists else 0
+        tally.fault(f"{what}: {name}: elftree has {a[at:at + 3] if lists else a}, ld.so {b[at:at + 3] if lists else b} (item {at})")
+    tally["paths tried"] += len(says.tried or ())
 
 
-def compare(what: str, wanted: Tree, modelled: Tree, says, tally: Tally, *names: str) -> None:
-    """Compares what ld.so, the model and elftree have; the model alone has the paths tried."""
-    for name in differences(wanted, modelled, *names):
-        a, b = getattr(wanted, name), getattr(modelled, name)
-        at = next((it for it, (x, y) in enumerate(zip(a, b)) if x != y), min(len(a), len(b))) if isinstance(a, list) and isinstance(b, list) else 0
-        tally.fault(f"{what}: {name}: the model has {b[at:at + 3] if isinstance(b, list) else b}, ld.so {a[at:at + 3] if isinstance(a, list) else a} (item {at})")
-    for name in differences(wanted, says, *(it for it in names if it not in ("tried", "ends"))) if says else ():
-        tally.fault(f"{what}: {name}: elftree has {getattr(says, name)}, ld.so {getattr(wanted, name)}, the model {getattr(modelled, name)}")
-
-
-def compare_file(path: str, machines: dict, elftree, cache: Cache, tally: Tally) -> None:
-    """Compares a file of this system."""
+def compare_file(path: str, elftree: str, tally: Tally) -> None:
+    """Compares a file of this system. An ld.so that is called itself takes $ORIGIN from the path that it gets; one that the kernel
+    starts, and elftree, from the path without links."""
+    path = os.path.realpath(path)
     content = read_elf(path)
-    machine = machines.get(struct.unpack_from("<H", content, 18)[0]) if len(content) > 64 and content[5] == 1 else None
-    if machine is None or content[4] != (2 if machine.wide else 1) or struct.unpack_from("<H", content, 16)[0] not in (2, 3):
+    kind, machine = struct.unpack_from("<HH", content, 16) if len(content) > 64 and content[5] == 1 else (0, 0)
+    if kind not in (2, 3) or content[4] != (2 if machine == 62 else 1) or not os.path.exists(LINKERS.get(machine, "")):
         return
-    wanted = linker_said([machine.linker, path], path)
+    wanted = linker_said([LINKERS[machine], path])
     tally["files"] += 1
     if wanted is None or (wanted.error or "").startswith(f"{path}: "):
         tally["that are static or aren't loaded"] += 1
         return
-    compare(path, wanted, model(path, machine, "", cache), elftree and elftree_said(elftree, path), tally, "paths", "missing", "messages", "error", "tried")
+    says = elftree_said(elftree, path, linker_of(path) or LINKERS[machine])
+    compare(path, wanted, says, tally, "paths", "missing", "messages", "error", "tried")
     tally["objects"] += len(wanted.paths)
-    tally["paths tried"] += len(wanted.tried)
 
 
 # Runs what it gets in rdx, which is the finalisers, and ends.
@@ -117,9 +143,9 @@ class Made:
         code, own = put(CODE), put((interpreter or "").encode() + b"\0")
         rows = [(tag, self.string(value) if isinstance(value, str) else value) for tag, value in entries]
         if definitions:
-            rows += [(searching.VERDEF, put(self.defined(definitions))), (0x6FFFFFFD, len(definitions))]
+            rows += [(VERDEF, put(self.defined(definitions))), (0x6FFFFFFD, len(definitions))]
         if needs:
-            rows += [(searching.VERNEED, put(self.needed(needs))), (0x6FFFFFFF, len(needs))]
+            rows += [(VERNEED, put(self.needed(needs))), (0x6FFFFFFF, len(needs))]
         rows += [(0x6FFFFFF0, put(bytes(8)))] if definitions or needs else []
         symbols, table = put(bytes(24)), put(struct.pack("<5I", 1, 1, 0, 0, 0))
         rows += [(5, put(bytes(self.strings))), (10, len(self.strings)), (6, symbols), (11, 24), (4, table), (0, 0)]
@@ -137,22 +163,13 @@ class Made:
 
     def defined(self, names) -> bytes:
         last = len(names) - 1
-        return b"".join(struct.pack("<4H5I", 1, 0, at + 1, 1, number_of(name), 20, 28 if at < last else 0, self.string(name), 0) for at, name in enumerate(names))
+        return b"".join(struct.pack("<4H5I", 1, 0, at + 1, 1, hash_number(name.encode()), 20, 28 if at < last else 0, self.string(name), 0) for at, name in enumerate(names))
 
     def needed(self, needs) -> bytes:
         last = len(needs) - 1
         return b"".join(
-            struct.pack("<HHIII IHHII", 1, 1, self.string(file), 16, 32 if at < last else 0, number_of(name), flags, at + 2, self.string(name), 0)
+            struct.pack("<HHIII IHHII", 1, 1, self.string(file), 16, 32 if at < last else 0, hash_number(name.encode()), flags, at + 2, self.string(name), 0)
             for at, (file, name, flags) in enumerate(needs))
-
-
-def number_of(name: str) -> int:
-    """The hash number of a name, by the ELF standard."""
-    number = 0
-    for byte in name.encode():
-        number = (number << 4) + byte
-        number = (number ^ (number & 0xF0000000) >> 24) & 0xFFFFFFF
-    return number
 
 
 def cache_of(rows, names) -> bytes:
@@ -170,13 +187,29 @@ def cache_of(rows, names) -> bytes:
     return struct.pack("<20sIIB3xI12x", b"glibc-ld.so.cache1.1", len(rows), len(strings), 2, extension) + b"".join(entries) + strings + tail
 
 
+def names_of(cache: bytes) -> list:
+    """The names that the extension of a cache lists; none where ld.so takes it for damaged."""
+    found = []
+    try:
+        place, = struct.unpack_from("<I", cache, 32)
+        magic, count = struct.unpack_from("<II", cache, place) if place % 4 == 0 else (0, 0)
+        for at in range(place + 8, place + 8 + 16 * count * (magic == 0xEAA42174), 16):
+            tag, _, inner, size = struct.unpack_from("<IIII", cache, at)
+            if tag == 1 and inner % 4 == size % 4 == 0:
+                found = struct.unpack_from(f"<{size // 4}I", cache, inner)
+    except struct.error:
+        return []
+    return [cache[it : max(it, cache.find(b"\0", it))] for it in found if it < len(cache)]
+
+
 class Forest:
     """The folder in which trees are made, with an ld.so that reads the cache there."""
 
     NAMES = [f"lib{it}.so" for it in ("a", "b", "c1", "c01", "d.2", "e")]
     FOLDERS = ["bin", "lib", "lib/x", "lib/glibc-hwcaps/x86-64-v2", "lib/x/tls", "lib/x86_64", "lib/x86_64-linux-gnu", "other"]
+    # No directory's name is that of another with a subdirectory for processors.
     LISTS = ["$ORIGIN", "$ORIGIN/../lib", "${ORIGIN}/x", "@/lib:$ORIGIN/x/::$ORIGIN/x", "@/$LIB", "@/lib/x//", "lib", "", ":", "@/none:@/lib/../lib",
-        "$ORIGINAL:@/other", "@/lib/$PLATFORM:@/lib/${LIB", "other/", "@/other:@/lib/x", "@/${LIB}:@/lib"]
+        "$ORIGINAL:@/other", "@/./lib/$PLATFORM:@/lib/${LIB", "other/", "@/other:@/lib/x", "@/${LIB}:@/lib"]
 
     def __init__(self, room: str, seed: int):
         self.room, self.chance = room, random.Random(seed)
@@ -190,25 +223,25 @@ class Forest:
 
     def library(self, number: int, is_program: bool = False) -> bytes:
         chance = self.chance
-        entries = [(searching.SONAME, chance.choice([*[self.NAMES[number % 6]] * 4, *self.NAMES]))] * (not is_program and chance.random() < 0.8)
+        entries = [(SONAME, chance.choice([*[self.NAMES[number % 6]] * 4, *self.NAMES]))] * (not is_program and chance.random() < 0.8)
         for _ in range(chance.choice((1, 2, 3, 4)) if is_program else chance.choice((0, 0, 1, 1, 2, 3))):
-            name = chance.choice(self.NAMES) if self.is_whole and chance.random() < 0.9 else chance.choice([*self.NAMES, *self.NAMES, "libnone.so", f"{self.tree}/lib/liba.so", "lib/libb.so", "$ORIGIN/libe.so", "ld-linux-x86-64.so.2"])
-            kind = searching.NEEDED
+            name = chance.choice(self.NAMES) if self.is_whole and chance.random() < 0.9 else chance.choice([*self.NAMES, *self.NAMES, "libnone.so", f"{self.tree}/lib//liba.so", "lib//libb.so", "$ORIGIN//libe.so", "ld-linux-x86-64.so.2"])
+            kind = NEEDED
             if not is_program and number == 5 and name != "libe.so" and "/" not in name:
-                kind = chance.choice((kind, searching.AUXILIARY, searching.FILTER))
+                kind = chance.choice((kind, AUXILIARY, FILTER))
             entries.append((kind, name))
-        for tag in (searching.RPATH, searching.RUNPATH):
-            if chance.random() < (0.6 if is_program else 0.25) or self.is_whole and is_program and tag == searching.RPATH:
+        for tag in (RPATH, RUNPATH):
+            if chance.random() < (0.6 if is_program else 0.25) or self.is_whole and is_program and tag == RPATH:
                 entries.append((tag, self.list()))
         if chance.random() < 0.15:
-            entries.append((searching.FLAGS_1, chance.choice((searching.INITFIRST, searching.NODEFLIB, searching.INITFIRST, searching.PIE if chance.random() < 0.2 else 0))))
+            entries.append((FLAGS_1, chance.choice((INITFIRST, NODEFLIB, INITFIRST, PIE if chance.random() < 0.2 else 0))))
         chance.shuffle(entries)
         # Without its interpreter among them ld.so can't run finalisers.
-        entries += [(searching.NEEDED, chance.choice(("libc.so.6", "ld-linux-x86-64.so.2")))] if is_program and self.is_whole else []
+        entries += [(NEEDED, chance.choice(("libc.so.6", "ld-linux-x86-64.so.2")))] if is_program and self.is_whole else []
         definitions = chance.choice(([], [], ["BASE", "V1"], ["BASE", "V1", "V2"]))
         needs = [(chance.choice(self.NAMES), chance.choice(("V1", "V2", "V3")), chance.choice((0, 0, 2)))] if chance.random() < 0.3 else []
         # What is needed of a file that nothing asks for ends ld.so.
-        needs = [it for it in needs if (searching.NEEDED, it[0]) in entries]
+        needs = [it for it in needs if (NEEDED, it[0]) in entries]
         return Made(entries, definitions, needs, self.linker if is_program else None).content
 
     def damaged(self, content: bytes) -> bytes:
@@ -224,8 +257,9 @@ class Forest:
             for _ in range(chance.choice((1, 1, 2, 3))):
                 words = chance.choice((0, 0, 0, 2, 4, 1, 1 << 50, 1 << 49, *(0x40000000 + level << 32 | chance.randrange(4) for level in (0, 1, 3, 4, 40, 128))))
                 rows.append((name, f"{self.tree}/{chance.choice(self.FOLDERS)}/{chance.choice((name, name, 'libe.so'))}", chance.choice((0x303,) * 6 + (3, 0x803)), words))
-        key = functools.cmp_to_key(lambda a, b: searching.compare(b[0].encode(), a[0].encode()))
-        content = bytearray(cache_of(sorted(rows, key=key), ["x86-64-v2", "x86-64-v3", "x86-64-v4"]))
+        # By numbers as numbers, which are greater than all letters.
+        key = lambda row: [(1, int(it)) if it.isdigit() else (0, ord(it)) for it in re.findall(r"\d+|\D", row[0])]
+        content = bytearray(cache_of(sorted(rows, key=key, reverse=True), ["x86-64-v2", "x86-64-v3", "x86-64-v4"]))
         if chance.random() < 0.5:
             for _ in range(chance.choice((1, 2, 4))):
                 content[chance.choice((chance.randrange(len(content)), chance.randrange(20, 48), chance.randrange(48, 48 + 24 * len(rows))))] = chance.choice((0, 1, 2, 49, 128, 255))
@@ -255,60 +289,45 @@ class Forest:
         return chance.choice(("bin/prog", "other/prog", f"{self.tree}/bin/prog", "./bin/../bin/prog"))
 
 
-def compare_tree(forest: Forest, number: int, machine: Machine, elftree, tally: Tally) -> None:
+def compare_tree(forest: Forest, number: int, elftree: str, tally: Tally) -> None:
     """Makes a tree, and compares what becomes of its program, which the kernel starts."""
     path = forest.make(number)
     variables = {"LD_LIBRARY_PATH": forest.list().replace(":", forest.chance.choice(":;"))} if forest.chance.random() < 0.3 else {}
-    library_path, cache = variables.get("LD_LIBRARY_PATH", ""), Cache(pathlib.Path(forest.cache).read_bytes())
-    wanted = linker_said([path], path, **variables)
+    wanted, held = linker_said([path], **variables), names_of(pathlib.Path(forest.cache).read_bytes())
     tally["trees"] += 1
     # By its extension ld.so goes through the cache's names as through a list that rises.
-    held = [it.encode("utf-8", "surrogateescape") for it in cache.names or () if it is not None]
     if wanted is None or held != sorted(held):
         tally["trees with a cache that isn't in order" if wanted else "trees in which ld.so ends itself"] += 1
         return
-    modelled = model(path, machine, library_path, cache, True)
-    options = ["--cache", forest.cache, *(["--library-path", library_path] if library_path else [])]
-    says = elftree and elftree_said(elftree, path, *options)
-    names = ["paths", "missing", "messages", "error", "tried"]
+    library_path = ["--library-path", variables["LD_LIBRARY_PATH"]] if variables.get("LD_LIBRARY_PATH") else []
+    says, names = elftree_said(elftree, path, forest.linker, "--cache", forest.cache, *library_path), ["paths", "missing", "messages", "error", "tried"]
     if not (wanted.missing or wanted.error or any("`" in it and "weak" not in it for it in wanted.messages)):
         done = run([path], LD_DEBUG="files", **variables)
-        called = [re.findall(rf"^ *\d+:\tcalling {it}: (\S.*?)(?: \[0\])?$", done.errors, re.M) for it in ("init", "fini")]
         if done.status == 0:
-            wanted, names = wanted._replace(starts=called[0], ends=called[1]), [*names, "starts", "ends"]
-            tally["initialisers"] += len(called[0])
-    compare(f"tree {number}", wanted, modelled, says, tally, *names)
+            wanted, names = wanted._replace(starts=re.findall(r"^ *\d+:\tcalling init: (\S.*?)(?: \[0\])?$", done.errors, re.M)), [*names, "starts"]
+            tally["initialisers"] += len(wanted.starts)
+    compare(f"tree {number}", wanted, says, tally, *names)
     tally["objects of trees"] += len(wanted.paths)
     tally["missing names"] += len(wanted.missing)
     tally["messages"] += len(wanted.messages)
     tally["errors"] += wanted.error is not None
-    tally["paths tried"] += len(wanted.tried)
-
-
-def main() -> int:
-    parser = parser_of(__doc__, files="*", trees=0, seed=1)
-    parser.add_argument("--elftree", metavar="PATH")
-    given = parser.parse_args()
-    tally, elftree = Tally("elftree"), given.elftree and os.path.abspath(given.elftree)
-    machines = {number: machine_of(it) for number, it in LINKERS.items() if os.path.exists(it)}
-    if 62 not in machines:
-        print("0 files, 0 differences: there is no ld.so for x86-64 here")
-        return 0
-    cache = Cache(pathlib.Path("/etc/ld.so.cache").read_bytes())
-    for path in filter(read_elf, files_of(given.files)):
-        compare_file(path, machines, elftree, cache, tally)
-    with tempfile.TemporaryDirectory(prefix="", dir="/tmp") as other:
-        room = f"/tmp/{os.path.basename(other)[:6]}"
-        os.rename(other, room)
-        os.mkdir(other)
-        forest = Forest(room, given.seed) if given.trees else None
-        for number in range(given.trees):
-            compare_tree(forest, number, machines[62]._replace(linker=forest.linker), elftree, tally)
-            os.chdir("/")
-            run(["rm", "-rf", f"{room}/{number}"])
-        run(["rm", "-rf", room])
-    return tally.ended()
 
 
 if __name__ == "__main__":
-    sys.exit(main())
+    given = parser_of(__doc__, "elftree", files="*", trees=0, seed=1).parse_args()
+    tally, elftree = Tally("elftree"), os.path.abspath(given.elftree)
+    if not os.path.exists(LINKERS[62]):
+        print("0 files, 0 differences: there is no ld.so for x86-64 here")
+        sys.exit(0)
+    for path in filter(read_elf, files_of(given.files)):
+        compare_file(path, elftree, tally)
+    # The path of a tree's cache must be as long as that of the system's.
+    room = f"/tmp/{os.urandom(3).hex()}"
+    os.mkdir(room)
+    forest = Forest(room, given.seed)
+    for number in range(given.trees):
+        compare_tree(forest, number, elftree, tally)
+        os.chdir("/")
+        shutil.rmtree(f"{room}/{number}")
+    shutil.rmtree(room)
+    sys.exit(tally.ended())

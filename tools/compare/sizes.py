@@ -68,21 +68,19 @@ def runs_of(symbols: List[Symbol]) -> List[Part]:
     return found
 
 
-class Definition:
+class Definition(damage.Headers):
     """The owner of each byte of a file, as docs/SIZES.md defines it."""
+
     def __init__(self, content: bytes) -> None:
-        self.content, self.layout = content, damage.Layout(content[4] == 2, "big" if content[5] == 2 else "little")
+        super().__init__(content)
         self.sections = self.table("section", "sh", self.layout.section, self.layout.section_size)
         self.segments = self.table("segment", "ph", self.layout.segment, self.layout.segment_size)
-
-    def header(self, name: str) -> int:
-        return self.layout.get(self.content, 0, self.layout.header[name])
 
     def first(self, name: str, otherwise: int) -> int:
         """A field of section header 0, if there is one."""
         start, size = self.header("shoff"), self.header("shentsize")
         is_there = start and size >= self.layout.section_size and start + size <= len(self.content)
-        return self.layout.get(self.content, start, self.layout.section[name]) if is_there else otherwise
+        return self.of_section(start, name) if is_there else otherwise
 
     def count(self, letters: str) -> int:
         number = self.header(f"{letters}num")
@@ -145,8 +143,7 @@ class Definition:
         return {name: size for name, size in found.items() if size}
 
     def section_field(self, index: int, name: str) -> int:
-        start = self.header("shoff") + index * self.header("shentsize")
-        return self.layout.get(self.content, start, self.layout.section[name])
+        return self.of_section(self.header("shoff") + index * self.header("shentsize"), name)
 
     def bytes_of(self, index: int) -> bytes:
         offset, size = self.section_field(index, "offset"), self.section_field(index, "size")

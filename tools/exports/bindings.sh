@@ -2,7 +2,7 @@
 # Builds and tests what calls the static library `elf_c` from C, C++ and Rust.
 #   tools/exports/bindings.sh            the programs in C and C++, each export, the Rust crate with its own tests, its package
 #                                and its pages: no registry
-#   tools/exports/bindings.sh --compare  besides, all answers beside those of `object`, of Debian's librust-object-dev, over the
+#   tools/exports/bindings.sh --compare  besides, all results beside those of `object`, of Debian's librust-object-dev, over the
 #                                files of the system
 #   tools/exports/bindings.sh --valgrind besides, the tests of the Rust crate and the C example under valgrind, which tells of
 #                                reads and writes outside of memory that is the program's
@@ -30,9 +30,7 @@ strict=(-O2 -Wall -Wextra -Werror -Wpedantic -Ibindings/include)
 # Runs lines of Python with what the tools have.
 python() { PYTHONPATH=tools python3 -c "$@"; }
 
-# The names that a program prints, and those of readelf but for the sections, whose names it shows for theirs. It adds
-# versions behind an `@`, which a few names have too.
-printed() { awk 'NF == 3 { sub(/@.*/, "", $3); print $3 }' "$1" | sort; }
+# The names of readelf but for the sections, whose names it shows for theirs. It adds versions after an `@`, which a few names have too.
 names() { readelf --wide --symbols "$1" | awk '$1 ~ /^[0-9]+:$/ && $4 != "SECTION" && $8 != "" { sub(/@.*/, "", $8); print $8 }' | sort; }
 
 # What the header says of the archive: it has the exports of the list, needs `memcpy`, `memmove` and `memset` alone, keeps nothing (no section is
@@ -81,16 +79,13 @@ g++ -std=c++17 "${strict[@]}" -Wconversion "$room/shown.cpp" "$archive" -o "$roo
 zlib=/lib/x86_64-linux-gnu/libz.so.1
 diff <("$room/names_cpp" $zlib | grep '^lib.*\.so') <(readelf --wide --dynamic $zlib | sed -n 's/.*(NEEDED).*\[\(.*\)\]$/\1/p')
 cargo build --quiet --offline --release --manifest-path bindings/rust/Cargo.toml --examples
-# The header's version is that of the crate.
-grep -qx "#define XMAS_ELF_VERSION \"$(sed -n 's/^version = "\(.*\)"/\1/p' bindings/rust/Cargo.toml)\"" bindings/include/xmas_elf.h
 # C, C++ and Rust beside nm and readelf, over 300 files. A path that can't be opened is named.
 tools/compare/dump.py
 for program in "$room"/{nm_c,find_c,dynamic_c,addresses_c,nm_g++,dump,memory,sizes} "$CARGO_TARGET_DIR"/release/examples/{nm,find,dump,addresses}; do
     { "$program" /no/such/file 2>&1 || true; } | grep -q '^/no/such/file: No such file or directory' ||
         { echo "$program doesn't name its path"; exit 1; }
 done
-# The mappings of a program beside those of its process, in which those of zeros have no path; and the symbols of its functions
-# in their middle, by the values and sizes of nm.
+# The mappings of a program beside those of its process, in which those of zeros have no path; and an address in no symbol.
 echo '#include <stdio.h>
 int numbers[40000];
 int main(void) { FILE *maps = fopen("/proc/self/maps", "r"); int it; while ((it = getc(maps)) != EOF) putchar(it); return numbers[0]; }' |
@@ -102,23 +97,10 @@ mapped() {
         printf '%x-%x %s %x\n' $((16#${range%-*} - base)) $((16#${range#*-} - base)) "${rights:0:3}" $((16#$offset))
     done
 }
-functions() { nm --defined-only --print-size "$room/mapped" | awk 'NF == 4 && $3 ~ /[tT]/ && $2 !~ /^0+$/'; }
-middles() { functions | while read -r value size _ name; do printf '%x %s+%#x\n' $((16#$value + 16#$size / 2)) "$name" $((16#$size / 2)); done; }
-[ "$(middles | wc -l)" -ge 2 ] || { echo "nm finds no functions"; exit 1; }
-"$room/memory" "$room/mapped" $(middles | cut -d' ' -f1) > "$room/memory_of"
-grep -v '^.*+0x' "$room/memory_of" | awk '$3 != 0 || NR == 1' | diff - <(mapped "$room/mapped")
-grep '+0x' "$room/memory_of" | diff - <(middles | cut -d' ' -f2)
-for program in "$room/addresses_c" "$CARGO_TARGET_DIR/release/examples/addresses"; do
-    "$program" "$room/mapped" $(middles | cut -d' ' -f1) 0 | diff - <(middles | cut -d' ' -f2; echo '?')
-done
+"$room/memory" "$room/mapped" | awk '$3 != 0 || NR == 1' | diff - <(mapped "$room/mapped")
+for program in "$room/addresses_c" "$CARGO_TARGET_DIR/release/examples/addresses"; do diff <("$program" "$room/mapped" 0) <(echo '?'); done
 # Programs that the example in C loads.
 tools/exports/loading.sh "$XMAS_ELF_ARCHIVE"
-# The pieces of a file sum to its size, and its functions are as large as nm says.
-"$room/sizes" "$room/mapped" > "$room/sizes_of"
-[ "$(grep -E ' [0-9]+$' "$room/sizes_of" | awk '{ sum += $1 } END { print sum }')" = "$(stat --format %s "$room/mapped")" ] ||
-    { echo "the pieces don't sum to the size"; exit 1; }
-sizes_by_nm() { functions | while read -r _ size _ name; do echo "$((16#$size)) $name"; done | grep -v ' _\(init\|fini\)$'; }
-diff <(grep -vE ' [0-9]+$' "$room/sizes_of" | sort) <(sizes_by_nm | sort)
 # Both kinds of hash tables, a file's own name and its folders, and libraries with many versions.
 echo 'int one(void) { return 1; }' |
     gcc -shared -fPIC -x c - -o "$room/libnamed.so" -Wl,-soname,libnamed.so.1 -Wl,-rpath,/a:/b -Wl,--enable-new-dtags
@@ -138,31 +120,17 @@ for file in "$room/nm_c" /lib/x86_64-linux-gnu/libc.so.6; do
     "$room/nm_c" "$file" > "$room/of_c"
     "$CARGO_TARGET_DIR/release/examples/nm" "$file" | cmp - "$room/of_c"
     for compiler in "${cxx[@]}"; do "$room/nm_$compiler" "$file" | cmp - "$room/of_c"; done
-    diff <(printed "$room/of_c") <(names "$file") > "$room/difference" || { head "$room/difference"; exit 1; }
     "$room/names_c" < "$file" > "$room/of_page"
     diff <(sed 's/@.*//' "$room/of_page" | grep . | sort) <(names "$file") > "$room/difference" || { head "$room/difference"; exit 1; }
     "$room/find_c" "$file" malloc qsort no_such_name > "$room/of_c"
     "$CARGO_TARGET_DIR/release/examples/find" "$file" malloc qsort no_such_name | cmp - "$room/of_c"
 done
-# Fifty files whose symbols can't be listed: each program ends with an error and says why.
 for example in c cpp; do
     compiler=gcc; [ $example = cpp ] && compiler=g++
     "$compiler" "${strict[@]}" -Ibindings/include "bindings/examples/symbols.$example" "$archive" -o "$room/symbols_$example"
 done
-mkdir "$room/lost"
-python 'import pathlib, sys
-from compare import damage
-for it, data in enumerate(damage.lost(pathlib.Path(sys.argv[1]).read_bytes())): pathlib.Path(sys.argv[2], str(it)).write_bytes(data)' "$room/mapped" "$room/lost"
-[ "$(ls "$room/lost" | wc -l)" = 50 ]
-for program in "$room"/{nm_c,nm_g++,symbols_c,symbols_cpp,names_c,names_cpp} "$CARGO_TARGET_DIR/release/examples/nm"; do
-    "$program" "$room/mapped" < "$room/mapped" > /dev/null
-    for file in "$room"/lost/*; do
-        if "$program" "$file" < "$file" > "$room/said" 2> "$room/why" || [ ! -s "$room/why" ]; then
-            echo "$program is silent of $file: $(wc -l < "$room/said") lines"
-            exit 1
-        fi
-    done
-done
+# Tasks of new users beside the tools that they know, and over files of which parts are missing.
+bindings/c/tests/tasks.py "$room"
 mkdir "$room/damaged"
 python 'import pathlib, sys
 from compare import damage
@@ -198,15 +166,15 @@ rm -r "$room/crate/lib"
 (cd "$room/crate" && env -u XMAS_ELF_ARCHIVE DOCS_RS=1 RUSTDOCFLAGS="--cfg docsrs -D warnings" cargo doc --quiet --offline --no-deps)
 # Where the archive is missing, the build says so and what helps.
 script="$(find "$CARGO_TARGET_DIR/release/build" -path '*xmas-elf-proved*' -name build-script-build | head -n 1)"
-refused() { # ARCHITECTURE FOLDER WORD..
+fails() { # ARCHITECTURE FOLDER WORD..
     local said folder="$2"
     said="$(env -i PATH=/nowhere TARGET="$1-test" CARGO_CFG_TARGET_ARCH="$1" CARGO_CFG_TARGET_OS=linux CARGO_CFG_TARGET_POINTER_WIDTH=64 \
         CARGO_MANIFEST_DIR="$folder" "$script" 2>&1)" && { echo "built without an archive: $said"; exit 1; }
     for word in "${@:3}"; do grep -qF -- "$word" <<< "$said" || { echo "no $word in: $said"; exit 1; }; done
 }
-refused x86_64 "$PWD/bindings/rust" libelf_c.a '`rt`' XMAS_ELF_ARCHIVE 'rt lib'
-refused x86_64 "$room/crate" libelf_c.a 'is missing' XMAS_ELF_ARCHIVE 'rt lib'
-refused aarch64 "$room/crate" 'the target is aarch64-test'
+fails x86_64 "$PWD/bindings/rust" libelf_c.a '`rt`' XMAS_ELF_ARCHIVE 'rt lib'
+fails x86_64 "$room/crate" libelf_c.a 'is missing' XMAS_ELF_ARCHIVE 'rt lib'
+fails aarch64 "$room/crate" 'the target is aarch64-test'
 echo "bindings: the Rust crate builds from its package"
 
 if [ "${1:-}" = --compare ]; then

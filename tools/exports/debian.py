@@ -16,7 +16,7 @@ import sys
 import tempfile
 
 TOP = pathlib.Path(__file__).resolve().parents[2]
-PROGRAMS = ["elfaddr", "elfbind", "elfinfo", "elfload", "elfsize", "elfsym"]
+PROGRAMS = ["elfaddr", "elfbind", "elfinfo", "elfload", "elfsize", "elfsym", "elftree"]
 LIBRARIES, SHARED = "usr/lib/x86_64-linux-gnu", "usr/share/xmas-elf"
 SUMMARY = "reader of ELF files whose every result is proved"
 

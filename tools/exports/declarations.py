@@ -16,7 +16,7 @@ sys.path.insert(1, str(pathlib.Path(__file__).resolve().parents[1]))
 import listing
 import python_declarations
 import statuses
-from listing import FILLED, IN, OUT, ROOT, SLICE, VALUE
+from listing import FILLED, GIVEN, IN, OUT, ROOT, SLICE, VALUE
 from pages.sources import differing, ended, parser_of
 
 HEADER = ROOT / "bindings/include/xmas_elf.h"
@@ -26,7 +26,7 @@ FIRST, LAST = "/* The structs and functions, written by tools/exports/declaratio
 WIDTH = 118
 ALL_STATUSES = tuple(name for name, _, _ in statuses.statuses())
 
-# How a parameter of each kind stands in C, in a declaration and in a safe call of Rust, in what that hands on, and in the
+# How a parameter of each kind is written in C, in a declaration and in a safe call of Rust, in what that hands on, and in the
 # sources.
 C, DECLARED, SAFE, HANDED, SOURCE = range(5)
 SHAPES = {
@@ -35,6 +35,7 @@ SHAPES = {
     OUT: ("{c} *{name}", "{name}: *mut {rust}", "", "&mut {name}", "{name}: &mut {type}"),
     SLICE: ("const {c} *{name}, size_t {name}_{count}", "{name}: *const {rust}, {name}_len: usize", "{name}: &[{rust}]",
         "{name}.as_ptr(), {name}.len()", "{name}: &[{type}]"),
+    GIVEN: ("{c} *{name}", "{name}: *mut {rust}", "{name}: &mut {rust}", "{name}", "{name}: &mut {type}"),
     FILLED: ("{c} *{name}, size_t {name}_{count}", "{name}: *mut {rust}, {name}_len: usize", "{name}: &mut [{rust}]",
         "{name}.as_mut_ptr(), {name}.len()", "{name}: &mut [{type}]"),
 }
@@ -75,7 +76,7 @@ def c_struct(struct, listed):
     lines = c_comment(struct.comment) + [f"typedef struct {struct.c_type} {{"]
     for field in struct.fields:
         array = re.fullmatch(r"\[u8; (\d+)\]", field.type)
-        if field.type == listing.LENT:
+        if field.type == listing.BORROWED:
             lines += [*c_comment(field.comment, "    "), f"    const uint8_t *{field.c_name};", f"    size_t {field.c_name}_size;"]
             continue
         member = f"uint8_t {field.c_name}[{array[1]}]" if array else f"{listed.c_type(field.type)} {field.c_name}"
@@ -108,23 +109,7 @@ def header_text(listed, rows):
 
 # Rust: the structs, and for each export its declaration and a safe call.
 
-RECORDS_HEAD = "//! The structs of the archive. Written by tools/exports/declarations.py.\n\nuse crate::lent::Lent;"
-FFI_HEAD = '''//! The declarations of the archive, and a safe call for each. Written by tools/exports/declarations.py.
-//!
-//! The reason is the same for each `unsafe`. During the call the export reads the slices and records that it is passed,
-//! writes the records that it is passed to write, of a slice at most as many as it has, and is defined whatever they
-//! contain. All of these are references of the call, of the types that the archive declares.
-
-use crate::records::{RECORDS};
-use crate::Error;
-
-fn answered<T>(status: u32, value: T) -> Result<T, Error> {
-    match status {
-        0 => Ok(value),
-        status => Err(Error::of(status)),
-    }
-}
-'''
+RECORDS_HEAD = "//! The structs of the archive. Written by tools/exports/declarations.py.\n\nuse crate::borrowed::Borrowed;"
 
 
 def rust_comment(text, indent=""):
@@ -134,7 +119,7 @@ def rust_comment(text, indent=""):
 def rust_struct(struct, listed):
     seen, fields_seen = ("pub" if struct.public else "pub(crate)"), ("pub(crate)" if struct.private_fields or not struct.public else "pub")
     lines = ["", *rust_comment(struct.comment), "#[repr(C)]", "#[derive(Clone, Copy, Debug, Default, PartialEq, Eq)]"]
-    lines.append(f"{seen} struct {struct.rust}{'<%sa>' % chr(39) if listed.lends(struct.name) else ''} {{")
+    lines.append(f"{seen} struct {struct.rust}{'<%sa>' % chr(39) if listed.borrows(struct.name) else ''} {{")
     for field in struct.fields:
         lines += rust_comment(field.comment, indent="    ") + [f"    {fields_seen} {field.name}: {listed.rust_type(field.type)},"]
     return lines + ["}"]
@@ -151,21 +136,19 @@ def safe_call(function, listed):
     lines.append("    // SAFETY: see the head of this file.")
     if function.result == "status":
         lines += wrapped(f"let status = unsafe {{ {call} }};", "    ", "        ")
-        return lines + [f"    answered(status, {written[0].name if written else '()'})", "}"]
+        return lines + [f"    result_of(status, {written[0].name if written else '()'})", "}"]
     return lines + wrapped(f"unsafe {{ {call} }}", "    ", "        ") + ["}"]
 
 
 def ffi_text(listed):
-    lines = ["", 'extern "C" {']
+    declared, calls = [], []
     for function in listed.functions:
         result = RESULTS[function.result][1].replace(" ", "\0")
-        lines += laid_out(f"fn {function.export}(", parameters(function, DECLARED, listed), f"){result};", "    ")
-    lines.append("}")
-    for function in listed.functions:
-        lines += safe_call(function, listed)
+        declared += laid_out(f"fn {function.export}(", parameters(function, DECLARED, listed), f"){result};", "    ")
+        calls += safe_call(function, listed)
     used = {parameter.type for function in listed.functions for parameter in function.parameters}
     names = ", ".join(sorted(struct.rust for struct in listed.structs if struct.name in used))
-    return FFI_HEAD.replace("{RECORDS}", f"{{{names}}}") + "\n".join(lines) + "\n"
+    return listing.template("ffi.rs", RECORDS=f"{{{names}}}", DECLARED="\n".join(declared), CALLS="\n".join(calls))
 
 
 def constants_text():
@@ -181,7 +164,7 @@ def constants_text():
 
 
 # A call of each export for the tests in C and Rust, so that a new export is called without a line by hand. What the tests ask of
-# every call stands in bindings/c/every.c and bindings/rust/src/tests.rs.
+# every call is in bindings/c/every.c and bindings/rust/src/tests.rs.
 
 ROOM = 3
 RUST_CALLS_HEAD = """//! A call of each export, for the tests. Written by tools/exports/declarations.py.
@@ -213,9 +196,10 @@ pub(crate) fn every(asked: &Asked<'_>, mut heard: impl FnMut(&str, Result<(), Er
 # What is handed to a parameter: of numbers but the one named `section` the index, of records but these a part of the input, and
 # of slices but these a name.
 PLACES = {"header": "header", "symbol_table": "table", "hash_table": "hash", "address_index": "address_index"}
-C_SLICES = {"input": "a->bytes, a->size", "ranges": "&a->part, 1", "words": "a->words, a->words_count", "addresses": "a->numbers, 2",
+C_SLICES = {"input": "a->bytes, a->size", "ranges": "&a->part, 1", "words": "a->words, a->words_count",
+    "numbers": "a->index_numbers, a->index_numbers_count", "addresses": "a->numbers, 2",
     "objects": "&(xmas_elf_load_object_t){.file = a->bytes, .file_size = a->size}, 1"}
-RUST_SLICES = {"input": "input", "ranges": "ranges", "words": "&[0, 1]", "addresses": "numbers", "objects": "objects"}
+RUST_SLICES = {"input": "input", "ranges": "ranges", "words": "&[0, 1]", "numbers": "&[0, 1]", "addresses": "numbers", "objects": "objects"}
 
 
 def number_for(parameter):
@@ -232,11 +216,13 @@ def c_call(function, listed):
             IN: f"&a->{PLACES.get(one.type, 'part')}",
             SLICE: C_SLICES.get(one.name, "a->name, a->name_size"),
             OUT: f"&{written}[0]",
+            GIVEN: f"&{one.name}",
             FILLED: f"{written}, {ROOM}",
         }[one.kind])
         place += one.kind in (OUT, FILLED)
     call = f"{function.export}({', '.join(arguments)})"
     lines = [f"static uint32_t any_{function.name}(const struct asked *a, union output *out)", "{"]
+    lines += [f"    {listed.c_type(one.type)} {one.name};" for one in function.parameters if one.kind == GIVEN]
     if function.result == "status":
         return [*lines, *["    (void)out;"] * (place == 0), f"    return {call};", "}"]
     return [*lines, f"    (void){call};", "    return XMAS_ELF_OK;", "}"]
@@ -245,7 +231,7 @@ def c_call(function, listed):
 def c_calls_text(listed):
     written = dict.fromkeys(one.type for function in listed.functions for one in function.parameters if one.kind in (OUT, FILLED))
     lines = ["/* A call of each export, by the parts of a `struct asked`. Written by tools/exports/declarations.py. */", ""]
-    lines += ["/* What a call writes: its first and its second output. */", "union output {"]
+    lines += ["/* What a call writes: its outputs in order. */", "union output {"]
     lines += [*(f"    {listed.c_type(kind)} of_{kind}[{ROOM}];" for kind in written), "};", ""]
     rows = []
     for function in listed.functions:
@@ -254,7 +240,7 @@ def c_calls_text(listed):
         rows.append(f'    {{"{function.name}", any_{function.name}, {{{", ".join(statuses)}}}, {len(statuses)}}},')
     longest = 1 + max(len(function.statuses) for function in listed.functions)
     lines += ["", "static const struct any {", "    const char *name;", "    uint32_t (*call)(const struct asked *, union output *);"]
-    lines += [f"    uint32_t answers[{longest}];", "    size_t answers_count;", "} every[] = {", *rows, "};"]
+    lines += [f"    uint32_t results[{longest}];", "    size_t results_count;", "} every[] = {", *rows, "};"]
     return "\n".join(lines) + "\n"
 
 
@@ -265,12 +251,13 @@ def rust_calls_text(listed):
             VALUE: f"asked.{number_for(one)}" + ("" if one.type == "u64" else f" as {listed.rust_type(one.type)}"),
             IN: PLACES.get(one.type, "part"),
             SLICE: RUST_SLICES.get(one.name, "name"),
+            GIVEN: f"&mut {listed.rust_type(one.type)}::default()",
             FILLED: f"&mut [{listed.rust_type(one.type)}::default(); {ROOM}]",
         }[one.kind] for one in function.parameters if one.kind != OUT)
         call = f"ffi::{function.name}({arguments})"
-        other = [f"    {'let _size = ' if function.result == 'size' else ''}{call};", "    let answer = Ok(());"]
-        lines += [f"    let answer = {call}.map(|_| ());"] if function.result == "status" else other
-        lines.append(f'    heard("{function.name}", answer, &[{", ".join(f"Error::{name}" for name in function.statuses)}]);')
+        other = [f"    {'let _size = ' if function.result == 'size' else ''}{call};", "    let result = Ok(());"]
+        lines += [f"    let result = {call}.map(|_| ());"] if function.result == "status" else other
+        lines.append(f'    heard("{function.name}", result, &[{", ".join(f"Error::{name}" for name in function.statuses)}]);')
     return RUST_CALLS_HEAD + "\n".join(lines) + "\n}\n"
 
 
@@ -328,7 +315,7 @@ if __name__ == "__main__":
             sys.exit(f"{statuses.PINNED}: {line}: a number never changes, and here it has another name")
     wanted = {HEADER: header_text(listed, rows), RUST / "ffi.rs": ffi_text(listed)}
     wanted[RUST / "records.rs"] = "\n".join([RECORDS_HEAD, *(line for it in listed.structs for line in rust_struct(it, listed)), ""])
-    wanted |= {statuses.PINNED: "\n".join(statuses.numbered(rows)) + "\n", RUST / "error.rs": "\n".join(statuses.rust_part(rows)) + "\n"}
+    wanted |= {statuses.PINNED: "\n".join(statuses.numbered(rows)) + "\n", RUST / "error.rs": statuses.rust_part(rows)}
     wanted |= {RUST / "constants.rs": constants_text(), PACKAGE / "constants.py": python_declarations.constants()}
     wanted[PACKAGE / "_declarations.py"] = python_declarations.declarations(wanted[HEADER])
     wanted |= {RUST / "calls.rs": rust_calls_text(listed), ROOT / "bindings/c/calls.h": c_calls_text(listed)}

@@ -3,7 +3,7 @@
     for struct in listing.read().structs: struct.name, struct.fields[0].name, struct.fields[0].type
     for function in listing.read().functions: function.export, function.parameters[0].type, function.statuses
 
-A type is a number (`u8` .. `u64`, `usize`), an array of bytes (`[u8; 7]`), bytes that a field lends (`&[u8]`: a pointer and a size)
+A type is a number (`u8` .. `u64`, `usize`), an array of bytes (`[u8; 7]`), bytes that a field borrows (`&[u8]`: a pointer and a size)
 or the name of a struct of the list. A parameter's `kind` says how it crosses: VALUE a number; IN a pointer to one value that is read;
 OUT to one that is written where the call is OK; SLICE a pointer and a count of values that are read; FILLED of values to be written."""
 import pathlib
@@ -14,7 +14,7 @@ from collections import namedtuple
 ROOT = pathlib.Path(__file__).resolve().parents[2]
 LIST = ROOT / "bindings/exports.toml"
 PREFIX = "xmas_elf_"
-VALUE, IN, OUT, SLICE, FILLED = "value", "in", "out", "slice", "filled"
+VALUE, IN, OUT, GIVEN, SLICE, FILLED = "value", "in", "out", "given", "slice", "filled"
 SIZES = {"u8": 1, "u16": 2, "u32": 4, "u64": 8, "usize": 8}
 
 # `c_name` and `c_type` are the names in C, `rust` is that in the crate, `source` that in the sources.
@@ -29,7 +29,7 @@ Function = namedtuple("Function", "name parameters result statuses item_statuses
 # A number of the ELF standard: its group's comment, and the prefix of the names there.
 Constant = namedtuple("Constant", "name value type group prefix is_flag comment")
 
-LENT, LENT_IN_RUST = "&[u8]", "Lent<{}>"
+BORROWED, BORROWED_IN_RUST = "&[u8]", "Borrowed<{}>"
 C_NUMBERS = {"u8": "uint8_t", "u16": "uint16_t", "u32": "uint32_t", "u64": "uint64_t", "usize": "size_t"}
 
 
@@ -41,13 +41,13 @@ class Listed(namedtuple("Listed", "structs functions")):
         return C_NUMBERS.get(name) or self.struct(name).c_type
 
     def rust_type(self, name: str) -> str:
-        """The type in Rust; a struct that lends bytes has a lifetime."""
+        """The type in Rust; a struct that borrows bytes has a lifetime."""
         if name in SIZES or name.startswith("["):
             return name
-        return LENT_IN_RUST.format("'a") if name == LENT else self.struct(name).rust + "<'_>" * self.lends(name)
+        return BORROWED_IN_RUST.format("'a") if name == BORROWED else self.struct(name).rust + "<'_>" * self.borrows(name)
 
-    def lends(self, name: str) -> bool:
-        return name not in SIZES and any(field.type == LENT for field in self.struct(name).fields)
+    def borrows(self, name: str) -> bool:
+        return name not in SIZES and any(field.type == BORROWED for field in self.struct(name).fields)
 
 
 SHAPES = ((r"&mut \[(\w+)\]", FILLED), (r"&mut (\w+)", OUT), (r"&\[(\w+)\]", SLICE), (r"&(\w+)", IN), (r"(\w+)", VALUE))
@@ -61,11 +61,11 @@ def parameter(text: str) -> Parameter:
     raise ValueError(f"{text}: no such type of parameters")
 
 
-def spread(names: list[str], refusals: dict[str, list[str]]) -> tuple[str, ...]:
-    """The statuses of a list, each at its first place; `@NAME` stands for another list."""
+def spread(names: list[str], errors: dict[str, list[str]]) -> tuple[str, ...]:
+    """The statuses of a list, each at its first place; `@NAME` means another list."""
     found = []
     for name in names:
-        found += spread(refusals[name[1:]], refusals) if name.startswith("@") else [name]
+        found += spread(errors[name[1:]], errors) if name.startswith("@") else [name]
     return tuple(dict.fromkeys(found))
 
 
@@ -75,10 +75,20 @@ def read() -> Listed:
         fields = tuple(Field(it["name"], it["type"], it["comment"], it.get("c", it["name"].rstrip("_"))) for it in row["fields"])
         structs.append(Struct(**{"private_fields": False, **row, "fields": fields, "c_type": f"{PREFIX}{row['name']}_t"}))
     for row in table["functions"]:
-        lists = {key: spread(row.get(key, []), table["refusals"]) for key in ("statuses", "item_statuses", "never", "held")}
+        lists = {key: spread(row.get(key, []), table["errors"]) for key in ("statuses", "item_statuses", "never", "held")}
         parameters = tuple(map(parameter, row["parameters"]))
+        on_error = row.pop("on_error", [])
+        parameters = tuple(it._replace(kind=GIVEN) if it.name in on_error else it for it in parameters)
         functions.append(Function(**{**row, **lists, "parameters": parameters, "export": PREFIX + row["name"]}))
     return Listed(tuple(structs), tuple(functions))
+
+
+def template(name: str, **parts: str) -> str:
+    """A text of tools/exports/templates with these parts, which have their names there between two `@`."""
+    text = (ROOT / "tools/exports/templates" / name).read_text(encoding="utf-8")
+    for part, held in parts.items():
+        text = text.replace(f"@{part}@", held)
+    return text
 
 
 def constant(status: str) -> str:

@@ -2,7 +2,7 @@
 # Writes the release folder: the static library that `rt lib` proves, its header, the Rust crate, the Python wheel, the page
 # for browsers, and a Debian package with these and the programs, which `rt ci` has built before.
 #   tools/exports/package.sh [--draft] [FOLDER]    FOLDER is dist where it isn't named; what it held is gone
-# Files that aren't committed are refused but for a draft, whose checksums say so. A draft may take the library from the
+# Files that aren't committed are an error but for a draft, whose checksums say so. A draft may take the library from the
 # folder that XMAS_ELF_ARCHIVE names.
 set -euo pipefail
 cd "$(dirname "$0")/../.."
@@ -55,7 +55,7 @@ cp -r bindings/examples "$dist/"
 cat > "$dist/lib/pkgconfig/xmas_elf.pc" << END
 prefix=\${pcfiledir}/../..
 Name: xmas_elf
-Description: A reader of ELF files whose every answer is proved
+Description: A reader of ELF files whose every result is proved
 Version: $version
 Cflags: -I\${prefix}/include
 Libs: -L\${prefix}/lib -lelf_c

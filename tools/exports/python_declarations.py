@@ -21,37 +21,11 @@ FRONT = {
     "segment": (FILE, ("index", "int", "The index of the segment.")),
     "symbol": NAME,
 }
-HEAD = '''"""The records, exports and statuses of the archive. Written by tools/exports/declarations.py."""
-from __future__ import annotations
-
-from ctypes import {kinds}
-from enum import IntEnum
-from struct import Struct
-from typing import TYPE_CHECKING, Any, Dict, NamedTuple, Optional, Tuple
-
-from .constants import {groups}
-
-if TYPE_CHECKING:
-    from ._file import ElfFile
-
-
-def _document(record: Any, **fields: str) -> None:
-    """Gives the fields the texts that `help` shows."""
-    for name, text in fields.items():
-        getattr(record, name).__doc__ = text
-
-'''
 # The fields whose numbers have names.
 NAMED = {
     ("header", "type"): "ET", ("header", "machine"): "EM", ("header", "os_abi"): "ELFOSABI",
     ("section", "type"): "SHT", ("section", "flags"): "SHF", ("segment", "type"): "PT", ("segment", "flags"): "PF", ("dynamic", "tag"): "DT",
 }
-NUMBERS_HEAD = '''"""Numbers of the ELF standard by their names there. Written by tools/exports/declarations.py.
-
-Each kind of number is a class: `SHT(11)` is `SHT_DYNSYM`, whose `name` is the text `SHT_DYNSYM`, and `SHT["SHT_DYNSYM"]` is
-the number. A number without a name is allowed."""
-from ._numbers import Flags, Number
-'''
 
 
 def doc(text, indent="    "):
@@ -68,11 +42,11 @@ def argument(name, text):
 
 
 def flat(struct, listed):
-    """The letters for `struct`, and the fields with their comments; those of a record within stand in its place."""
+    """The letters for `struct`, and the fields with their comments; those of a record within are in its place."""
     letters, fields = "", []
     for field in struct.fields:
         name = "name_index" if field.name == "name" and field.type in LETTERS else field.c_name
-        if field.type == listing.LENT:
+        if field.type == listing.BORROWED:
             letters += "PN"
             fields += [(name, "int", f"{field.comment} Their address."), (f"{name}_size", "int", "How many they are.")]
         elif array := re.fullmatch(r"\[u8; (\d+)\]", field.type):
@@ -106,7 +80,7 @@ def record(struct, listed):
 
 
 def export(function):
-    """The type of what an export answers, and those of its parameters: a slice is a pointer and a count."""
+    """The type of what an export returns, and those of its parameters: a slice is a pointer and a count."""
     counted = lambda it: ["c_void_p", "c_size_t"] if it.kind in (SLICE, FILLED) else ["c_void_p"]
     kinds = [[KINDS[it.type]] if it.kind == VALUE else counted(it) for it in function.parameters]
     return RESULTS[function.result], [kind for some in kinds for kind in some]
@@ -116,7 +90,7 @@ def statuses(text):
     rows = re.findall(r"/\* (.*?)\. \*/\n\s+XMAS_ELF_(\w+) = (\d+)", text)
     assert len(rows) > 60
     lines = ["", "class Status(IntEnum):", *doc("The status of a call: OK, or an error. The numbers never change."), ""]
-    for comment, name, number in [("No refusal", "OK", "0"), *rows]:
+    for comment, name, number in [("No error", "OK", "0"), *rows]:
         lines += [f"    {name} = {number}", *doc(f"{comment}.")]
     longest = re.search(r"define XMAS_ELF_LONGEST_MESSAGE (\d+)", text)[1]
     return lines + ["", "", "# The size of the longest text of a status, in bytes.", f"LONGEST_MESSAGE = {longest}"]
@@ -125,11 +99,11 @@ def statuses(text):
 def declarations(header):
     listed = listing.read()
     kinds = {kind for function in listed.functions for result, all in [export(function)] for kind in (result, *all)}
-    head = HEAD.replace("{kinds}", ", ".join(sorted(kinds - {"None"})))
-    lines = [head.replace("{groups}", ", ".join(sorted(set(NAMED.values()))))]
+    groups = ", ".join(sorted(set(NAMED.values())))
+    lines = [listing.template("declarations.txt", KINDS=", ".join(sorted(kinds - {"None"})), GROUPS=groups)]
     for struct in listed.structs:
         lines += record(struct, listed)
-    lines += ["", "# What each export answers, and its parameters: a slice is a pointer and a count."]
+    lines += ["", "# What each export returns, and its parameters: a slice is a pointer and a count."]
     lines.append("EXPORTS: Dict[str, Tuple[Any, Tuple[Any, ...]]] = {")
     for function in listed.functions:
         result, kinds = export(function)
@@ -138,7 +112,7 @@ def declarations(header):
 
 
 def constants():
-    lines = [NUMBERS_HEAD]
+    lines = [listing.template("constants.txt")]
     for group, some in itertools.groupby(listing.constants(), lambda it: it.group):
         some = list(some)
         lines += ["", f"class {some[0].prefix}({'Flags' if some[0].is_flag else 'Number'}):", *doc(f"{group}."), ""]

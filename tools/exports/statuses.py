@@ -1,6 +1,6 @@
 """The list of statuses for tools/exports/declarations.py: in bindings/include/xmas_elf.h and bindings/rust/src/error.rs.
 
-The numbers stand in the files of ERRORS. A number never changes: bindings/statuses.txt has each name with its number, and lines are
+The numbers are in the files of ERRORS. A number never changes: bindings/statuses.txt has each name with its number, and lines are
 only added to it. The statuses that bindings/exports.toml lists for each export are compared with the errors that the definitions name
 to which its `ensures` clauses lead (tools/pages/definitions.py). A definition may name an error that the export never returns, since
 another call takes it up (`never` of the list), and the export may return one that a value holds and no definition names (`held`).
@@ -8,7 +8,7 @@ another call takes it up (`never` of the list), and the export may return one th
 import functools
 import re
 
-from listing import ROOT, constant
+from listing import ROOT, constant, template
 from pages import errors
 from pages.definitions import Reader
 
@@ -35,12 +35,12 @@ def statuses():
     """Rows of name, number and text."""
     texts = errors.texts() | dict(matched("crates/elf_c/src/message.rt", r'Refusal::(\w+) => "([^"]*)"'))
     own = [matched(ERRORS["ElfError"], r"(?m)^    (\w+) = (\d+),$"), matched(ERRORS["Refusal"], r"Refusal::(\w+) => (\d+)")]
-    base, refusals = ([(name, int(number), texts[name]) for name, number in some] for some in own)
+    base, own = ([(name, int(number), texts[name]) for name, number in some] for some in own)
     of_library = {}
     for prefix in ("Link", "Load", "Index"):
         found = matched(ERRORS[f"{prefix}Error"], rf'{prefix}Error::(\w+) => \(\s*(\d+),\s*"([^"]*)",?\s*\)')
         of_library[prefix] = [(prefix + name, int(number), text) for name, number, text in found]
-    rows = [*base, *of_library["Link"], *refusals, *of_library["Load"], *of_library["Index"]]
+    rows = [*base, *of_library["Link"], *own, *of_library["Load"], *of_library["Index"]]
     numbers = [number for _, number, _ in rows]
     assert len(set(numbers)) == len(numbers) and 0 not in numbers and len(rows) > 60
     assert {name for name, _, _ in rows} >= set(texts)
@@ -66,20 +66,11 @@ def c_part(rows):
 
 
 def rust_part(rows):
-    lines = ["//! The errors of the archive. Written by tools/exports/declarations.py.", ""]
-    lines += ["/// Why a file, or a part of it, can't be read.", "#[derive(Clone, Copy, Debug, PartialEq, Eq, Hash)]"]
-    lines += ["#[non_exhaustive]", "pub enum Error {"]
-    for name, _, text in rows:
-        lines += [f"    /// {text}.", f"    {name},"]
-    lines += ["    /// A status that this crate doesn't know: the archive is of another version.", "    Unknown(u32),", "}", ""]
-    lines += ["impl Error {", "    /// The error with this number, which isn't 0."]
-    lines += ["    pub(crate) fn of(status: u32) -> Error {", "        match status {"]
-    lines += [f"            {number} => Error::{name}," for name, number, _ in rows]
-    lines += ["            other => Error::Unknown(other),", "        }", "    }", ""]
-    lines += ["    /// The number of the error.", "    pub fn status(&self) -> u32 {", "        match self {"]
-    lines += [f"            Error::{name} => {number}," for name, number, _ in rows]
-    lines += ["            Error::Unknown(status) => *status,", "        }", "    }", "}", ""]
-    return lines + ["// How many bytes the longest text has.", f"pub(crate) const LONGEST: usize = {longest(rows)};"]
+    lines = {
+        "VARIANTS": [f"    /// {text}.\n    {name}," for name, _, text in rows],
+        "ERRORS": [f"            {number} => Error::{name}," for name, number, _ in rows],
+        "NUMBERS": [f"            Error::{name} => {number}," for name, number, _ in rows]}
+    return template("error.rs", LONGEST=str(longest(rows)), **{part: "\n".join(held) for part, held in lines.items()})
 
 
 @functools.cache

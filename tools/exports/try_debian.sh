@@ -16,7 +16,7 @@ inside() { /usr/sbin/chroot "$root" /usr/bin/env -i PATH=/usr/sbin:/usr/bin:/sbi
 inside apt-get install -y -qq /tmp/xmas-elf.deb > /dev/null
 for name in gcc cc cargo rt; do ! inside sh -c "command -v $name" > /dev/null || { echo "$name is in the root" >&2; exit 1; }; done
 
-for name in elfaddr elfbind elfinfo elfload elfsize elfsym; do
+for name in elfaddr elfbind elfinfo elfload elfsize elfsym elftree; do
     inside "$name" --version
     inside man -P cat "$name" | grep -q "EXIT STATUS" || { echo "no page of $name" >&2; exit 1; }
 done

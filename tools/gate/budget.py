@@ -36,7 +36,7 @@ SMALL = 120  # seconds: parts that take less have one row together
 
 TOOK = re.compile(r"^-- (.+): (\d+) s, (\d+) processor s$", re.M)
 PART = re.compile(r"^--   (proof|tests|must-fail|batches|rest) of (\S+): (\d+) processor s$", re.M)
-BATCHES = re.compile(r"^([\w-]+|the crates as they stand): (\d+) processor seconds$", re.M)
+BATCHES = re.compile(r"^([\w-]+|the crates as they are): (\d+) processor seconds$", re.M)
 PAGES = re.compile(r"^-- huge pages: (\w+)$", re.M)
 LOOP = re.compile(r"^--   a loop: ([\d.]+) ms in (\d+) times, ([\d.]+) at best$", re.M)
 DONE = re.compile(r"done in this run: (\d+ of the \d+) proofs")
@@ -146,7 +146,7 @@ def parts_of(output: str) -> tuple:
         cells[name][kind] += int(seconds)
     sums = [sum(cells[name][kind] for name in cells) for kind in KINDS]
     rows = {name: [*(cells[name][kind] for kind in KINDS), 0] for name in cells}
-    # What stands in no row of a crate: the scripts, and of the two watched parts what is left.
+    # What is in no row of a crate: the scripts, and of the two watched parts what is left.
     for what, _, seconds in TOOK.findall(output):
         is_batches = what.startswith("tools/gate/wrong_bodies.py --gate")
         own = sum(sums[:3]) if what == "rt ci" else sums[3] if is_batches else 0
@@ -186,7 +186,7 @@ def measured(output: str) -> str:
 def write(paths) -> int:
     output = "\n".join(pathlib.Path(it).read_text(encoding="utf-8", errors="replace") for it in paths)
     if not TOOK.search(output):
-        print(f"{', '.join(paths)}: no part of the gate stands there")
+        print(f"{', '.join(paths)}: no part of the gate is there")
         return 1
     README.write_text(NAMED_KIT.sub(lambda _: kit_of(output), README.read_text(encoding="utf-8")), encoding="utf-8")
     page = PAGE.read_text(encoding="utf-8")

@@ -18,9 +18,9 @@ from pages.sources import Crate, Function
 # The edits of one batch share what a check costs before the first goal. With more the check takes too long (LIMIT).
 BATCH = 60
 
-# Lines of a check: a goal that is open, and an answer to one that doesn't hold.
+# Lines of a check: a goal that is open, and what is said of one that doesn't hold.
 NOTE = re.compile(r"note: (?:\./)?(src/\S+?):(\d+):\d+: it is not proved that (.*)")
-ANSWER = re.compile(r"(?:\./)?proofs/(\S+)/\w+\.antt:\d+:\d+: error: (.*)")
+SAID = re.compile(r"(?:\./)?proofs/(\S+)/\w+\.antt:\d+:\d+: error: (.*)")
 # A proof that only cites a name which the edit took away says nothing of the contract.
 LOST = re.compile(r"has no field|is not in scope|has no `|was not admitted")
 CLAUSE = re.compile(r"( +)(ensures|requires)(?: (\w+))? \{")
@@ -29,7 +29,7 @@ LIMIT, LIMIT_OF_WHOLE = 480, 1800
 
 # What is said of a goal of a contract or of an invariant.
 CONTRACT = re.compile(r"what the function ensures|the invariant of the loop|the loop's invariant")
-# A refused line in a function's proof: where there is one, the check doesn't print the goals of the function that stay
+# A line with an error in a function's proof: where there is one, the check doesn't print the goals of the function that stay
 # open, which takes as long as it took to find them. That they are open is told all the same.
 UNPRINTED = "\nunprinted : ⊥\nunprinted = tt\n"
 # Lines of a check: an error of the front end, the last one, and a name that it doesn't know.
@@ -37,7 +37,7 @@ FAULT = re.compile(r"(?:\./)?(src/\S+?):(\d+):\d+: error")
 REACHED = re.compile(r"^(?:logic=(proved|not-proved)|only=\d+ (?:proved|holes)=\d+$)", re.M)
 NO_FUNCTION = re.compile(r"^rattle: error: `\w+` has no function `(\S+)`", re.M)
 # The hole that the proofs of all stand-ins rest on, one of these proofs.
-UNPROVED = """-- Stands for the proofs of functions that aren't tried.
+UNPROVED = """-- In place of the proofs of functions that aren't tried.
 pub any : {A : Type 2} → A
 any = ?
 """
@@ -51,8 +51,8 @@ pub {name}_spec : {{M : Type 1}} → statement M
 
 @dataclasses.dataclass
 class Edit:
-    """A wrong body: which texts of which files it changes, the functions that these stand in, why it can't be tried, whether each
-    changed line stands in a function's body, where no other function sees it, and the clause that it breaks, if it names one."""
+    """A wrong body: which texts of which files it changes, the functions that these are in, why it can't be tried, whether each
+    changed line is in a function's body, where no other function sees it, and the clause that it breaks, if it names one."""
 
     crate: str
     name: str
@@ -66,7 +66,7 @@ class Edit:
         return f"{self.crate}/{self.name}"
 
     def beside(self):
-        """The one function that it changes, if its wrong body can stand beside the right one; else None."""
+        """The one function that it changes, if its wrong body can be beside the right one; else None."""
         one = next(iter(self.functions)) if len(self.functions) == 1 else None
         return one if one and not one.in_trait and all(file == one.file for file, _, _ in self.changes) else None
 
@@ -120,7 +120,7 @@ class EditedCrate(Crate):
         for file, old, new in edit.changes:
             text = texts.get(file, self.texts.get(file, ""))
             if text.count(old) != 1:
-                raise ValueError(f"the old text stands {text.count(old)} times in {file}")
+                raise ValueError(f"the old text is there {text.count(old)} times in {file}")
             texts[file] = text.replace(old, new)
         pairs = [(file, enumerate(zip(text.split("\n"), self.texts[file].split("\n")))) for file, text in texts.items()]
         return {(file, at): line for file, lines in pairs for at, (line, before) in lines if line != before}
@@ -146,7 +146,7 @@ class EditedCrate(Crate):
         name, lines = f"{one.name()}_wrong{number}", self.texts[one.file].split("\n")
         text = "\n".join(changed.get((one.file, at), lines[at]) for at in range(one.first - 1, one.last))
         text = re.sub(rf"\bfn {one.name()}\b", f"fn {name}", text, count=1)
-        # The right body may stand behind the wrong one, under a name that another edit gives it too.
+        # The right body may come after the wrong one, under a name that another edit gives it too.
         text = re.sub(r"\bfn (right_\w+)", rf"fn \1_{number}", text)
         lines = [it for it in text.split("\n") if not it.lstrip().startswith("///")]
         return name, only_clause(lines, edit.clause) if edit.clause and edit.inside else lines
@@ -181,8 +181,8 @@ class EditedCrate(Crate):
 
 
 class Tried(collections.namedtuple("Tried", "crate texts functions of copies in_place")):
-    """A crate with edits made: the files that changed, the functions where they stand there, those by which each edit is
-    judged, of the wrong ones that stand beside a right one, that one, and those that are edited in place of a stand-in."""
+    """A crate with edits made: the files that changed, the functions where they are there, those by which each edit is
+    judged, of the wrong ones that are beside a right one, that one, and those that are edited in place of a stand-in."""
 
     function_at = Crate.function_at
 
@@ -192,15 +192,15 @@ class Tried(collections.namedtuple("Tried", "crate texts functions of copies in_
         goals = {}
         # What is said of a proof may go on in indented lines.
         for line in re.sub(r"\n {2,}(?=\S)", " ", said).split("\n"):
-            note, answer = NOTE.match(line), ANSWER.match(line)
+            note, found = NOTE.match(line), SAID.match(line)
             if note:
                 goals.setdefault(self.function_at(note[1], int(note[2])), []).append(note[3])
-            elif answer and not LOST.search(answer[2]) and not answer[2].startswith("`unprinted`"):
-                # The proof of a closure stands below its function's, under `fn`.
-                parts = [it for it in answer[1].split("/") if it != "fn"]
+            elif found and not LOST.search(found[2]) and not found[2].startswith("`unprinted`"):
+                # The proof of a closure is below its function's, under `fn`.
+                parts = [it for it in found[1].split("/") if it != "fn"]
                 paths = ("::".join(parts[:end]) for end in range(len(parts), 0, -1))
                 one = next((by_path[it] for it in paths if it in by_path), None)
-                goals.setdefault(one, []).append(f"what the function ensures: {answer[2]}")
+                goals.setdefault(one, []).append(f"what the function ensures: {found[2]}")
         return goals
 
 
@@ -282,7 +282,7 @@ def written(file: pathlib.Path, text: str):
 
 class Room:
     """A copy of the repository in which one crate is changed and checked again and again: with stand-ins for all
-    functions that aren't tried, or as it stands."""
+    functions that aren't tried, or as it is."""
 
     def __init__(self, root: pathlib.Path, crate: EditedCrate, below, place: pathlib.Path, kept=None, whole=False):
         self.root, self.crate, self.below, self.is_whole = root, crate, below, whole
@@ -411,13 +411,13 @@ class Room:
         return parts if all(parts) else [edits[::2], edits[1::2]]
 
     def judge(self, edits) -> list:
-        """Each edit with the goal for which it is refused, or with none and a fault."""
+        """Each edit with the goal for which it is rejected, or with none and a fault."""
         tried = self.crate.tried(edits, self.is_whole)
         functions = {one for some in tried.of.values() for one in some}
         ran = self.check(tried, [] if self.is_whole else functions - {None})
         reached, goals = ran.reached(), tried.goals(ran.said)
         if not self.is_whole and len(edits) == 1 and (None in functions or reached and not goals):
-            # A line that stands in no function, as a constant's, and what a function does for others, may be refused there.
+            # A line that is in no function, as a constant's, and what a function does for others, may be rejected there.
             place = self.folder.parent.parent / "whole"
             shutil.rmtree(place, ignore_errors=True)
             whole = Room(self.root, self.crate, self.below, place, self.crate.folder / "out" / "incremental", whole=True)

@@ -40,7 +40,6 @@ bring() {
     return 1
 }
 
-# A program, its packages, whether the gate can't do without it (`wished`: it can, and root installs it), and what calls it.
 while IFS='|' read -r program packages kind for; do
     older=""
     [ "$program" != cargo ] || older=" with Rust $rust or newer"
@@ -54,25 +53,5 @@ while IFS='|' read -r program packages kind for; do
     else
         echo "$program: missing, of the Debian package ${packages//\// or }; without it is left out: $for"
     fi
-done << 'END'
-python3|python3|needed|the scripts of tools
-git|git|needed|tools/gate/wrong_bodies.py
-gcc|gcc libc6-dev|needed|tools/exports/bindings.sh, tools/gate/little_memory.py
-cc|gcc|needed|tools/web/records.py
-g++|g++|needed|tools/exports/bindings.sh, the header as C++
-cargo|cargo/cargo-web rustc-web|needed|tools/exports/bindings.sh, the Rust crate
-readelf|binutils|needed|tools/exports/bindings.sh, tools/compare
-llvm-readelf|llvm|needed|tools/compare
-setpriv|util-linux|needed|rt ci, which runs programs as nobody
-clang|clang|optional|C by a second compiler, objects for WebAssembly
-valgrind|valgrind|optional|bench/instructions.py, tools/exports/bindings.sh --valgrind
-node|nodejs|optional|checks of the page outside of a browser
-chromedriver|chromium-driver chromium|optional|tools/web/web.sh --test
-checksec|checksec|optional|tools/compare/hardening.py
-pkg-config|pkg-config|optional|tools/exports/try_package.sh, the commands with pkg-config
-Python's ensurepip|python3-venv|needed|tools/exports/try_package.sh, the Python wheel
-Python's pytest|python3-pytest|wished|tools/exports/python.sh
-Python's elftools|python3-pyelftools|wished|tools/exports/python.sh
-Python's selenium|python3-selenium|wished|tools/web/web.sh --test
-END
+done < <(grep -v "^#" "$(dirname "$0")/packages.txt")
 exit $((missing > 0))

@@ -3,7 +3,7 @@
 
     tools/gate/program_ends.py [PROGRAM..]     at the top of the repository, once they are built; or of other builds of them
 
-Each build runs on files that are good, refused, missing or unreadable, and into outputs that fail. elfsym must also write names of any
+Each build runs on files that are good, with an error, missing or unreadable, and into outputs that fail. elfsym must also write names of any
 bytes with the escapes of `readelf`, and elfnm as they are.
 """
 import os
@@ -17,7 +17,8 @@ import tempfile
 
 TOP = pathlib.Path(__file__).resolve().parents[2]
 CRATES = TOP / "crates"
-sys.path.insert(0, str(TOP / "oracle"))
+sys.path[:0] = [str(TOP / "oracle"), str(TOP / "tools/compare")]
+from differences import difference
 from wanted.files import debug_link, hash_file
 from wanted.reports import DEBUG_LINK_HEADER, DEBUG_LINK_SECTIONS, HASH_HEADER, report_text
 
@@ -35,7 +36,7 @@ def expected(name: str) -> str:
 STRTAB, REPORT = data("elfinfo/data/strtab.elf"), data("elfinfo/stdout")
 LINKED, SYMBOLS = data("elfsym/data/versions.so"), data("elfsym/stdout")
 # A shared object that needs a library, without section headers: that of `worked_files::linked::small`, where its source and
-# its command stand.
+# its command are.
 NEEDS = data("elfsym/data/needs.so")
 PLACES, SIZES = data("elfaddr/data/places.so"), data("elfsize/stdout")
 PLACES_SIZES = SIZES[: SIZES.index(b"counter\n")]
@@ -52,8 +53,8 @@ VERSION = re.search(r'^version = "(.*)"', (TOP / "bindings/rust/Cargo.toml").rea
 # A program as LLVM builds it, and as Rattle's own compiler does.
 BUILDS = ("", ".by-rattle")
 
-# The place of a byte of NEEDS, what is put there, and why it is refused then.
-NEEDS_REFUSALS = (
+# The place of a byte of NEEDS, what is put there, and the error then.
+NEEDS_ERRORS = (
     (0, 0, "Did not find ELF magic number"), (64 + 112, 4, "No dynamic segment"), (64, 4, "Address is in no loaded segment"),
     (0x250 + 48, 3, "Dynamic segment has no such entry"), (0x128, 5, "Chain index is out of range"),
 )
@@ -98,7 +99,7 @@ FILES = {
     "both.so": with_number(PLACES, 0x260, 16, 0x2C0 << 64 | 4),
     # The versions with a record of their definitions that leads out of its segment.
     "cut.so": with_number(LINKED, 0x238 + 16, 1, 0xFF),
-    **{f"damaged-{place}.so": with_number(NEEDS, place, 1, byte) for place, byte, _ in NEEDS_REFUSALS},
+    **{f"damaged-{place}.so": with_number(NEEDS, place, 1, byte) for place, byte, _ in NEEDS_ERRORS},
     **{name: data(f"elfbind/data/{name}") for name in f"{WIDE_BOUND} {NARROW_BOUND}".split()},
     # A program and its library, as crates/elfload/data/make.sh makes them, and copies with other numbers in some places.
     "counter": COUNTER, "library.so": data("elfload/data/library.so"),
@@ -109,7 +110,7 @@ FILES = {
     "relro.elf": with_number(COUNTER, 64 + 7 * 56 + 40, 8, 0x153),
     "word.elf": with_number(COUNTER, 0x288, 8, 0x200)}
 
-# What is said of an argument that can't be read, whatever the program, and of two files that are refused.
+# What is said of an argument that can't be read, whatever the program, and of two files with errors.
 UNREAD = {
     "a missing path": "missing.elf", "a folder": "folder", "a file whose read fails": "/proc/self/mem", "a path like an option": "-h"}
 SHORT, NO_MAGIC = "File is shorter than the first ELF header part", "Did not find ELF magic number"
@@ -128,9 +129,10 @@ class Program:
         self.fails({
             "a path that is not UTF-8": ([NOT_UTF8, *words], "cannot read the arguments"),
             "an empty file": (["empty.elf", *words], path_of("empty.elf") + SHORT),
-            "a refused file": (["zeros.elf", *words], path_of("zeros.elf") + NO_MAGIC)})
+            "a file with an error": (["zeros.elf", *words], path_of("zeros.elf") + NO_MAGIC)})
         self.prints({
             "its version": ("--version", f"{name} {VERSION}\n"),
+            "help": ("--help", self.usage + re.search(r'const HELP: &str =\s+"([^"]*)";', data(f"{name}/src/main.rt").decode())[1] + "\n"),
             "a good file": (good, output),
             "a good file through a pipe": (["/dev/stdin", *good[1:]], output.replace(good[0].encode(), b"/dev/stdin"))})
 
@@ -158,10 +160,10 @@ class Program:
         return f"{self.name}: cannot write\n".encode()
 
 
-def damaged(words: str, refusals) -> dict:
-    """Ends with the reason why a file with another byte is refused."""
+def damaged(words: str, errors) -> dict:
+    """Ends with the reason why a file with another byte has an error."""
     return {f"a file with another byte at {place}": (f"damaged-{place}.so {words}", f"damaged-{place}.so: {reason}")
-            for place, _, reason in refusals}
+            for place, _, reason in errors}
 
 
 INFO = Program("elfinfo", "elfinfo <binary_path>", [], ["strtab.elf"], REPORT, STRTAB)
@@ -170,10 +172,7 @@ HASH_SECTIONS = "1 Ok(StrTab) = .strtab\n2 Ok(Hash) = ab\n3 Ok(SymTab) = ab\n"
 INFO.prints({
     "a file with a link": ("link.elf", report_text(DEBUG_LINK_HEADER, "ok", DEBUG_LINK_SECTIONS)),
     "a file with a hash table": ("hash.elf", report_text(HASH_HEADER, "ok", HASH_SECTIONS, "", "ok")),
-    "further arguments": ("strtab.elf missing.elf", REPORT),
-    "help": ("--help", """usage: elfinfo <binary_path>
-Prints the header, the sections and the program headers of a file, and checks its hash table.
-""")})
+    "further arguments": ("strtab.elf missing.elf", REPORT)})
 
 ASKED = data("elfsym/args").decode().split()[1:]
 SYM = Program(
@@ -186,7 +185,7 @@ SYM.fails({
     "a file without a dynamic segment": ("strtab.elf ab", "strtab.elf: No dynamic segment"),
     "a version of a file whose definitions are cut": ("cut.so ab@V1", "cut.so: Version record is cut off"),
     "a missing path whose libraries are asked for": ("--needed missing.so", "cannot read missing.so"),
-    **damaged("ab cd outer ef", NEEDS_REFUSALS)})
+    **damaged("ab cd outer ef", NEEDS_ERRORS)})
 # The values and sizes are those that `readelf --dyn-syms -W` shows.
 SYM.prints({
     "a good file that needs no library": ("--needed stripped.so", ""),
@@ -196,15 +195,11 @@ SYM.prints({
     "a second at": ("linked.so ab@@V2 ab@ @V1", "ab@@V2: none\nab@: none\n@V1: none\n"),
     "a name of a file whose definitions are cut": ("cut.so ab", "ab 0x2f6 0x6\n"),
     "names of a file that needs a library": ("needs.so ab cd outer ef", "ab 0x230 0xa\ncd 0x240 0x3\nouter: none\nef 0x23a 0x6\n"),
-    "a name like an option": ("linked.so --needed", "--needed: none\n"),
-    "help": ("--help", f"""{SYM.usage}Prints the value and the size of the symbol that dlsym finds by each name in the dynamic segment of
-a file, and by a name and a version what dlvsym finds.
---needed  the names of the libraries that the file needs instead
-""")})
+    "a name like an option": ("linked.so --needed", "--needed: none\n")})
 
 # What crates/elfaddr/data/places.s says of these addresses.
 ADDR = Program(
-    "elfaddr", "elfaddr [--dynamic | --dladdr] <binary_path> (<address>.. | -)", ["0"],
+    "elfaddr", "elfaddr --stack | [--dynamic | --dladdr] <binary_path> (<address>.. | -)", ["0"],
     ["places.so", "206", "0x208", "20A", "20c", "20f", "2c8"], b"outer+0x0\ninner+0x0\nouter+0x4\nlabel+0x0\n?\n.data+0x8\n", PLACES)
 ADDR.misused({
     "no address": "places.so", "a word that is no address": "places.so 206 main", "an option without a path": "--dladdr",
@@ -218,23 +213,55 @@ ADDR.prints({
     "what dladdr finds by GNU's of two tables": ("--dladdr both.so 20a 20c 20d", "outer+0x4\n.text+0x6\nalias+0x0\n"),
     "sections of other types": ("types.so 120 2c8", ".gnu.hash+0x0\n.data+0x8\n"),
     "a file without section headers": ("needs.so 230 243", "ab+0x0\n?\n"),
-    "what dladdr finds in a file without section headers": ("--dladdr needs.so 242 243", "cd+0x2\n?\n"),
-    "help": ("--help", f"""{ADDR.usage}Prints the symbol that each address of a file is in, and the offset there; otherwise the section.
-Addresses are in hexadecimal; - reads them from standard input, one on a line.
---dynamic  by the dynamic symbols, also if the file has a symbol table
---dladdr   by the symbols that dladdr finds
-""")})
-ADDR.fails({"a file without symbols": ("strtab.elf 0", "strtab.elf: No dynamic segment"), **damaged("0", NEEDS_REFUSALS[:-1])})
+    "what dladdr finds in a file without section headers": ("--dladdr needs.so 242 243", "cd+0x2\n?\n")})
+ADDR.misused({"a stack with a file": "--stack places.so"})
+# Lines of a stack, and what becomes of each.
+STACK = {
+    b"places.so(+0x206) [0x7f0206]\n": b"places.so(outer+0x0) [0x7f0206]\n", b"places.so 0x208\n": b"places.so inner+0x0\n",
+    **{line: line for line in (
+        b"places.so(outer+0x4) [0x1]\n", b"places.so(+0x20f) [0x1]\n", b"missing.so(+0x206) [0x1]\n", b"zeros.elf 0x0\n", b"\n",
+        b"text (in parentheses) and a number 206\n", b"\xff(+0x206)\n", b"places.so(+0x10000000000000000)\n", b"places.so(+0x)\n")},
+    b"./places.so(+0x2c8)\x01\n": b"./places.so(.data+0x8)\x01\n", b"places.so(+20a)": b"places.so(outer+0x4)"}
+ADDR.fails({"a file without symbols": ("strtab.elf 0", "strtab.elf: No dynamic segment"), **damaged("0", NEEDS_ERRORS[:-1])})
+
+# What is said of the options of a search for libraries.
+SEARCH_USAGE, SEARCH_HELP = "[--root DIR] [--library-path LIST] [--cache FILE | --no-cache]", """\
+--root DIR           the program and its libraries are under DIR, the root of another system
+--library-path LIST  the value of LD_LIBRARY_PATH
+--cache FILE         another cache than /etc/ld.so.cache
+--no-cache           no cache
+"""
+
+
+def in_folder(text):
+    """An output for a list of files where they are found in the folder of the program."""
+    return text.replace("libfirst.so", "./libfirst.so").replace("libsecond.so", "./libsecond.so")
+
+
+def finds(program: Program, output: str, missing):
+    """Ends of a program that finds the libraries of a file: as for the list of files, or with one that is missing."""
+    program.misused({
+        "no file alone": "--alone", "two files alone": "--alone caller libfirst.so", "no root": "--root", "no file in a root": "--root .",
+        "an option of the search before two files": "--no-cache caller libfirst.so", "another option": "--loan caller"})
+    program.fails({
+        "an empty file": ("empty.elf", "empty.elf: file too short"), "a file with an error": ("zeros.elf", "zeros.elf: file too short"),
+        "a file with an error alone": ("--alone zeros.elf", f"zeros.elf: {NO_MAGIC}"),
+        "a missing file alone": ("--alone missing.elf", "cannot read missing.elf"),
+        "a missing cache": ("--cache missing counter", "cannot read missing")})
+    program.prints({"libraries that are found": ("--no-cache --library-path .:folder caller", in_folder(output))})
+    program.add("a missing library", "--no-cache counter", 1, missing, f"{program.name}: counter: library.so not found\n")
+
 
 BIND = Program(
-    "elfbind", "elfbind [--unresolved | --check] <binary_path>..", [], WIDE_BOUND.split(), data("elfbind/stdout"),
-    data("elfbind/data/caller"))
+    "elfbind", f"elfbind [--unresolved | --check] [--alone | {SEARCH_USAGE}] <binary_path>..", [], WIDE_BOUND.split(),
+    data("elfbind/stdout"), data("elfbind/data/caller"))
 CHAINED = f"damaged-{0x128}.so"
+finds(BIND, data("elfbind/stdout").decode(), "counter shared -> unresolved\n")
 BIND.misused({"no file to check": "--check", "no file for what is unresolved": "--unresolved"})
 BIND.fails({
     "a missing second file": ("caller missing.so", "cannot read missing.so"),
-    "a refused second file": ("caller zeros.elf", f"zeros.elf: {NO_MAGIC}"),
-    "a refused first file": ("zeros.elf caller", f"zeros.elf: {NO_MAGIC}"),
+    "a second file with an error": ("caller zeros.elf", f"zeros.elf: {NO_MAGIC}"),
+    "a first file with an error": ("zeros.elf caller", f"zeros.elf: {NO_MAGIC}"),
     "a file without a dynamic segment": ("caller link.elf", "link.elf: No dynamic segment"),
     "files of both classes": ("caller libfirst_32.so", "libfirst_32.so: Class is neither 1 nor 2"),
     "a hash table that fails its check": (f"caller {CHAINED}", f"{CHAINED}: Chain index is out of range"),
@@ -244,21 +271,18 @@ BIND.prints({
     "a program and two libraries of class 32": (NARROW_BOUND, data("elfbind/data/bound_32.txt")),
     "files of which nothing is missing": (f"--unresolved {WIDE_BOUND}", ""),
     "good files to check": ("--check caller libfirst.so", "caller: ok\nlibfirst.so: ok\n"),
-    "help": ("--help", f"""{BIND.usage}Prints the symbol that each reference of a program and its libraries gets, and its file. The files are
-in the order in which names are looked up.
---unresolved  only the references that are missing their symbols
---check       whether the hash table and the versions of each file pass their checks instead
-""")})
+    "libraries to check that are found": ("--check --library-path . caller", "caller: ok\n./libfirst.so: ok\n./libsecond.so: ok\n"),
+    "libraries that are found, of which nothing is missing": ("--unresolved --library-path . caller", "")})
 # All but `absent`, which is weak, are missing in the library by itself.
 UNBOUND = "static_thread absent taken shared shared version taken per_thread".split()
 BIND.add("references that get no symbol", "libsecond.so", 1, "libsecond.so only -> libsecond.so 0x16d0\n" + "".join(
     f"libsecond.so {name} -> unresolved{' (weak)' * (name == 'absent')}\n" for name in UNBOUND))
-BIND.add("only those that are missing", "--unresolved libsecond.so", 1, "".join(
+BIND.add("only those that are missing", "--unresolved --alone libsecond.so", 1, "".join(
     f"libsecond.so {name} -> unresolved\n" for name in UNBOUND if name != "absent"))
 BIND.add("such a table to check", f"--check {CHAINED} caller", 1, f"{CHAINED}: Chain index is out of range\ncaller: ok\n")
-BIND.add("such definitions to check", "--check cut.so", 1, "cut.so: Version record is cut off\n")
+BIND.add("such definitions to check", "--check --alone cut.so", 1, "cut.so: Version record is cut off\n")
 
-LOAD_USAGE = "elfload [--lazy] [--page <size>] <binary_path>.."
+LOAD_USAGE = f"elfload [--lazy] [--page <size>] [--alone | {SEARCH_USAGE}] <binary_path>.."
 PLANS_ALONE = PLANS[: PLANS.index(b"words ")]
 # In pages of 16 KB the library takes more room, and its parts lie in others.
 LIBRARY_HEAD = PLANS[PLANS.index(b"library.so\n") : PLANS.rindex(b"kernel\n")]
@@ -271,56 +295,49 @@ LIBRARY_WORDS = PLANS[PLANS.index(b"words library.so\n") :].replace(b"base(1)", 
 # and by the symbols in crates/elfbind/stdout. Lazy slots hold the word in the file. The program of class 32 is alone.
 BOUND, BOUND_LAZY, NARROW_PLAN = expected("bound"), expected("bound_lazy"), expected("narrow")
 CALLER_PLAN = BOUND[: BOUND.index("libfirst.so\n")]
-LOAD_HELP = f"""usage: {LOAD_USAGE}
-Prints the header of each file, what else a loader asks for, and what Linux (kernel) and glibc map;
-then, if each has a dynamic segment, what relocations write, for a program and its libraries in the order in which they are loaded.
---lazy         jump slots get their symbols when they are called first
---page <size>  the size of a page in bytes, a power of two; 4096 without it
-"""
-LOAD = Program("elfload", LOAD_USAGE, [], ["counter"], COUNTER_ALONE, COUNTER)
+LOAD = Program("elfload", LOAD_USAGE, [], ["counter", "library.so"], PLANS, COUNTER)
+finds(LOAD, BOUND, COUNTER_ALONE)
 LOAD.misused({
     "no size of a page": "--page", "no file after a size": "--page 4096", "a size that is zero": "--page 0 counter",
     "no file after a word": "--lazy",
     "a size that is no power of two": "--page 4097 counter", "a size that is no number": "--page 0x1000 counter"})
 LOAD.prints({
-    "help": ("--help", LOAD_HELP), "two files": ("counter library.so", PLANS),
+    "a file alone": ("--alone counter", COUNTER_ALONE),
     "words of a program and its libraries": (WIDE_BOUND, BOUND),
     "words with lazy slots": (f"--lazy {WIDE_BOUND}", BOUND_LAZY),
+    "lazy slots with libraries that are found": ("--lazy --page 4096 --library-path . caller", in_folder(BOUND_LAZY)),
     "slots of files that ask for their symbols at once": ("--lazy --page 4096 counter library.so", PLANS),
     "a file without a whole page that is read-only after relocation": (
-        "relro.elf", COUNTER_ALONE.replace(b"counter", b"relro.elf").replace(b"relro 1000-2000", b"relro none")),
+        "--alone relro.elf", COUNTER_ALONE.replace(b"counter", b"relro.elf").replace(b"relro 1000-2000", b"relro none")),
     "a file without a dynamic segment": ("counter static.elf", COUNTER_PLAN + COUNTER_PLAN.replace(b"counter", b"static.elf")),
-    "pages of 16 kb": ("--page 16384 library.so", PAGES_HEAD + b"kernel\n" + PAGES_MAPS + b"glibc\n" + PAGES_MAPS + LIBRARY_WORDS)})
+    "pages of 16 kb": ("--page 16384 --alone library.so", PAGES_HEAD + b"kernel\n" + PAGES_MAPS + b"glibc\n" + PAGES_MAPS + LIBRARY_WORDS)})
 LOAD.fails({
     "a missing second file": ("counter missing.so", "cannot read missing.so"),
     "pages larger than a file is linked for": (
-        "--page 16384 counter", "counter: Address and offset of a load segment differ modulo the page size"),
-    "a machine without a limit": ("arm.elf", "arm.elf: Limit of addresses is not known for this machine"),
-    "a file that is no program": ("type.elf", "type.elf: Type is neither executable nor shared object"),
-    "a long path of an interpreter": ("interpreter.elf", "interpreter.elf: Path of the interpreter is not valid"),
-    "zeros that cannot be written": ("shut.elf", "shut.elf: Load segment has zeros but is not readable and writable")})
-LOAD.add("a refused file between others", "counter zeros.elf library.so", 1, PLANS_ALONE, f"elfload: zeros.elf: {NO_MAGIC}\n")
+        "--page 16384 --alone counter", "counter: Address and offset of a load segment differ modulo the page size"),
+    "a machine without a limit": ("--alone arm.elf", "arm.elf: Limit of addresses is not known for this machine"),
+    "a file that is no program": ("--alone type.elf", "type.elf: Type is neither executable nor shared object"),
+    "a long path of an interpreter": ("--alone interpreter.elf", "interpreter.elf: Path of the interpreter is not valid"),
+    "zeros that cannot be written": ("--alone shut.elf", "shut.elf: Load segment has zeros but is not readable and writable")})
+LOAD.add("a file with an error between others", "counter zeros.elf library.so", 1, PLANS_ALONE, f"elfload: zeros.elf: {NO_MAGIC}\n")
 LOAD.add("files of both classes", "caller caller_32", 1, CALLER_PLAN + NARROW_PLAN, "elfload: caller_32: Class is neither 1 nor 2\n")
 # Its slot has a type that AArch64 does not have.
-LOAD.add("a file for aarch64", "aarch64.elf", 1, COUNTER_PLAN.replace(b"counter", b"aarch64.elf").replace(b"machine 62", b"machine 183"),
+LOAD.add("a file for aarch64", "--alone aarch64.elf", 1, COUNTER_PLAN.replace(b"counter", b"aarch64.elf").replace(b"machine 62", b"machine 183"),
     "elfload: aarch64.elf: Type of a relocation is not supported\n")
-LOAD.add("a word in pages that cannot be written", "word.elf", 1, COUNTER_PLAN.replace(b"counter", b"word.elf"),
+LOAD.add("a word in pages that cannot be written", "--alone word.elf", 1, COUNTER_PLAN.replace(b"counter", b"word.elf"),
     "elfload: word.elf: Word is in a load segment that is not writable\n")
 
-SIZE_USAGE = "elfsize [--segments | --symbols] <binary_path>.."
-SIZE_HELP = f"""usage: {SIZE_USAGE}
-Prints how many bytes of each file belong to which part, the largest first;
-after more than one file the bytes of all by kind of part.
---segments  as if the file had no sections
---symbols   bytes in sections by symbol; the line of a section is for the bytes in no symbol
-"""
 # places.so without its section headers, by what `readelf -lW` shows of its segments; the same with the bytes of sections by symbol,
 # by `readelf -SW` and `-sW`: `alias` has the range of `last`; and a file whose section headers are cut off, by `readelf -hlW`.
 PLACES_SEGMENTS, PLACES_SYMBOLS, SHORT_SIZES = expected("places_segments"), expected("places_symbols"), expected("short")
-SIZE = Program("elfsize", SIZE_USAGE, [], ["places.so"], PLACES_SIZES, PLACES)
-SIZE.misused({"segments of no file": "--segments", "symbols of no file": "--symbols"})
+SIZE = Program(
+    "elfsize", "elfsize [--diff [--fail-above BYTES]] [--segments | --symbols] <binary_path>..", [], ["places.so"], PLACES_SIZES, PLACES)
+SIZE.misused({
+    "segments of no file": "--segments", "symbols of no file": "--symbols", "the difference of one file": "--diff places.so",
+    "the difference of three": "--diff places.so places.so places.so",
+    "a limit that is no number": "--diff --fail-above x places.so places.so", "no limit": "--diff --fail-above"})
 SIZE.prints({
-    "help": ("--help", SIZE_HELP), "two files": ("places.so counter", SIZES), "segments": ("--segments places.so", PLACES_SEGMENTS),
+    "two files": ("places.so counter", SIZES), "segments": ("--segments places.so", PLACES_SEGMENTS),
     "symbols": ("--symbols places.so", PLACES_SYMBOLS),
     "symbols of a file without them": ("--symbols counter", COUNTER_SIZES),
     "section headers that are cut off": ("short.so", SHORT_SIZES),
@@ -331,9 +348,39 @@ SIZE.prints({
     "a file of class 32": (
         "strtab.elf", "strtab.elf\n80 55.55% section headers\n52 36.11% ELF header\n12 8.33% section 1 .strtab\n144 100.00% sum\n")})
 SIZE.fails({"symbols that are no whole number": ("--symbols parts.so", "parts.so: Data is not a whole number of records")})
-SIZE.add("a refused file between others", "places.so zeros.elf counter", 1, SIZES, f"elfsize: zeros.elf: {NO_MAGIC}\n")
+SIZE.prints({
+    "two files that differ": ("--diff places.so counter", difference(PLACES_SIZES, COUNTER_SIZES)),
+    "the other way": ("--diff counter places.so", difference(COUNTER_SIZES, PLACES_SIZES)),
+    "one file twice": ("--diff places.so places.so", difference(PLACES_SIZES, PLACES_SIZES)),
+    "symbols and none": ("--diff --symbols places.so short.so", difference(PLACES_SYMBOLS.encode(), SHORT_SIZES.encode())),
+    "segments that differ": ("--diff --segments counter places.so", difference(COUNTER_SIZES, PLACES_SEGMENTS.encode())),
+    "growth at the limit": ("--diff --fail-above 2288 places.so counter", difference(PLACES_SIZES, COUNTER_SIZES))})
+SIZE.add("growth above the limit", "--diff --fail-above 2287 places.so counter", 2, difference(PLACES_SIZES, COUNTER_SIZES))
+SIZE.fails({
+    "no new file": ("--diff places.so missing.so", "cannot read missing.so"),
+    "an old file of zeros": ("--diff zeros.elf places.so", f"zeros.elf: {NO_MAGIC}"),
+    "such symbols of a new file": ("--diff --symbols places.so parts.so", "parts.so: Data is not a whole number of records")})
+SIZE.add("a file with an error between others", "places.so zeros.elf counter", 1, SIZES, f"elfsize: zeros.elf: {NO_MAGIC}\n")
 
-PROGRAMS = [INFO, SYM, ADDR, BIND, LOAD, SIZE]
+# The texts of errors and the paths are those of `ld.so`, with LD_LIBRARY_PATH and LD_TRACE_LOADED_OBJECTS=1.
+TREE = Program(
+    "elftree", f"elftree {SEARCH_USAGE} [--start | --list] <binary_path>..", [],
+    ["libfirst.so"], "libfirst.so\n".encode(), data("elfbind/data/libfirst.so"))
+TREE.misused({
+    "no file after options": "--no-cache --list", "no root": "--root", "no file after a root": "--root .", "another option": "--lists counter"})
+TREE.fails({
+    "an empty file": ("empty.elf", "empty.elf: file too short"), "a file with an error": ("strtab.elf", "strtab.elf: ELF file version does not match current one"),
+    "a missing cache": ("--cache missing counter", "cannot read missing"), "a file above the root": ("--root folder ../counter", "cannot read ../counter")})
+CALLER_TREE = "caller\n  libfirst.so => ./libfirst.so (library-path) #1\n  libsecond.so => ./libsecond.so (library-path) #2\n"
+TREE.prints({
+    "libraries in a folder": ("--no-cache --library-path .:folder caller", CALLER_TREE),
+    "the order of starts": ("--library-path . --start caller", f"{CALLER_TREE}start ./libsecond.so\nstart ./libfirst.so\n"),
+    "a list": ("--library-path . --list caller", "caller\n./libfirst.so\n./libsecond.so\n")})
+TREE.add("a missing library", "--no-cache counter", 1, "counter\n  library.so => not found\n")
+TREE.add("a root without libraries", "--root . /counter", 1, "/counter\n  library.so => not found\n")
+TREE.add("two programs", "counter missing.so libfirst.so", 1, "counter\n  library.so => not found\nlibfirst.so\n", "elftree: cannot read missing.so\n")
+
+PROGRAMS = [INFO, SYM, ADDR, BIND, LOAD, SIZE, TREE]
 
 
 def run(built, arguments, room, given=b"", **more) -> list:
@@ -353,7 +400,7 @@ def unwritten_ends(program, built, room):
     """How it ends where outputs fail at once."""
     arguments = {what: end[0] for what, end in program.ends.items()}
     with open("/dev/full", "wb") as full:
-        for what, said in (("a good file", program.no_write()), ("a refused file", program.ends["a refused file"][3]), ("no argument", b"")):
+        for what, said in (("a good file", program.no_write()), ("a file with an error", program.ends["a file with an error"][3]), ("no argument", b"")):
             yield f"{what}, into a full disk", [1, None, said], run(built, arguments[what], room, stdout=full)
         yield "an error text that can't be written", [1, b"", None], run(built, arguments["a missing path"], room, stderr=full)
         for what in ("a missing path", "no argument"):
@@ -361,7 +408,7 @@ def unwritten_ends(program, built, room):
     reader, writer = os.pipe()
     os.close(reader)
     # The status of a program that SIGPIPE ends, as a shell tells it.
-    wanted = [141, None, b""] if program is BIND else [1, None, program.no_write()]
+    wanted = [141, None, b""] if program is not LOAD else [1, None, program.no_write()]
     yield "a pipe that nobody reads", wanted, run(built, arguments["a good file"], room, stdout=writer)
     os.close(writer)
 
@@ -384,6 +431,10 @@ def long_ends(program, built, room):
         yield f"a long report, into a file of at most {limit} bytes", wanted, came
 
 
+def stack_ends(program, built, room):
+    yield "a stack", [0, b"".join(STACK.values()), b""], run(built, ["--stack"], room, b"".join(STACK))
+
+
 def is_unlike(built: pathlib.Path, name: str, wanted, came) -> bool:
     """Prints whether a program ends as it must, and returns whether it doesn't."""
     how = "ends as it must" if came == wanted else "NOT AS IT MUST"
@@ -397,7 +448,8 @@ def unlike(program, built: pathlib.Path) -> int:
         os.mkdir(f"{room}/folder")
         for name, held in FILES.items():
             pathlib.Path(room, os.fsdecode(name)).write_bytes(held)
-        kinds = [told_ends, unwritten_ends, *([long_ends] if program.name == "elfinfo" else [])]
+        more = {"elfinfo": [long_ends], "elfaddr": [stack_ends]}
+        kinds = [told_ends, unwritten_ends, *more.get(program.name, [])]
         return sum(is_unlike(built, *end) for ends in kinds for end in ends(program, built, room))
 
 
@@ -416,7 +468,7 @@ def escaped(name: bytes) -> bytes:
 
 
 def replaced(text: bytes, parts: dict) -> bytes:
-    """A text with each of these parts replaced, which must stand in it."""
+    """A text with each of these parts replaced, which must be in it."""
     for old, new in parts.items():
         if old not in text:
             sys.exit(f"{old!r} isn't in {text[:400]!r}")

@@ -5,18 +5,16 @@ CONTRIBUTING.md don't name. Such files are mostly the output of a tool, committe
     tools/gate/tracked.py
 """
 import pathlib
-import subprocess
 import sys
 
 sys.path.insert(0, str(pathlib.Path(__file__).resolve().parents[1]))
-from pages.sources import ROOT, ended
+from pages.sources import ROOT, ended, git
 
 LIMIT = 300_000
 
 
 if __name__ == "__main__":
-    listed = subprocess.run(["git", "ls-files", "-z"], cwd=ROOT, capture_output=True, text=True, check=True).stdout
-    files = [pathlib.Path(it) for it in listed.split("\0") if it and (ROOT / it).is_file()]
+    files = [pathlib.Path(it) for it in git("ls-files", "-z").split("\0") if it and (ROOT / it).is_file()]
     pages = {it: (ROOT / it).read_text(encoding="utf-8") for it in files if it.suffix == ".md"}
     large = [it for it in files if (ROOT / it).stat().st_size > LIMIT and not any(it.name in text for text in pages.values())]
     guides = pages[pathlib.Path("docs/README.md")] + pages[pathlib.Path("CONTRIBUTING.md")]

@@ -1,9 +1,9 @@
 #!/usr/bin/env python3
-"""Wants the prover to refuse each wrong body of crates/NAME/wrong-bodies/TOPIC/*.edit.
+"""Wants the prover to reject each wrong body of crates/NAME/wrong-bodies/TOPIC/*.edit.
 
-How they are tried, many in one check of a copy of their crate, stands in docs/WRONG_BODIES.md. Each crate must be proved as it
-stands, and is checked first, unless `rt ci` has just proved it. At the end stands what the checks of each crate took. The last
-line is `N refused, M failed`.
+How they are tried, many in one check of a copy of their crate, is in docs/WRONG_BODIES.md. Each crate must be proved as it
+is, and is checked first, unless `rt ci` has just proved it. At the end is what the checks of each crate took. The last
+line is `N rejected, M failed`.
 """
 import argparse
 import collections
@@ -20,11 +20,13 @@ import types
 from edits import BATCH, Edit, EditedCrate, Room, batches_of, check
 from pages import sources
 from pages.definitions import Reader
-from pages.sources import ROOT
+from pages.sources import ROOT, git
 
-# The names of the edits that must stay, and the commit at which each edit was last refused.
+# The names of the edits that must stay, and the commit at which each edit was last rejected.
 MUST_STAY = ROOT / "docs" / "wrong_bodies.txt"
-REFUSED_AT = ROOT / "docs" / "wrong_bodies_commit.txt"
+REJECTED_AT = ROOT / "docs" / "wrong_bodies_commit.txt"
+# A small crate with edits that must be rejected, and others that must fail.
+SELF_TEST = ROOT / "tools" / "gate" / "self_test"
 
 # The name of each clause of a function that says what it ensures.
 CLAUSES = re.compile(r"^ *ensures(?: (\w+))? \{", re.M)
@@ -36,13 +38,12 @@ CALLED = re.compile(r"\b(\w+)(?:::<[^()]*>)?\(")
 
 FLAGS = {
     "gate": "those of docs/wrong_bodies.txt, and those since the commit of docs/wrong_bodies_commit.txt; all where it isn't known here",
-    "all": "all, and stores the commit there if each is refused",
+    "all": "all, and stores the commit there if each is rejected",
     "store": "after --gate too: what it leaves out has not changed since the commit before",
-    "proved": "behind `rt ci`: no crate is checked first as it stands",
-    "list": "the batches, and nothing is tried",
+    "proved": "after `rt ci`: no crate is checked first as it is",
     "compile": "only whether each edit compiles, some ten seconds a batch",
     "right": "whether each right body is proved beside itself, as the wrong ones are tried",
-    "compiler": "whether the compiler refuses each edit of crates/*/does-not-compile, with the error of its line `want:`",
+    "compiler": "whether the compiler rejects each edit of crates/*/does-not-compile, with the error of its line `want:`",
     "doubled": "names those outside of docs/wrong_bodies.txt whose clause another edit of the function breaks, and tries nothing",
     "self-test": "whether the script itself tells right from wrong",
 }
@@ -81,9 +82,9 @@ def is_not_compiled(path: pathlib.Path) -> bool:
             (copy / "crates" / crate.name / file).write_text(text, encoding="utf-8")
         tried_in = copy / "crates" / words.get("tests", crate.name)
         ran = subprocess.run(["rt", "try", "--test"], cwd=tried_in, capture_output=True, text=True, check=False)
-    is_refused = ran.returncode != 0 and f"error[{words['want']}]" in ran.stdout + ran.stderr
-    print(("refused, as it must be: " if is_refused else "NOT REFUSED: ") + str(path.relative_to(ROOT)))
-    return is_refused
+    is_rejected = ran.returncode != 0 and f"error[{words['want']}]" in ran.stdout + ran.stderr
+    print(("rejected, as it must be: " if is_rejected else "NOT REJECTED: ") + str(path.relative_to(ROOT)))
+    return is_rejected
 
 
 class Trial:
@@ -92,7 +93,7 @@ class Trial:
     def __init__(self, root: pathlib.Path, names, jobs: int, since=None, proved=False):
         self.root, self.jobs, self.proved, self.lock = root, jobs, proved, threading.Lock()
         self.of_crate = collections.Counter()
-        self.refused, self.failed, self.tasks = [], [], []
+        self.rejected, self.failed, self.tasks = [], [], []
         self.may_be_empty = since is not None
         used = sources.crates(root)
         for name in used:
@@ -111,11 +112,11 @@ class Trial:
 
     def tell(self, edit: Edit, goal: str, fault: str):
         with self.lock:
-            (self.failed if fault else self.refused).append(edit.label())
-            print(f"{edit.label()}: " + (f"FAILED: {fault}" if fault else f"refused: {goal}")[:200], flush=True)
+            (self.failed if fault else self.rejected).append(edit.label())
+            print(f"{edit.label()}: " + (f"FAILED: {fault}" if fault else f"rejected: {goal}")[:200], flush=True)
 
     def is_proved(self, task: Task) -> bool:
-        """Checks a crate as it stands, unless that has been done."""
+        """Checks a crate as it is, unless that has been done."""
         if self.proved:
             return True
         folder = task.crate.folder
@@ -123,10 +124,10 @@ class Trial:
         # The check of a crate above would build it, and so change what is being copied.
         if not ran[0].status and any(task.crate.name in it.below for it in self.tasks):
             ran.append(check(folder, "--jobs", str(self.jobs), verb="lib"))
-        self.of_crate["the crates as they stand"] += sum(it.seconds for it in ran)
+        self.of_crate["the crates as they are"] += sum(it.seconds for it in ran)
         if any(it.status for it in ran):
             self.failed.append(task.crate.name)
-            print(f"{task.crate.name}: FAILED: it is not proved as it stands", flush=True)
+            print(f"{task.crate.name}: FAILED: it is not proved as it is", flush=True)
         return not any(it.status for it in ran)
 
     def work(self, task: Task, batch: list):
@@ -147,8 +148,8 @@ class Trial:
             print(f"{name}: {seconds:.0f} processor seconds")
         if self.failed:
             print(f"FAILED: {' '.join(sorted(self.failed))}")
-        print(f"{len(self.refused)} refused, {len(self.failed)} failed")
-        return 1 if self.failed or not (self.refused or self.may_be_empty) else 0
+        print(f"{len(self.rejected)} rejected, {len(self.failed)} failed")
+        return 1 if self.failed or not (self.rejected or self.may_be_empty) else 0
 
     def alone(self, faults, what: str) -> int:
         """Prints the faults that a function finds in a copy of each crate, one crate after the other."""
@@ -160,31 +161,17 @@ class Trial:
         print(f"{len(self.failed)} failed")
         return 1 if self.failed else 0
 
-    def list(self) -> int:
-        for task in self.tasks:
-            for number, batch in enumerate(task.batches):
-                print(f"{task.crate.name}, batch {number}: {len(batch)} edits")
-                for edit in batch:
-                    print(f"    {edit.label()}: {', '.join(it.tail() if it else 'no function' for it in edit.functions)}")
-        edits = sum(len(it) for task in self.tasks for it in task.batches)
-        print(f"{edits} edits in {sum(len(it.batches) for it in self.tasks)} batches, {len(self.failed)} failed")
-        return 1 if self.failed else 0
-
 
 def unproved(task: Task, room: Room):
-    """The functions that edits change, and whose right body isn't proved beside itself: that a wrong one is refused there says
+    """The functions that edits change, and whose right body isn't proved beside itself: that a wrong one is rejected there says
     nothing."""
     clauses = {(it.beside(), it.clause if it.inside else "") for batch in task.batches for it in batch if it.beside()}
     clauses = sorted(clauses, key=lambda it: (it[0].file, it[0].first, it[1]))
     edits = [Edit(task.crate.name, f"{one.path} {clause}".strip(), [], {one}, clause=clause) for one, clause in clauses]
     for some in (edits[at : at + BATCH] for at in range(0, len(edits), BATCH)):
-        # One alone would stand in its own place.
+        # One alone would be in its own place.
         for edit, goal in room.left_open(some + edits[:1] * (len(some) == 1)):
             yield edit, f"its right body is not proved beside it: {goal}"
-
-
-def git(*words: str, check=True) -> str:
-    return subprocess.run(["git", *words], cwd=ROOT, capture_output=True, text=True, check=check).stdout
 
 
 def base(given=None) -> str:
@@ -201,7 +188,7 @@ def changed_files(commit: str) -> list:
 
 
 def changed_lines(commit: str, path: str):
-    """The lines of a file as it stands that differ from the commit; None where it is new or gone."""
+    """The lines of a file as it is that differ from the commit; None where it is new or gone."""
     if not git("cat-file", "-t", f"{commit}:{path}", check=False) or not (ROOT / path).exists():
         return None
     said = git("diff", "--unified=0", commit, "--", path)
@@ -316,70 +303,20 @@ class Since:
         return any(called & self.contracts[name] for name in (edit.crate, *below))
 
 
-PAIR = """//! Three functions, of which one calls another.
-
-#![tactic(auto)]
-
-ghost use Rattle.std.specs.Prelude.{◌≡◌, ◌/◌, ◌≤◌, ℕ};
-
-/// The larger of two numbers.
-pub fn larger(one: u32, other: u32) -> u32
-    ensures least { one ≤ result }
-    ensures too { other ≤ result }
-{
-    if one < other { other } else { one }
-}
-
-/// Half of a number.
-pub fn half(number: u32) -> u32
-    ensures { result ≡ number / 2 }
-{
-    let parts = 2;
-    number / parts
-}
-
-/// The largest of three numbers.
-pub fn largest(one: u32, other: u32, third: u32) -> u32
-    ensures { one ≤ result }
-{
-    let found = larger(one, other);
-    larger(found, third)
-}
-"""
-
-# Edits of that crate, whether each is refused as it must be, and the clause that it says it breaks.
-TOLD_APART = {
-    "smaller": ("if one < other { other }", "if one > other { other }", True, "least"),
-    "third": ("let parts = 2;", "let parts = 3;", True, ""),
-    "breaks_another_clause": ("if one < other { other }", "if one < other { one }", True, "least"),
-    "nothing_changed": ("let parts = 2;", "let parts = 2;", False, ""),
-    "does_not_compile": ("if one < other { other }", "if one < true { other }", False, ""),
-    "right_in_other_words": ("if one < other { other }", "if one <= other { other }", False, ""),
-    "right_but_for_no_clause": ("if one < other { other }", "if one <= other { other }", False, "too"),
-    # In a batch the called function is a stand-in, which the proof of a right body must be able to rest on.
-    "right_by_a_call": ("larger(found, third)", "larger(third, found)", False, ""),
-    "first_left_out_of_a_call": ("larger(one, other);", "larger(other, other);", True, ""),
-    "not_there": ("if one == other", "if one < other", False, ""),
-}
-
-
 def self_test() -> int:
-    """Whether a crate with right and wrong edits gets the verdict that it must get."""
+    """Whether each edit of SELF_TEST is rejected or fails as the name of its folder says."""
     with tempfile.TemporaryDirectory(prefix="wrong-bodies-") as place:
         root = pathlib.Path(place)
-        folder = root / "crates" / "pair"
-        (folder / "src").mkdir(parents=True)
-        (folder / "wrong-bodies" / "numbers").mkdir(parents=True)
+        folder = pathlib.Path(shutil.copytree(SELF_TEST, root / "crates" / "pair"))
+        # In the repository it has no name that `rt ci` looks for a crate by.
+        (folder / "src").mkdir()
+        (folder / "lib.txt").rename(folder / "src" / "lib.rt")
         (root / "crates.txt").write_text("pair:\n", encoding="utf-8")
         (root / "HANDLES").write_text("Handles allowed: none.\n", encoding="utf-8")
-        (folder / "src" / "lib.rt").write_text(PAIR, encoding="utf-8")
-        for name, (old, new, _, clause) in TOLD_APART.items():
-            lines = f"file: src/lib.rt\n{clause and f'clause: {clause}'}\nold: {old}\nnew: {new}\n"
-            (folder / "wrong-bodies" / "numbers" / f"{name}.edit").write_text(lines, encoding="utf-8")
+        wanted = {kind: {f"pair/{kind}/{it.stem}" for it in folder.glob(f"wrong-bodies/{kind}/*.edit")} for kind in ("rejected", "failed")}
         trial = Trial(root, [], 1)
         status = trial.run()
-    wanted = {f"pair/numbers/{name}" for name, (_, _, is_refused, _) in TOLD_APART.items() if is_refused}
-    well = status == 1 and set(trial.refused) == wanted and len(trial.failed) == len(TOLD_APART) - len(wanted)
+    well = status == 1 and set(trial.rejected) == wanted["rejected"] and set(trial.failed) == wanted["failed"]
     print(f"the script {'tells' if well else 'DOES NOT TELL'} right bodies from wrong ones")
     return 0 if well else 1
 
@@ -406,20 +343,20 @@ def must_stay() -> list:
 
 
 def of_gate():
-    """What the gate tries; None for all, where the commit at which all were refused isn't known here."""
-    commit = REFUSED_AT.read_text(encoding="utf-8").strip() if REFUSED_AT.exists() else ""
+    """What the gate tries; None for all, where the commit at which all were rejected isn't known here."""
+    commit = REJECTED_AT.read_text(encoding="utf-8").strip() if REJECTED_AT.exists() else ""
     if commit and git("cat-file", "-t", commit, check=False).startswith("commit"):
         return Since(commit, set(must_stay()))
-    print(f"{REFUSED_AT.name}: commit {commit or 'none'} is not here, so that all edits are tried")
+    print(f"{REJECTED_AT.name}: commit {commit or 'none'} is not here, so that all edits are tried")
     return None
 
 
 def store() -> int:
-    """Stores the commit at which all edits were refused."""
+    """Stores the commit at which all edits were rejected."""
     if git("diff", "HEAD", "--", "crates"):
         print("crates/ differs from the last commit, so that none is stored")
         return 1
-    REFUSED_AT.write_text(git("rev-parse", "HEAD"), encoding="utf-8")
+    REJECTED_AT.write_text(git("rev-parse", "HEAD"), encoding="utf-8")
     return 0
 
 
@@ -455,8 +392,6 @@ def main() -> int:
         return trial.alone(faults, "its edits were compiled")
     if given.right:
         return trial.alone(unproved, "its right bodies were tried")
-    if given.list:
-        return trial.list()
     return trial.run() or (store() if (given.all or given.gate and given.store) and not given.names else 0)
 
 

@@ -2,10 +2,10 @@
 """Writes docs/api: the public items of the libraries, from their sources.
 
     tools/pages/api.py            writes the pages
-    tools/pages/api.py --check    fails where a page isn't what the sources give, where a public item stands on none, where a file of
+    tools/pages/api.py --check    fails where a page isn't what the sources give, where a public item is on none, where a file of
                                   definitions doesn't say what it defines, and where crates/xmas_elf/specs/Types.antt lacks a name
 
-An item stands on the page of the crate that declares it, under its public path there. At the end of elf_base's page stands which
+An item is on the page of the crate that declares it, under its public path there. At the end of elf_base's page is which
 calls return which error (tools/pages/errors.py). The clauses of other crates import the types, constants and errors of xmas_elf from Types.antt. A `pub use` passes on what a lower
 crate declares, but nothing that xmas_elf itself declares: such a name counts only where Types.antt has an `abbrev pub` of it.
 """
@@ -22,7 +22,7 @@ from pages.definitions import uses_in
 PAGES = ROOT / "docs" / "api"
 
 # The libraries that have a page: first those that a user names.
-LIBRARIES = ("xmas_elf", "elf_linking", "elf_addresses", "elf_loading", "elf_search", "elf_base", "elf_records", "elf_c")
+LIBRARIES = ("xmas_elf", "elf_linking", "elf_library", "elf_addresses", "elf_debug", "elf_loading", "elf_search", "elf_base", "elf_records", "elf_c")
 
 TITLE = {"struct": "a struct", "enum": "an enum", "trait": "a trait", "type": "a type"}
 
@@ -61,7 +61,7 @@ TYPE_OF = {"header": "Header", "program": "Segment", "symbol_table": "Symbol"}
 NOT_IN_TYPES = {
     "P32": "a clause writes ℕ",
     "P64": "a clause writes ℕ",
-    "SymbolTable": "an abbreviation can't name what its bounds stand for; other crates import it from its module",
+    "SymbolTable": "an abbreviation can't name what its bounds mean; other crates import it from its module",
 }
 
 # What TYPES has besides, and why.
@@ -173,7 +173,7 @@ class CratePage:
     def constants(self, module: str, found: list):
         self.lines += [f"### Constants of `{module}`", "", "| Name | Type | Value | What it is |", "|---|---|---|---|"]
         for item in found:
-            # Of a table that has a line for each row stands only how many rows it has.
+            # Of a table that has a line for each row is only how many rows it has.
             said = re.match(r"pub const (\w+): (.*?) = (.*);", item.text) or re.match(r"pub const (\w+): (.*?) = (\[)", item.text)
             self.reached.add((item.source.module, item.at))
             self.lines.append(f"| `{said[1]}` | `{said[2]}` | `{said[3].replace('[', '[..]')}` | {' '.join(item.doc.split())} |")

@@ -22,18 +22,18 @@ from pages.sources import ROOT, Crate, ended, parser_of
 REASONS = ROOT / "docs" / "contracts.toml"
 
 # The libraries whose contracts users read, and the crates of callers.
-LIBRARIES = ("elf_base", "elf_records", "xmas_elf", "elf_linking", "elf_addresses", "elf_loading", "elf_search")
+LIBRARIES = ("elf_base", "elf_records", "xmas_elf", "elf_linking", "elf_library", "elf_addresses", "elf_debug", "elf_loading", "elf_search")
 CALLERS = ("elf_callers", "linking_callers")
 
 # Words of a clause that speak of Ok or Some alone.
 ONE_SIDE = re.compile(r"\b(IfOk|IfSome|Lends|OnOk)\b")
-# Words and clauses that say what the other answers are, or when they come.
+# Words and clauses that say what the other results are, or when they come.
 OTHER_SIDE = re.compile(
     r"\b(Match\w+|IsOk|IsOkAnd|IsSome|IsSomeAnd|IfErr|IfNone|IsErr\w*|Answers|lent result)\b|result(\.0)? ≡|≡ result|"
     r"ensures (exact|only|answer|missing|refused)\b"
 )
 # A slice in what is returned, and words that say where it lies.
-LENT = re.compile(r"&'a \[|-> &\[|Table<'a|Notes<'a")
+BORROWED = re.compile(r"&'a \[|-> &\[|Table<'a|Notes<'a")
 PLACE = re.compile(r"Lies|Lie[A-Z]|PartLies|ref_ptr|result ≡|table_bytes|≡ notes\.entry")
 
 
@@ -52,18 +52,18 @@ def lines() -> list:
             returned = re.search(r"^ *(?:\)|.*fn .*\)) (-> .*)$", head, re.M)
             is_open = {
                 "one-sided": ONE_SIDE.search(clauses) and not OTHER_SIDE.search(clauses),
-                "no-place": returned and LENT.search(returned[1]) and not PLACE.search(clauses),
+                "no-place": returned and BORROWED.search(returned[1]) and not PLACE.search(clauses),
                 "no-wrong": name in CALLERS and re.search(r"^pub fn ", head, re.M) and clauses and one.path not in tried,
             }
             found += [f"{kind} {one.path}" for kind, is_one in is_open.items() if is_one]
     return found
 
 
-def main() -> int:
+if __name__ == "__main__":
     is_check, found = parser_of(__doc__).parse_args().check, lines()
     if not is_check:
         print("\n".join(found))
-        return 0
+        sys.exit(0)
     reasons = tomllib.loads(REASONS.read_text(encoding="utf-8"))
     patterns = [pattern for group in reasons["reason"] for pattern in group["of"]]
     faults = [f"no reason: {line}" for line in found if not any(fnmatch.fnmatchcase(line, it) for it in patterns)]
@@ -77,8 +77,4 @@ def main() -> int:
         missing = [it for it, names in own.items() if not names]
         missing += [it for it in (*group.get("clauses", ()), *group.get("but", ())) if it not in named]
         faults += [f"not in the sources: {it}" for it in missing]
-    return ended(faults, f"{REASONS.relative_to(ROOT)}: {len(found)} lines, {len(faults)} faults")
-
-
-if __name__ == "__main__":
-    sys.exit(main())
+    sys.exit(ended(faults, f"{REASONS.relative_to(ROOT)}: {len(found)} lines, {len(faults)} faults"))

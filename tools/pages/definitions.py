@@ -1,4 +1,4 @@
-"""Follows the words of a contract to the definitions that they stand for.
+"""Follows the words of a contract to the definitions that they mean.
 
     reader = Reader()
     reader.reached([reader.named("xmas_elf", "ElfFile::new")]): the definitions, each behind those that it uses
@@ -11,7 +11,7 @@ import re
 
 from pages.sources import ROOT, read
 
-LIBRARIES = ("elf_base", "elf_records", "xmas_elf", "elf_linking", "elf_addresses", "elf_loading", "elf_search")
+LIBRARIES = ("elf_base", "elf_records", "xmas_elf", "elf_linking", "elf_library", "elf_addresses", "elf_debug", "elf_loading", "elf_search")
 
 USE = re.compile(r"^\s*(?:ghost )?(?:pub )?use ((?:Rattle|lib)\.[\w.]+?)(?:\.\{([^}]*)\}| as (\w+))?;?$", re.M)
 WORD = re.compile(r"(?<![.\w])[\w◌][\w◌'-]*(?:\.[\w]+)?|[^\s\w(){}\[\],;.:\"]+")
@@ -19,7 +19,7 @@ WORD = re.compile(r"(?<![.\w])[\w◌][\w◌'-]*(?:\.[\w]+)?|[^\s\w(){}\[\],;.:\"
 
 @dataclasses.dataclass
 class Definition:
-    """A definition: its name, what is said above it, its lines, and where it stands."""
+    """A definition: its name, what is said above it, its lines, and where it is."""
 
     name: str
     about: str
@@ -159,8 +159,8 @@ class Reader:
                 yield Definition(name, about, text, source.path, at + 1, "member", uses_in(source.text))
 
     def used(self, text: str, uses: dict, local: dict):
-        """The definitions that the words of a text stand for."""
-        bound = re.findall(r"\{([a-z])\}", text)  # what stands for a bound, as `r` in `table_items {T} {r} table`
+        """The definitions that the words of a text mean."""
+        bound = re.findall(r"\{([a-z])\}", text)  # a bound, as `r` in `table_items {T} {r} table`
         own = {*re.findall(r"^  pub (\w+) :", text, re.M), *" ".join(re.findall(r"λ \(?([\w ]+)", text)).split()}  # fields and variables
         text = re.sub(r"(^ +|[{;] )(\w+) = (?=[^=])", r"\1= ", re.sub(r"--.*|///.*", "", text), flags=re.M)  # but what a record gives to a field
         for word in dict.fromkeys(WORD.findall(text)):
@@ -177,7 +177,7 @@ class Reader:
 
     @staticmethod
     def block(source, at: int) -> tuple:
-        """The text of the block in which a line stands, or none, and what the words there mean."""
+        """The text of the block in which a line is, or none, and what the words there mean."""
         block = source.block_at(at)
         inside = "\n".join(source.lines[block.at : block.end]) if block else ""
         return inside, uses_in("\n".join([*(line for line in source.lines if not line.startswith(" ")), inside]))

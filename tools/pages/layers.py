@@ -11,7 +11,7 @@ import re
 import sys
 
 sys.path.insert(0, str(pathlib.Path(__file__).resolve().parents[1]))
-from pages.sources import ROOT, differing, ended, parser_of
+from pages.sources import ROOT, below, differing, ended, parser_of
 
 PAGE = ROOT / "CONTRIBUTING.md"
 PLACE = re.compile(r"(?<=<!-- layers -->\n).*(?=\n<!-- /layers -->)", re.S)
@@ -21,7 +21,7 @@ CRATE = re.compile(r"(\w+)( staticlib)?:(.*)")
 LANGUAGES = {"c": "C", "cpp": "C++", "rust": "Rust", "python": "Python", "web": "a page in the browser"}
 LEFT_OUT = "Tests"
 # What is said above the picture.
-SAID = """An arrow leads from a crate to each that it uses. The kit's crates and those of tests are left out. `tools/pages/layers.py` draws this from `crates.txt`."""
+SAID = """The arrows from a crate lead to all that it uses. The kit's crates and those of tests are left out. `tools/pages/layers.py` draws this from `crates.txt`."""
 
 
 if __name__ == "__main__":
@@ -42,7 +42,7 @@ if __name__ == "__main__":
             lines += [f"  subgraph {group}", f"    {' & '.join(names)}", "  end"]
     languages = ", ".join(said for folder, said in LANGUAGES.items() if (ROOT / "bindings" / folder).is_dir())
     lines += [f'  languages(["{languages}"]) -.-> {" & ".join(archives)}']
-    used = {name: [it for it in all_used if it in uses] for name, all_used in uses.items()}
+    used = {name: [it for it in own if it in uses and not any(it in below(uses, other) for other in own)] for name, own in uses.items()}
     lines += [f"  {name} --> {' & '.join(own)}" for name, own in used.items() if own]
     picture = "\n".join([SAID, "", *lines, "```"])
     faults = differing({PAGE: PLACE.sub(lambda _: picture, text)}, parser_of(__doc__).parse_args().check)

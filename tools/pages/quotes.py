@@ -1,7 +1,7 @@
 #!/usr/bin/env python3
-"""Wants each code block of the pages to stand in a file of the repository that the gate proves, and each link to lead somewhere.
+"""Wants each code block of the pages to be in a file of the repository that the gate proves, and each link to lead somewhere.
 
-The paragraphs of a block, `rust` or `antt`, must all stand in one source file of crates/, but for how their lines are broken. Of a
+The paragraphs of a block, `rust` or `antt`, must all be in one source file of crates/, but for how their lines are broken. Of a
 paragraph of imports, `ghost use PATH.{NAME, NAME}`, the file must import each name by that path. The pages of docs/api have a script
 of their own for their blocks. A link may name a heading, or a line of a file, as `specs/Text.antt#L12`. A path to a caller that a page
 names, as `callers::first::data_named`, must lead to one; without a crate before it, it is one of elf_callers. Each caller has a doc of

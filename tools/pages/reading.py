@@ -25,18 +25,18 @@ BOUNDS = {
     "elf_linking::gnu_hash::lookup GnuHashTable::lookup_in": (95, 295),
     "elf_linking::object DynamicObject::read": (150, 600),
     "elf_linking::object DynamicObject::find": (155, 600),
-    "elf_linking::scope Scope::bind": (210, 820),
+    "elf_linking::scope Scope::bind": (210, 825),
     "elf_linking::checked CheckedObject::find": (40, 135),
     "elf_linking::checked::scope CheckedScope::bind": (65, 280),
-    "elf_linking::values value_by_name": (215, 900),
-    "elf_loading::plan LoadPlan::check_load": (75, 305),
+    "elf_linking::values value_by_name": (220, 900),
+    "elf_loading::plan LoadPlan::check_load": (76, 325),
     "elf_loading::bytes LoadPlan::byte_at": (56, 200),
-    "elf_loading::bytes LoadPlan::fill": (51, 215),
+    "elf_loading::bytes LoadPlan::fill": (51, 230),
     "elf_loading::checked::image CheckedImage::relocate": (125, 550),
     "elf_loading::checked::image CheckedImage::loads": (240, 900),
     "elf_loading::load_scope LoadScope::words": (150, 560),
-    "elf_loading::load_scope LoadScope::check_image": (378, 1450),
-    "elf_loading::load_scope LoadScope::relocate": (385, 1505),
+    "elf_loading::load_scope LoadScope::check_image": (395, 1525),
+    "elf_loading::load_scope LoadScope::relocate": (390, 1525),
     "elf_search::candidates Candidates::new": (80, 310),
     "elf_search::cache Cache::look_up": (55, 190),
     "elf_search::start start_order": (12, 45),
@@ -50,7 +50,7 @@ def place(path, line: int) -> str:
 
 
 class Lists:
-    """The definitions of a page, in order: each stands in the first room that needs it, and has a number."""
+    """The definitions of a page, in order: each is in the first room that needs it, and has a number."""
 
     def __init__(self):
         self.reader, self.above = Reader(), {}

@@ -4,13 +4,14 @@
     for path, item in public_items(sources, "elf_base"):    path, item.kind, item.name, item.doc, item.text
     Crate(ROOT / "crates" / "elf_base").functions           each with its file, its lines and the path by which a check names it
 
-An item begins at the left margin, a method four blanks further in, and the brace of a body stands alone on its line where a function
+An item begins at the left margin, a method four blanks further in, and the brace of a body is alone on its line where a function
 has clauses. Also what scripts share that write files from the sources, and with --check compare them.
 """
 import argparse
 import collections
 import pathlib
 import re
+import subprocess
 
 ROOT = pathlib.Path(__file__).resolve().parents[2]
 
@@ -20,7 +21,7 @@ BLOCK = re.compile(
     r"(?:([\w:]+)(?:<([^{]*?)>)? for )?(?:\w+::)*(\w+)(?:<([^{]*?)>)?")
 FUNCTION = re.compile(r"( {0,4})(?:pub(?:\(\w+\))? )?(?:final )?(?:const )?(?:unsafe )?(?:extern \"C\" )?fn (\w+)")
 USE = re.compile(r"^(pub )?use ([^;]+);", re.MULTILINE)
-# What has no body in which another could stand: a constant is computed by it, and an opaque type is read off it.
+# What has no body in which another could be: a constant is computed by it, and an opaque type is read off it.
 NO_STAND_IN = re.compile(r"\bconst (?:unsafe )?fn\b|-> impl\b")
 
 # A public item: its kind, its doc, and its text up to the body.
@@ -34,7 +35,7 @@ FUNCTION_FIELDS = "file first last path named_at body owner in_trait of"
 
 class Function(collections.namedtuple("Function", FUNCTION_FIELDS, defaults=(0, 0, "", False, ""))):
     """A function of a source file, by the lines that it takes, its attributes among them, the line of its name, and the line that
-    opens the body. The owner is the type of an inherent method, which a check names by the module of that type. One that stands
+    opens the body. The owner is the type of an inherent method, which a check names by the module of that type. One that is
     in a trait or an impl of one can't have another name. Last its trait, or its type where it is of no trait."""
 
     def tail(self) -> str:
@@ -50,7 +51,7 @@ class Function(collections.namedtuple("Function", FUNCTION_FIELDS, defaults=(0, 
 
 def label_of(found: re.Match) -> tuple:
     """The name of a block in the path of a function, and the type of an impl of no trait."""
-    # The arguments of a type stand in its name where they are types, and not parameters of the impl.
+    # The arguments of a type are in its name where they are types, and not parameters of the impl.
     own = {*re.findall(r"\w+", re.sub(r":[^,]*", "", found[2] or "")), "_"}
     words = ([it.strip() for it in (found[at] or "").split(",")] for at in (6, 4))
     arguments, given = ([it for it in some if re.fullmatch(r"\w+", it) and it not in own] for some in words)
@@ -127,7 +128,7 @@ class Source:
         return next((it for it in self.blocks if it.at <= at <= it.end), None)
 
     def body_of(self, first: int, last: int, indent: str) -> tuple:
-        """The line that opens the body of a function, which is the end of its head, or stands behind a contract; and
+        """The line that opens the body of a function, which is the end of its head, or comes after a contract; and
         the last line, which is the same of a function that is only declared."""
         for at, line in enumerate(self.lines[first - 1 : last], first):
             if line.endswith(";"):
@@ -231,7 +232,7 @@ def below(used: dict, name: str) -> list:
 
 
 class Crate:
-    """The sources of a crate, and which function stands where."""
+    """The sources of a crate, and which function is where."""
 
     def __init__(self, folder: pathlib.Path):
         self.folder, self.name = folder, folder.name
@@ -255,7 +256,7 @@ class Crate:
     def told_path(self, one: Function) -> str:
         """The path by which a check names a function: that of its module, or of the type's module for a method."""
         here = f"{self.sources[one.file].path_of}::"
-        # A method may stand in a module below that of its type.
+        # A method may be in a module below that of its type.
         modules_of = sorted(self.modules[one.owner], key=lambda it: (here.startswith(f"{it}::"), len(it)))
         return f"{modules_of[-1]}::{one.tail()}" if modules_of else one.path
 
@@ -299,6 +300,11 @@ def differing(texts: dict, is_check: bool) -> list:
             path.write_text(text, encoding="utf-8")
     return [f"{path.relative_to(ROOT)} is not what the sources give" for path, text in texts.items()
             if not path.exists() or path.read_text(encoding="utf-8") != text]
+
+
+def git(*words: str, check=True) -> str:
+    """What git says of the repository."""
+    return subprocess.run(["git", *words], cwd=ROOT, capture_output=True, text=True, check=check).stdout
 
 
 def ended(faults: list, said: str) -> int:

@@ -18,7 +18,6 @@ from exports import listing
 from exports.listing import FILLED, ROOT, SIZES, SLICE, VALUE
 
 HEADER = ROOT / "bindings" / "include" / "xmas_elf.h"
-ANSWERS = {"status": "uint32_t", "size": "size_t", "none": "void"}
 
 
 def records_of(listed):
@@ -53,18 +52,13 @@ def parameters_of(one):
     return found
 
 
-def main(out):
+if __name__ == "__main__":
+    if len(sys.argv) != 2:
+        sys.exit(__doc__)
     listed, header = listing.read(), HEADER.read_text()
-    functions = {it.name: {"answers": ANSWERS[it.result], "parameters": [part for one in it.parameters for part in parameters_of(one)]}
-                 for it in listed.functions}
+    functions = {it.name: {"parameters": [part for one in it.parameters for part in parameters_of(one)]} for it in listed.functions}
     statuses = {name: int(number) for name, number in re.findall(r"XMAS_ELF_(\w+) = (\d+)", header)}
     longest = int(re.search(r"#define XMAS_ELF_LONGEST_MESSAGE (\d+)", header)[1])
     parts = {"RECORDS": records_of(listed), "FUNCTIONS": functions, "STATUS": statuses, "LONGEST_MESSAGE": longest}
     lines = ["// Written by tools/web/records.py from bindings/include/xmas_elf.h: not to be edited.\n"]
-    pathlib.Path(out).write_text("".join(lines + [f"export const {name} = {json.dumps(part, indent=1)};\n" for name, part in parts.items()]))
-
-
-if __name__ == "__main__":
-    if len(sys.argv) != 2:
-        sys.exit(__doc__)
-    main(sys.argv[1])
+    pathlib.Path(sys.argv[1]).write_text("".join(lines + [f"export const {name} = {json.dumps(part, indent=1)};\n" for name, part in parts.items()]))

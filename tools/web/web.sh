@@ -8,7 +8,7 @@ set -euo pipefail
 cd "$(dirname "$0")/../.."
 web=bindings/web
 site="$web/out/site"
-uses=(elf_base elf_records xmas_elf elf_linking elf_addresses elf_loading elf_c)
+read -ra uses <<< "$(PYTHONPATH=tools python3 -c 'from pages.sources import below, crates; print(*below(crates(), "elf_c"), "elf_c")')"
 port=8042 does=serve
 case "${1:-}" in
     --port) port="$2" ;;

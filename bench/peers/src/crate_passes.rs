@@ -230,7 +230,7 @@ pub extern "C-unwind" fn hash_numbers(_: &[u8], text: &[u8]) -> u64 {
     text.chunks_exact(NAME).filter_map(|name| from_utf8(name).ok()).map(|name| u64::from(xmas_elf::hash::hash(name))).sum()
 }
 
-/// By a walk of one's own: the crate's `lookup` isn't written, and it doesn't show how many buckets there
+/// By a loop of its own: the crate's `lookup` isn't written, and it doesn't show how many buckets there
 /// are.
 pub extern "C-unwind" fn look_ups(data: &[u8], text: &[u8]) -> u64 {
     let file = opened!(data);

@@ -82,11 +82,11 @@ PASS(section_fields) {
     EACH(s) sum += (uint64_t)s->sh_name + s->sh_type + s->sh_flags + s->sh_addr + s->sh_offset + s->sh_size + s->sh_link + s->sh_info + s->sh_addralign + s->sh_entsize;
     return sum;
 }
-static int refused(uint32_t t) { return t == 12 || t == 13 || (t >= 19 && t < 0x60000000); }
+static int unknown(uint32_t t) { return t == 12 || t == 13 || (t >= 19 && t < 0x60000000); }
 PASS(section_types) {
     OPEN;
     uint64_t sum = 0;
-    EACH(s) sum += s->sh_type == SHT_STRTAB ? 1 : s->sh_type == SHT_SYMTAB ? 2 : refused(s->sh_type) ? 4 : 0;
+    EACH(s) sum += s->sh_type == SHT_STRTAB ? 1 : s->sh_type == SHT_SYMTAB ? 2 : unknown(s->sh_type) ? 4 : 0;
     return sum;
 }
 PASS(section_names) {
@@ -124,7 +124,7 @@ static uint64_t kind_of(const Elf64_Shdr *s) {
     case SHT_DYNAMIC: return 11 + len / 16;
     case SHT_GROUP: return 12 + len / 4 - 1;
     case SHT_HASH: return 13;
-    default: return refused(s->sh_type) ? 100 : 2 + len;
+    default: return unknown(s->sh_type) ? 100 : 2 + len;
     }
 }
 PASS(data) {
@@ -211,7 +211,7 @@ PASS(relocations) {
     }
     return sum;
 }
-/* The first note of a section: where its description stands, and how long it is. */
+/* The first note of a section: where its description is, and how long it is. */
 static const uint8_t *note(const file *f, const Elf64_Shdr *s, uint64_t *size) {
     if (s->sh_size < sizeof(Elf64_Nhdr) || !within(f, s->sh_offset, s->sh_size)) return 0;
     const Elf64_Nhdr *n = (const void *)(f->data + s->sh_offset);

@@ -1,6 +1,6 @@
-//! Asks equal answers of all contenders, and then how long each takes.
+//! Wants equal results of all contenders, and then how long each takes.
 //!
-//! `bench [--answers] [--seconds S] [--passes 'NAME;NAME..'] GROUP=FILE..`: a line a contender, of the
+//! `bench [--results] [--seconds S] [--passes 'NAME;NAME..'] GROUP=FILE..`: a line a contender, of the
 //! columns file, pass, contender, nanoseconds an item, items, repetitions.
 // A slice as an argument is its address and its length, in C too.
 #![allow(improper_ctypes, improper_ctypes_definitions)]
@@ -19,7 +19,7 @@ use std::hint::black_box;
 use std::panic::{AssertUnwindSafe, catch_unwind};
 use std::time::Instant;
 
-/// What a pass answers where it has none.
+/// What a pass returns where it has none.
 pub const NONE: u64 = u64::MAX;
 
 /// How many bytes each name of the look-ups has.
@@ -29,7 +29,7 @@ pub const NAME: usize = 28;
 /// number of the version in four bytes of little order.
 pub const RECORD: usize = 64;
 
-/// A pass by a contender: of a file and a text, which answers a sum. All are called in one way, that of C.
+/// A pass by a contender: of a file and a text, which returns a sum. All are called in one way, that of C.
 pub type Call = unsafe extern "C-unwind" fn(&[u8], &[u8]) -> u64;
 
 /// The shortest repetition that is timed, in seconds.
@@ -43,28 +43,28 @@ struct Lane {
     least: f64,
 }
 
-/// What stands for some bytes: how many they are, and the first of them.
+/// The number for some bytes: how many they are, and the first of them.
 pub fn sum_of(bytes: &[u8]) -> u64 {
     bytes.len() as u64 + bytes.first().map_or(0, |first| u64::from(*first))
 }
 
-/// The contenders that have this pass over this file, if all answer the same.
+/// The contenders that have this pass over this file, if all return the same.
 fn lanes(pass: &Pass, data: &[u8], text: &[u8]) -> Result<Vec<Lane>, String> {
     let mut found = Vec::new();
-    let mut answers = Vec::new();
+    let mut results = Vec::new();
     for &(name, call) in pass.calls {
         let start = Instant::now();
         // SAFETY: both slices live through the call.
         match catch_unwind(AssertUnwindSafe(|| unsafe { call(data, text) })) {
             Ok(NONE) | Err(_) => continue,
-            Ok(answer) => answers.push((name, answer)),
+            Ok(result) => results.push((name, result)),
         }
         let once = start.elapsed().as_secs_f64().max(1e-9);
         let calls = (SHORTEST / once).ceil().clamp(1.0, 1e6) as u32;
         found.push(Lane { name, call, calls, least: f64::MAX });
     }
-    if answers.windows(2).any(|pair| pair[0].1 != pair[1].1) {
-        return Err(format!("{}: {answers:?}", pass.name));
+    if results.windows(2).any(|pair| pair[0].1 != pair[1].1) {
+        return Err(format!("{}: {results:?}", pass.name));
     }
     Ok(found)
 }
@@ -105,13 +105,13 @@ fn read(path: &str) -> (Vec<u128>, usize) {
 fn main() {
     std::panic::set_hook(Box::new(|_| {}));
     let mut seconds = 0.3;
-    let mut answers_only = false;
+    let mut results_only = false;
     let mut only: Vec<String> = Vec::new();
     let mut differs = false;
     let mut words = std::env::args().skip(1);
     while let Some(word) = words.next() {
         match word.as_str() {
-            "--answers" => answers_only = true,
+            "--results" => results_only = true,
             "--seconds" => seconds = words.next().unwrap().parse().unwrap(),
             "--passes" => only = words.next().unwrap().split(';').map(String::from).collect(),
             _ => {
@@ -134,7 +134,7 @@ fn main() {
                             differs = true;
                             eprintln!("{path}: {fault}");
                         }
-                        Ok(_) if answers_only => {}
+                        Ok(_) if results_only => {}
                         Ok(mut lanes) => {
                             let rounds = race(&mut lanes, data, text, seconds);
                             for lane in &lanes {

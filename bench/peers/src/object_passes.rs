@@ -71,8 +71,8 @@ pub extern "C-unwind" fn section_fields(data: &[u8], _: &[u8]) -> u64 {
     })
 }
 
-/// Types from 12 on that have no meaning in the crate count as refused.
-fn is_refused(kind: u32) -> bool {
+/// Types from 12 on that have no meaning in the crate count as unknown.
+fn is_unknown(kind: u32) -> bool {
     matches!(kind, 12 | 13 | 19..=0x5fff_ffff)
 }
 
@@ -83,7 +83,7 @@ pub extern "C-unwind" fn section_types(data: &[u8], _: &[u8]) -> u64 {
         sum + match section.sh_type(endian) {
             elf::SHT_STRTAB => 1,
             elf::SHT_SYMTAB => 2,
-            kind if is_refused(kind) => 4,
+            kind if is_unknown(kind) => 4,
             _ => 0,
         }
     })
@@ -134,7 +134,7 @@ pub extern "C-unwind" fn data(data: &[u8], _: &[u8]) -> u64 {
             elf::SHT_DYNAMIC => 11 + len / 16,
             elf::SHT_GROUP => 12 + len / 4 - 1,
             elf::SHT_HASH => 13,
-            kind if is_refused(kind) => 100,
+            kind if is_unknown(kind) => 100,
             _ => 2 + len,
         }
     })

@@ -6,14 +6,14 @@ use object::{Endianness, Object, SectionIndex};
 use std::fmt::Debug;
 use xmas_elf_proved::{Answer, ByteRange, ElfFile, HashTable, Name, Section};
 
-// Counts answers, and tells of those that differ.
-struct Answers<'p> {
+// Counts results, and tells of those that differ.
+struct Results<'p> {
     path: &'p str,
     asked: u64,
     differ: u64,
 }
 
-impl Answers<'_> {
+impl Results<'_> {
     fn same<T: PartialEq + Debug>(&mut self, what: &str, here: T, there: T) {
         self.asked += 1;
         if here != there {
@@ -27,50 +27,50 @@ impl Answers<'_> {
 
 type Sections<'d, Elf> = SectionTable<'d, Elf, &'d [u8]>;
 
-fn compare<Elf: FileHeader<Endian = Endianness>>(input: &[u8], file: &ElfFile<'_>, answers: &mut Answers<'_>) -> object::Result<()> {
+fn compare<Elf: FileHeader<Endian = Endianness>>(input: &[u8], file: &ElfFile<'_>, results: &mut Results<'_>) -> object::Result<()> {
     let header = Elf::parse(input)?;
     let endian = header.endian()?;
-    answers.same("entry point", file.header().entry_point, header.e_entry(endian).into());
-    answers.same("machine", file.header().machine, header.e_machine(endian));
+    results.same("entry point", file.header().entry_point, header.e_entry(endian).into());
+    results.same("machine", file.header().machine, header.e_machine(endian));
     let sections = header.sections(endian, input)?;
-    answers.same("section count", file.section_count().ok(), Some(sections.len() as u64));
+    results.same("section count", file.section_count().ok(), Some(sections.len() as u64));
     let segments = header.program_headers(endian, input)?;
-    compare_segments::<Elf>(input, file, segments, endian, answers);
-    compare_addresses::<Elf>(input, file, segments, endian, answers);
+    compare_segments::<Elf>(input, file, segments, endian, results);
+    compare_addresses::<Elf>(input, file, segments, endian, results);
     let whole = object::read::elf::ElfFile::<Elf>::parse(input)?;
-    answers.same("build id", file.build_id().ok(), Some(whole.build_id()?));
-    compare_section_names(file, answers);
+    results.same("build id", file.build_id().ok(), Some(whole.build_id()?));
+    compare_section_names(file, results);
     for (index, theirs) in sections.iter().enumerate() {
         let Ok(ours) = file.section(index as u64) else {
-            answers.same("section is read", false, true);
+            results.same("section is read", false, true);
             continue;
         };
-        compare_section::<Elf>(input, &ours, theirs, &sections, endian, answers);
-        compare_symbols::<Elf>(input, &ours, &sections, endian, answers)?;
-        compare_records::<Elf>(input, &ours, theirs, endian, answers)?;
-        compare_notes::<Elf>(input, &ours, theirs, endian, answers)?;
+        compare_section::<Elf>(input, &ours, theirs, &sections, endian, results);
+        compare_symbols::<Elf>(input, &ours, &sections, endian, results)?;
+        compare_records::<Elf>(input, &ours, theirs, endian, results)?;
+        compare_notes::<Elf>(input, &ours, theirs, endian, results)?;
         if let Some(table) = ours.hash_table() {
-            compare_look_ups::<Elf>(input, &table, theirs, &sections, endian, answers)?;
+            compare_look_ups::<Elf>(input, &table, theirs, &sections, endian, results)?;
         }
     }
     Ok(())
 }
 
 // The sections and their names by many at once, as each by its own call.
-fn compare_section_names(file: &ElfFile<'_>, answers: &mut Answers<'_>) {
+fn compare_section_names(file: &ElfFile<'_>, results: &mut Results<'_>) {
     let mut names = vec![Name::default(); file.section_count().unwrap_or(0) as usize];
     let count = file.section_names_from(0, &mut names).unwrap_or(0);
-    answers.same("count of section names", file.readable_sections().count(), count);
+    results.same("count of section names", file.readable_sections().count(), count);
     for (section, name) in file.readable_sections().zip(&names) {
         let alone = file.section(section.index()).map(|one| (one.name, one.type_, one.offset, one.size, one.link));
-        answers.same("section of many", alone.ok(), Some((section.name, section.type_, section.offset, section.size, section.link)));
-        answers.same("section name of many", section.name(), file.name_of(name));
+        results.same("section of many", alone.ok(), Some((section.name, section.type_, section.offset, section.size, section.link)));
+        results.same("section name of many", section.name(), file.name_of(name));
         let first = file.section_names_from(section.index(), &mut [Name::default()]);
-        answers.same("one section name", first, Ok(1));
+        results.same("one section name", first, Ok(1));
         if let (Ok(name), true) = (section.name(), section.type_ != object::elf::SHT_NULL) {
             let is_named = |one: &Section<'_, '_>| one.name() == Ok(name) && one.type_ != object::elf::SHT_NULL;
             let found = file.readable_sections().find(is_named).map(|one| one.index());
-            answers.same("section by its name", file.section_by_name(name).ok().flatten().map(|one| one.index()), found);
+            results.same("section by its name", file.section_by_name(name).ok().flatten().map(|one| one.index()), found);
         }
     }
 }
@@ -81,7 +81,7 @@ fn compare_addresses<Elf: FileHeader<Endian = Endianness>>(
     file: &ElfFile<'_>,
     theirs: &[Elf::ProgramHeader],
     endian: Endianness,
-    answers: &mut Answers<'_>,
+    results: &mut Results<'_>,
 ) {
     let loaded = || theirs.iter().filter(|program| program.p_type(endian) == PT_LOAD);
     for program in loaded() {
@@ -89,7 +89,7 @@ fn compare_addresses<Elf: FileHeader<Endian = Endianness>>(
         let end = start.wrapping_add(size);
         for (address, count) in [(start, size.min(16)), (end.wrapping_sub(size.min(16)), size.min(16)), (end.wrapping_sub(8), 16)] {
             let found = loaded().find_map(|other| other.data_range(endian, input, address, count).ok().flatten());
-            answers.same("bytes at an address", file.bytes_at(address, count).ok(), found);
+            results.same("bytes at an address", file.bytes_at(address, count).ok(), found);
         }
     }
 }
@@ -101,7 +101,7 @@ fn compare_look_ups<Elf: FileHeader<Endian = Endianness>>(
     theirs: &Elf::SectionHeader,
     sections: &Sections<'_, Elf>,
     endian: Endianness,
-    answers: &mut Answers<'_>,
+    results: &mut Results<'_>,
 ) -> object::Result<()> {
     let symbols = sections.symbol_table_by_index(endian, input, SectionIndex(theirs.sh_link(endian) as usize))?;
     let (gnu, gabi) = (theirs.gnu_hash(endian, input)?, theirs.hash(endian, input)?);
@@ -114,23 +114,23 @@ fn compare_look_ups<Elf: FileHeader<Endian = Endianness>>(
     // A table passes the check where each symbol is found that it is to hold.
     let held = symbols.iter().filter(|symbol| symbol.st_bind() != 0 && (!ours.is_gnu() || symbol.st_shndx(endian) != 0));
     let mut names = held.filter_map(|symbol| symbol.name(endian, symbols.strings()).ok());
-    answers.same("the hash table passes its check", ours.check().is_ok(), names.all(|name| find(name).is_some()));
+    results.same("the hash table passes its check", ours.check().is_ok(), names.all(|name| find(name).is_some()));
     let (mut bytes, mut ranges) = (Vec::new(), Vec::new());
     for name in names_of(&symbols, endian) {
         for name in [name.to_owned(), format!("{name}~")] {
             let found = ours.look_up(&name).ok().flatten().map(|symbol| symbol.index() as usize);
-            answers.same("symbol by its name", found, find(name.as_bytes()).map(|found| found.0));
+            results.same("symbol by its name", found, find(name.as_bytes()).map(|found| found.0));
             ranges.push(ByteRange::from(bytes.len()..bytes.len() + name.len()));
             bytes.extend_from_slice(name.as_bytes());
         }
     }
     let mut many = vec![Answer::default(); ranges.len()];
     let asked = ours.look_ups(&bytes, &ranges, &mut many);
-    answers.same("names looked up by one call", asked.ok(), Some(ranges.len()));
-    for (range, answer) in ranges.iter().zip(&many) {
+    results.same("names looked up by one call", asked.ok(), Some(ranges.len()));
+    for (range, result) in ranges.iter().zip(&many) {
         let name = &bytes[range.offset as usize..(range.offset + range.size) as usize];
-        let found = answer.index().ok().flatten().map(|index| index as usize);
-        answers.same("symbols by their names, by one call", found, find(name).map(|found| found.0));
+        let found = result.index().ok().flatten().map(|index| index as usize);
+        results.same("symbols by their names, by one call", found, find(name).map(|found| found.0));
     }
     Ok(())
 }
@@ -145,18 +145,18 @@ fn compare_segments<Elf: FileHeader<Endian = Endianness>>(
     file: &ElfFile<'_>,
     theirs: &[Elf::ProgramHeader],
     endian: Endianness,
-    answers: &mut Answers<'_>,
+    results: &mut Results<'_>,
 ) {
-    answers.same("segment count", file.segment_count().ok(), Some(theirs.len() as u32));
+    results.same("segment count", file.segment_count().ok(), Some(theirs.len() as u32));
     for (ours, theirs) in file.readable_segments().zip(theirs) {
-        answers.same("segment type", ours.type_, theirs.p_type(endian));
-        answers.same("segment flags", ours.flags, theirs.p_flags(endian));
-        answers.same("segment address", ours.virtual_addr, theirs.p_vaddr(endian).into());
-        answers.same("segment size", ours.mem_size, theirs.p_memsz(endian).into());
-        answers.same("segment alignment", ours.align, theirs.p_align(endian).into());
-        // A type that this library refuses, or Null, has no data here.
+        results.same("segment type", ours.type_, theirs.p_type(endian));
+        results.same("segment flags", ours.flags, theirs.p_flags(endian));
+        results.same("segment address", ours.virtual_addr, theirs.p_vaddr(endian).into());
+        results.same("segment size", ours.mem_size, theirs.p_memsz(endian).into());
+        results.same("segment alignment", ours.align, theirs.p_align(endian).into());
+        // A type that is an error here, or Null, has no data here.
         if let Ok(data) = ours.data() {
-            answers.same("segment data", Some(data), theirs.data(endian, input).ok());
+            results.same("segment data", Some(data), theirs.data(endian, input).ok());
         }
     }
 }
@@ -167,23 +167,23 @@ fn compare_section<Elf: FileHeader<Endian = Endianness>>(
     theirs: &Elf::SectionHeader,
     sections: &Sections<'_, Elf>,
     endian: Endianness,
-    answers: &mut Answers<'_>,
+    results: &mut Results<'_>,
 ) {
     let wide = |word: Elf::Word| -> u64 { word.into() };
-    answers.same("section type", ours.type_, theirs.sh_type(endian));
-    answers.same("section flags", ours.flags, wide(theirs.sh_flags(endian)));
-    answers.same("section address", ours.address, wide(theirs.sh_addr(endian)));
-    answers.same("section offset", ours.offset, wide(theirs.sh_offset(endian)));
-    answers.same("section size", ours.size, wide(theirs.sh_size(endian)));
-    answers.same("section link", ours.link, theirs.sh_link(endian));
-    answers.same("section info", ours.info, theirs.sh_info(endian));
-    answers.same("section alignment", ours.align, wide(theirs.sh_addralign(endian)));
-    answers.same("entry size", ours.entry_size, wide(theirs.sh_entsize(endian)));
+    results.same("section type", ours.type_, theirs.sh_type(endian));
+    results.same("section flags", ours.flags, wide(theirs.sh_flags(endian)));
+    results.same("section address", ours.address, wide(theirs.sh_addr(endian)));
+    results.same("section offset", ours.offset, wide(theirs.sh_offset(endian)));
+    results.same("section size", ours.size, wide(theirs.sh_size(endian)));
+    results.same("section link", ours.link, theirs.sh_link(endian));
+    results.same("section info", ours.info, theirs.sh_info(endian));
+    results.same("section alignment", ours.align, wide(theirs.sh_addralign(endian)));
+    results.same("entry size", ours.entry_size, wide(theirs.sh_entsize(endian)));
     let name = sections.section_name(endian, theirs).ok().and_then(|name| std::str::from_utf8(name).ok());
-    answers.same("section name", ours.name().ok(), name);
+    results.same("section name", ours.name().ok(), name);
     // Of a type that this library doesn't know it gives no data.
     if let Ok(data) = ours.data() {
-        answers.same("section data", Some(data), theirs.data(endian, input).ok());
+        results.same("section data", Some(data), theirs.data(endian, input).ok());
     }
 }
 
@@ -192,28 +192,28 @@ fn compare_symbols<Elf: FileHeader<Endian = Endianness>>(
     ours: &Section<'_, '_>,
     sections: &Sections<'_, Elf>,
     endian: Endianness,
-    answers: &mut Answers<'_>,
+    results: &mut Results<'_>,
 ) -> object::Result<()> {
     if ours.type_ != object::elf::SHT_SYMTAB && ours.type_ != object::elf::SHT_DYNSYM {
-        answers.same("other sections have no symbols", ours.symbols().into_iter().flatten().count(), 0);
+        results.same("other sections have no symbols", ours.symbols().into_iter().flatten().count(), 0);
         return Ok(());
     }
     let table = sections.symbol_table_by_index(endian, input, SectionIndex(ours.index() as usize))?;
-    answers.same("symbol count", ours.symbols().into_iter().flatten().count(), table.len());
+    results.same("symbol count", ours.symbols().into_iter().flatten().count(), table.len());
     let mut names = vec![Name::default(); table.len()];
-    answers.same("count of symbol names", ours.symbol_names_from(0, &mut names).unwrap_or(0), table.len());
+    results.same("count of symbol names", ours.symbol_names_from(0, &mut names).unwrap_or(0), table.len());
     for (name, symbol) in names.iter().zip(ours.symbols().into_iter().flatten()) {
         let range = name.range().map(|range| input.get(range.offset as usize..(range.offset + range.size) as usize));
-        answers.same("symbol name of many", range, symbol.name_bytes().map(Some));
+        results.same("symbol name of many", range, symbol.name_bytes().map(Some));
     }
     for (ours, theirs) in ours.symbols().into_iter().flatten().zip(table.iter()) {
-        answers.same("symbol value", ours.value, theirs.st_value(endian).into());
-        answers.same("symbol size", ours.size, theirs.st_size(endian).into());
-        answers.same("symbol info", ours.info, theirs.st_info());
-        answers.same("symbol visibility", ours.other, theirs.st_other());
-        answers.same("symbol section", ours.shndx, theirs.st_shndx(endian));
+        results.same("symbol value", ours.value, theirs.st_value(endian).into());
+        results.same("symbol size", ours.size, theirs.st_size(endian).into());
+        results.same("symbol info", ours.info, theirs.st_info());
+        results.same("symbol visibility", ours.other, theirs.st_other());
+        results.same("symbol section", ours.shndx, theirs.st_shndx(endian));
         let name = theirs.name(endian, table.strings()).ok().and_then(|name| std::str::from_utf8(name).ok());
-        answers.same("symbol name", ours.name().ok(), name);
+        results.same("symbol name", ours.name().ok(), name);
     }
     Ok(())
 }
@@ -223,33 +223,33 @@ fn compare_records<Elf: FileHeader<Endian = Endianness>>(
     ours: &Section<'_, '_>,
     theirs: &Elf::SectionHeader,
     endian: Endianness,
-    answers: &mut Answers<'_>,
+    results: &mut Results<'_>,
 ) -> object::Result<()> {
     if let Some((relocations, _)) = theirs.rela(endian, input)? {
-        answers.same("relocation count", ours.relocations().into_iter().flatten().count(), relocations.len());
+        results.same("relocation count", ours.relocations().into_iter().flatten().count(), relocations.len());
         for (ours, theirs) in ours.relocations().into_iter().flatten().zip(relocations) {
-            answers.same("relocation place", ours.offset, theirs.r_offset(endian).into());
-            answers.same("relocation symbol", ours.symbol, theirs.r_sym(endian, false));
-            answers.same("relocation type", ours.type_, theirs.r_type(endian, false));
+            results.same("relocation place", ours.offset, theirs.r_offset(endian).into());
+            results.same("relocation symbol", ours.symbol, theirs.r_sym(endian, false));
+            results.same("relocation type", ours.type_, theirs.r_type(endian, false));
             let addend: i64 = theirs.r_addend(endian).into();
             let addend = if is_64::<Elf>() { addend as u64 } else { u64::from(addend as u32) };
-            answers.same("relocation addend", ours.addend, addend);
+            results.same("relocation addend", ours.addend, addend);
         }
     }
     if let Some((relocations, _)) = theirs.rel(endian, input)? {
-        answers.same("relocation count", ours.relocations().into_iter().flatten().count(), relocations.len());
+        results.same("relocation count", ours.relocations().into_iter().flatten().count(), relocations.len());
         for (ours, theirs) in ours.relocations().into_iter().flatten().zip(relocations) {
-            answers.same("relocation place", ours.offset, theirs.r_offset(endian).into());
-            answers.same("relocation symbol", ours.symbol, theirs.r_sym(endian));
-            answers.same("relocation type", ours.type_, theirs.r_type(endian));
-            answers.same("relocation has no addend", (ours.addend, ours.has_addend), (0, 0));
+            results.same("relocation place", ours.offset, theirs.r_offset(endian).into());
+            results.same("relocation symbol", ours.symbol, theirs.r_sym(endian));
+            results.same("relocation type", ours.type_, theirs.r_type(endian));
+            results.same("relocation has no addend", (ours.addend, ours.has_addend), (0, 0));
         }
     }
     if let Some((entries, _)) = theirs.dynamic(endian, input)? {
-        answers.same("dynamic count", ours.dynamic().into_iter().flatten().count(), entries.len());
+        results.same("dynamic count", ours.dynamic().into_iter().flatten().count(), entries.len());
         for (ours, theirs) in ours.dynamic().into_iter().flatten().zip(entries) {
-            answers.same("dynamic tag", ours.tag, theirs.d_tag(endian).into());
-            answers.same("dynamic value", ours.value, theirs.d_val(endian).into());
+            results.same("dynamic tag", ours.tag, theirs.d_tag(endian).into());
+            results.same("dynamic value", ours.value, theirs.d_val(endian).into());
         }
     }
     Ok(())
@@ -264,7 +264,7 @@ fn compare_notes<Elf: FileHeader<Endian = Endianness>>(
     ours: &Section<'_, '_>,
     theirs: &Elf::SectionHeader,
     endian: Endianness,
-    answers: &mut Answers<'_>,
+    results: &mut Results<'_>,
 ) -> object::Result<()> {
     let Some(mut theirs) = theirs.notes(endian, input)? else {
         return Ok(());
@@ -274,24 +274,24 @@ fn compare_notes<Elf: FileHeader<Endian = Endianness>>(
         let parts = found.map(|note| (note.n_type(endian), note.name(), note.desc()));
         // `object` takes the zero byte off that ends a name.
         let ours = note.ok().map(|note| (note.type_, note.name.strip_suffix(&[0]).unwrap_or(note.name), note.desc));
-        answers.same("note", ours, parts);
+        results.same("note", ours, parts);
     }
-    answers.same("no more notes", theirs.next().ok().flatten().is_none(), true);
+    results.same("no more notes", theirs.next().ok().flatten().is_none(), true);
     Ok(())
 }
 
 fn compare_file(path: &str, input: &[u8]) -> Option<(u64, u64)> {
     let file = ElfFile::new(input).ok()?;
-    let mut answers = Answers { path, asked: 0, differ: 0 };
+    let mut results = Results { path, asked: 0, differ: 0 };
     let whole = if file.is_64() {
-        compare::<FileHeader64<Endianness>>(input, &file, &mut answers)
+        compare::<FileHeader64<Endianness>>(input, &file, &mut results)
     } else {
-        compare::<FileHeader32<Endianness>>(input, &file, &mut answers)
+        compare::<FileHeader32<Endianness>>(input, &file, &mut results)
     };
     if let Err(error) = whole {
-        println!("{path}: object refuses: {error}");
+        println!("{path}: object reads no such file: {error}");
     }
-    Some((answers.asked, answers.differ))
+    Some((results.asked, results.differ))
 }
 
 fn main() {
@@ -306,6 +306,6 @@ fn main() {
             differ += found.1;
         }
     }
-    println!("{files} files, {asked} answers, {differ} differ");
+    println!("{files} files, {asked} results, {differ} differ");
     std::process::exit(i32::from(differ > 0 || files == 0));
 }

@@ -11,7 +11,7 @@ from elftools.elf.segments import NoteSegment
 from xmas_elf import ElfError, ElfFile, Status
 
 # Types whose data the archive doesn't give: PT_NULL, and those that it doesn't know.
-REFUSED = (Status.NULL_DATA, Status.INVALID_SH_TYPE, Status.INVALID_PH_TYPE)
+ERRORS = (Status.NULL_DATA, Status.INVALID_SH_TYPE, Status.INVALID_PH_TYPE)
 
 
 def header(ours):
@@ -40,11 +40,11 @@ def note(it):
     return (it.name.tobytes().decode("latin-1"), it.type, it.desc)
 
 
-def compare_data(ours, theirs, refused):
+def compare_data(ours, theirs, errors):
     try:
         data = ours.data()
     except ElfError as error:
-        assert error.status in refused
+        assert error.status in errors
     else:
         assert data == theirs.data()
 
@@ -54,7 +54,7 @@ def compare_section(ours, theirs):
     if ours.type == 8:  # SHT_NOBITS has no bytes in the file: pyelftools gives zero bytes.
         assert ours.data() == b"" and not any(theirs.data())
     else:
-        compare_data(ours, theirs, REFUSED)
+        compare_data(ours, theirs, ERRORS)
     if ours.type in (2, 11):
         assert list(map(symbol, ours.symbols())) == list(map(beside.symbol, theirs.iter_symbols()))
     elif ours.type in (4, 9):
@@ -93,7 +93,7 @@ def compare(data):
         assert ours.section(one.index) == one
     for one, other in zip(ours.segments(), theirs.iter_segments()):
         assert segment(one) == beside.segment(other)
-        compare_data(one, other, REFUSED)
+        compare_data(one, other, ERRORS)
     compare_dynamic(ours, theirs)
     assert (ours.build_id.hex() if ours.build_id is not None else None) == build_id(theirs)
 
@@ -188,7 +188,7 @@ def test_dynamic_symbols_of_each_class_and_order(worked):
 
 
 def test_dynamic_symbols_that_nothing_counts(worked, tmp_path):
-    """Refused where no entry names a hash table; none where there is no dynamic segment."""
+    """An error where no entry names a hash table; none where there is no dynamic segment."""
     with pytest.raises(ElfError) as caught:
         list(ElfFile(with_entries(worked, (6, 0x6FFFFEF6, 0))).dynamic_symbols())
     assert caught.value.status == Status.LINK_NO_ENTRY

@@ -8,10 +8,11 @@ import pytest
 from conftest import PYTHON, ROOT
 
 from xmas_elf import ElfError, ElfFile
+from xmas_elf._archive import check
 
 
 def tried(call):
-    """What a call gives, or None where it is refused."""
+    """What a call gives, or None where it returns an error."""
     try:
         return call()
     except ElfError as error:
@@ -20,13 +21,13 @@ def tried(call):
 
 
 def spent(items):
-    """The items up to the first refusal."""
+    """The items up to the first error."""
     found = []
     tried(lambda: found.extend(items()))
     return found
 
 
-def walk_section(section):
+def read_section(section):
     tried(section.check)
     tried(section.data)
     for items in (section.symbols, section.relocations, section.dynamic, section.notes):
@@ -36,13 +37,13 @@ def walk_section(section):
         tried(lambda: section.text(index))
 
 
-def walk(data):
+def read_all(data):
     file = tried(lambda: ElfFile(data))
     if file is None:
         return 0
     tried(file.check_header)
     for section in spent(file.sections):
-        walk_section(section)
+        read_section(section)
     for segment in spent(file.segments):
         tried(segment.check)
         tried(segment.data)
@@ -70,14 +71,14 @@ def walk(data):
 
 @pytest.mark.parametrize("seed", (1, 2))
 def test_damaged_files(seed):
-    opened = sum(walk(damage.damaged(seed, index)) for index in range(300))
+    opened = sum(read_all(damage.damaged(seed, index)) for index in range(300))
     assert opened > 200
 
 
 @pytest.mark.parametrize("size", (0, 1, 4, 16, 51, 52, 63, 64, 65))
 def test_short_files(size):
     whole = damage.worked(True, "little")
-    walk(whole[:size])
+    read_all(whole[:size])
 
 
 def test_file_cut_in_its_sections():
@@ -90,22 +91,73 @@ def test_file_cut_in_its_sections():
         next(sections)
 
 
-def test_symbols_that_are_lost_are_errors(tmp_path):
-    """Fifty files whose symbols can't be listed: the first program of the page, and what is said of their hardening."""
-    (tmp_path / "a.c").write_text("int one, two; int main(void) { return one + two; }\n")
-    subprocess.run(["gcc", tmp_path / "a.c", "-o", tmp_path / "a"], check=True)
-    whole = (tmp_path / "a").read_bytes()
-    assert listed(whole) and ElfFile(whole).hardening()
-    for index, data in enumerate(damage.lost(whole)):
-        with pytest.raises(ElfError):
-            listed(data)
-        with pytest.raises(ElfError):
-            ElfFile(data).hardening()
-        (tmp_path / "lost").write_bytes(data)
-        done = subprocess.run([sys.executable, ROOT / "bindings/examples/symbols.py", tmp_path / "lost"], cwd=PYTHON,
+def test_an_example_says_what_is_lost(tmp_path, whole):
+    """Of fifty files of which parts are missing the example prints all symbols, or why it can't."""
+    def ended(data):
+        (tmp_path / "file").write_bytes(data)
+        return subprocess.run([sys.executable, ROOT / "bindings/examples/symbols.py", tmp_path / "file"], cwd=PYTHON,
             env={"PYTHONPATH": str(PYTHON)}, capture_output=True, text=True)
-        assert done.returncode == 1 and str(tmp_path / "lost") in done.stderr and "Traceback" not in done.stderr, index
-    assert index == 49
+    wanted, found = ended(whole), [ended(data) for data in damage.missing(whole, 1)]
+    assert wanted.returncode == 0 and len(found) == 50 and {it.returncode for it in found} == {0, 1}
+    for it in found:
+        assert (it.stdout, it.stderr) == (wanted.stdout, "") if it.returncode == 0 else str(tmp_path / "file") in it.stderr and "Traceback" not in it.stderr
+
+
+def named(items, *fields):
+    """Names, and fields; an error for the first name that can't be read."""
+    found = []
+    for it in items:
+        check(it.name_status)
+        found.append((it.name, *(getattr(it, field) for field in fields)))
+    return found
+
+
+# What new users ask for of a file: each either is an error, or all that the whole file has.
+CALLS = {
+    "sections": lambda file: named(file.sections(), "type"),
+    "segments": lambda file: [it.type for it in file.segments()],
+    "symbols": lambda file: named(file.symbols(), "value", "size"),
+    "dynamic symbols": lambda file: named(file.dynamic_symbols(), "value", "size"),
+    "symbols with their versions": lambda file: [(named([it]), str(version)) for it, version in file.versioned_symbols()],
+    "the symbols of addresses": lambda file: [str(it) for it in file.symbols_at(ADDRESSES)],
+    "a symbol": lambda file: [file.symbol(it) for it in ("one", "main", "puts")],
+    "relocations": lambda file: list(file.relocations()),
+    "packed relocations": lambda file: list(file.packed_relocations()),
+    "dynamic entries": lambda file: list(file.dynamic()),
+    "needed libraries": lambda file: file.needed,
+    "versions": lambda file: [str(it) for it in (*file.version_needs(), *file.version_definitions())],
+    "notes": lambda file: [(bytes(it.name), bytes(it.desc)) for it in file.notes()],
+    "the build id": lambda file: bytes(file.build_id),
+    "overview": lambda file: file.overview()._replace(loads=""),
+    "hardening": lambda file: file.hardening(),
+    "bytes of memory": lambda file: bytes(file.bytes_at(ADDRESSES[0], 64)),
+}
+ADDRESSES = []
+
+
+@pytest.mark.parametrize("call", CALLS)
+def test_nothing_is_lost_silently(call, whole):
+    """Of fifty files of which parts are missing the call raises, or returns what it does of the whole file. What it asks for may
+    be elsewhere in the file."""
+    wanted, raised = CALLS[call](ElfFile(whole)), 0
+    assert wanted
+    for index, data in enumerate(damage.missing(whole, 1)):
+        try:
+            assert CALLS[call](ElfFile(data)) == wanted, index
+        except ElfError:
+            raised += 1
+    # The build id is in a section and in a segment.
+    assert index == 49 and (raised or call == "the build id")
+
+
+@pytest.fixture(scope="module")
+def whole(tmp_path_factory):
+    folder = tmp_path_factory.mktemp("whole")
+    (folder / "a.c").write_text("#include <stdio.h>\nint one, two, *both[] = {&one, &two}; int main(void) { return puts(\"\") + *both[one]; }\n")
+    subprocess.run(["gcc", folder / "a.c", "-o", folder / "a", "-Wl,-z,pack-relative-relocs,--build-id"], check=True)
+    data = (folder / "a").read_bytes()
+    ADDRESSES[:] = [it.value + it.size // 2 for it in ElfFile(data).symbols() if it.size and it.is_defined]
+    return data
 
 
 def test_a_number_of_sections_that_is_lost_is_an_error():
@@ -114,16 +166,6 @@ def test_a_number_of_sections_that_is_lost_is_an_error():
     layout.fill(data, 0, layout.header, shnum=0, shoff=len(data) - 20)
     with pytest.raises(ElfError, match="section header offset"):
         list(ElfFile(bytes(data)).sections())
-
-
-def listed(data):
-    """The names of all symbols; an error for the first that can't be read."""
-    found = []
-    for symbol in ElfFile(data).symbols():
-        if symbol.name is None:
-            raise ElfError(symbol.name_status)
-        found.append(symbol.name)
-    return found
 
 
 def read_notes(file):

@@ -1,4 +1,4 @@
-"""The examples: their answers beside those of readelf and nm, and a cluster's rows beside those of one process."""
+"""The examples: their output beside those of readelf and nm, and a cluster's rows beside those of one process."""
 import importlib.util
 import pathlib
 import re

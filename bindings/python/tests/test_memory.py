@@ -71,6 +71,9 @@ def test_images_are_the_memory_of_the_process(process):
         exec(program, held)
     finally:
         sys.argv = words
+    # One call for all objects writes the same.
+    found = xmas_elf.relocate_all(held["objects"])
+    assert [bytes(it) for it in found.images] == [bytes(it.image) for it in held["objects"]]
     kinds = collections.Counter()
     with open(f"/proc/{process.pid}/mem", "rb") as memory:
         for it, (path, _) in zip(held["objects"], pairs):

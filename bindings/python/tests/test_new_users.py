@@ -14,7 +14,7 @@ from conftest import LIBRARIES, PYTHON
 from elftools.elf.gnuversions import GNUVerDefSection, GNUVerNeedSection
 
 import xmas_elf
-from xmas_elf import Contents, ElfError, ElfFile, Loader, LoadObject, Owner, Status, VersionKind, check_image, constants, relocate
+from xmas_elf import Contents, ElfError, ElfFile, Loader, LoadObject, Owner, Status, VersionKind, check_image, constants, relocate, relocate_all
 from xmas_elf.constants import SHF, SHT, STB, STT
 
 FOLDER = pathlib.Path("/lib/x86_64-linux-gnu")
@@ -498,15 +498,21 @@ def test_why_a_file_is_not_loaded(tmp_path):
         assert raised.value.status == status
 
 
-def test_words_of_a_program_and_its_library(tmp_path):
-    """The library's function is called by the program, which has a copy of its number."""
-    (tmp_path / "b.c").write_text("int number = 7; int *number_at = &number; int twice(void) { return 2 * *number_at; }\n")
-    (tmp_path / "a.c").write_text("extern int number; int twice(void); void _start(void) { number += twice(); }\n")
-    build = lambda *words: subprocess.run(["gcc", "-O1", "-nostdlib", *words], check=True, cwd=tmp_path)  # noqa: E731
+def program_and_library(folder):
+    """A program with a copy of its library's number, the library, and both as objects."""
+    (folder / "b.c").write_text("int number = 7; int *number_at = &number; int twice(void) { return 2 * *number_at; }\n")
+    (folder / "a.c").write_text("extern int number; int twice(void); void _start(void) { number += twice(); }\n")
+    build = lambda *words: subprocess.run(["gcc", "-O1", "-nostdlib", *words], check=True, cwd=folder)  # noqa: E731
     build("-shared", "-fPIC", "b.c", "-o", "libb.so")
     build("-pie", "-fno-stack-protector", "a.c", "-o", "a", "-L.", "-lb")
-    program, library = (ElfFile.load_from_path(tmp_path / it) for it in ("a", "libb.so"))
+    program, library = (ElfFile.load_from_path(folder / it) for it in ("a", "libb.so"))
     objects = [LoadObject(program, 0x10000), LoadObject(library, 0x20000)]
+    return program, library, objects
+
+
+def test_words_of_a_program_and_its_library(tmp_path):
+    """The library's function is called by the program, which has a copy of its number."""
+    program, library, objects = program_and_library(tmp_path)
     for index in (0, 1):
         check_image(objects, index)
     images = [program.load_image(), library.load_image(Loader.GLIBC)]
@@ -525,6 +531,35 @@ def test_words_of_a_program_and_its_library(tmp_path):
     with pytest.raises(ElfError, match="^Symbol is in no object: (number|twice)$") as raised:
         relocate(objects[:1], 0, images[0])
     assert raised.value.status == Status.LOAD_UNRESOLVED and raised.value.about in ("number", "twice")
+
+
+def test_words_of_all_objects_in_one_call(tmp_path):
+    """The images are those of one call for each object, the last first; an error names its object."""
+    program, library, objects = program_and_library(tmp_path)
+    one_by_one = [program.load_image(), library.load_image(Loader.GLIBC)]
+    left = relocate(objects, 1, one_by_one[1])
+    left += relocate([objects[0], objects[1]._replace(image=one_by_one[1])], 0, one_by_one[0])
+    found = relocate_all(objects)
+    assert [bytes(it) for it in found.images] == [bytes(it) for it in one_by_one] and found.numberless == left
+    # The program's copy of the number is that of the library.
+    at = program.symbol("number").value
+    assert int.from_bytes(found.images[0][at : at + 4], "little") == 7
+    with pytest.raises(ElfError, match="^Symbol is in no object: (number|twice)$") as raised:
+        relocate_all([LoadObject(program)])
+    assert (raised.value.status, raised.value.of) == (Status.LOAD_UNRESOLVED, 0)
+    # A library that needs what no object has is the third.
+    (tmp_path / "c.c").write_text("int none(void); int asks(void) { return none(); }\n")
+    build("-shared", "-fPIC", "c.c", "-o", "libc.so", "-Wl,-z,undefs")
+    with pytest.raises(ElfError, match="^Symbol is in no object: none$") as raised:
+        relocate_all([*objects, LoadObject(ElfFile.load_from_path(tmp_path / "libc.so"))])
+    assert (raised.value.status, raised.value.of) == (Status.LOAD_UNRESOLVED, 2)
+    for wrong, status in (([], Status.LINK_OBJECT_INDEX), ([objects[0]] + [objects[1]] * 64, Status.MANY_OBJECTS)):
+        with pytest.raises(ElfError) as raised:
+            relocate_all(wrong)
+        assert (raised.value.status, raised.value.of) == (status, None)
+    with pytest.raises(ElfError) as raised:
+        relocate([objects[0]] + [objects[1]] * 64, 0, program.load_image())
+    assert raised.value.status == Status.MANY_OBJECTS
 
 
 def test_a_missing_symbol_is_named_with_its_version(tmp_path):

@@ -153,10 +153,10 @@ def test_layout_is_the_compilers(tmp_path):
     lines = [f'printf("%zu %zu\\n", sizeof({s.c_type}), offsetof({s.c_type}, {f.c_name}));' for s, f in asked]
     (tmp_path / "layout.c").write_text('#include "xmas_elf.h"\n#include <stdio.h>\nint main(void) {' + "\n".join(lines) + "}\n")
     subprocess.run(["gcc", f"-I{ROOT}/bindings/include", tmp_path / "layout.c", "-o", tmp_path / "layout"], check=True)
-    answers = subprocess.run([tmp_path / "layout"], check=True, capture_output=True, text=True).stdout.split("\n")
-    for (struct, field), answer in zip(asked, answers):
+    results = subprocess.run([tmp_path / "layout"], check=True, capture_output=True, text=True).stdout.split("\n")
+    for (struct, field), result in zip(asked, results):
         layout = getattr(declared, struct.name.upper())
-        size, offset = map(int, answer.split())
+        size, offset = map(int, result.split())
         assert layout.size == size, struct.name
         values = layout.unpack(bytes(range(size)))
         names = getattr(declared, "".join(map(str.capitalize, struct.name.split("_"))) + "Record")._fields[-len(values) :]

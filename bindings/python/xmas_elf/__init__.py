@@ -17,7 +17,7 @@ from ._loading import Addresses, Contents, Loader, LoadPlan, Mapping, TlsTemplat
 from ._overview import Overview
 from ._parts import Dynamic, Header, Note, Relocation, Section, Segment, Symbol
 from ._pieces import Owner, Piece, SymbolPiece
-from ._process import LoadObject, check_image, relocate, with_thread_storage
+from ._process import LoadObject, Relocated, check_image, loads, relocate, relocate_all, with_thread_storage
 from ._survey import elf_files, hardening, hardening_row, survey, survey_row, write_csv
 from ._versions import Version, VersionKind
 
@@ -25,7 +25,8 @@ __version__ = "0.1.0"
 
 __all__ = [
     "Addresses", "Contents", "Dynamic", "ElfError", "ElfFile", "Hardening", "Header", "LoadObject", "LoadPlan", "Loader",
-    "Mapping", "Note", "Overview", "Owner", "Piece", "Relocation", "Section", "Segment", "Status", "Symbol", "SymbolAt",
-    "SymbolPiece", "TlsTemplate", "Verdict", "Version", "VersionKind", "check_image", "elf_files", "hardening",
-    "hardening_row", "relocate", "survey", "survey_row", "with_thread_storage", "write_csv",
+    "Mapping", "Note", "Overview", "Owner", "Piece", "Relocated", "Relocation", "Section", "Segment", "Status", "Symbol",
+    "SymbolAt", "SymbolPiece", "TlsTemplate", "Verdict", "Version", "VersionKind", "check_image", "elf_files",
+    "hardening", "hardening_row", "loads", "relocate", "relocate_all", "survey", "survey_row", "with_thread_storage",
+    "write_csv",
 ]

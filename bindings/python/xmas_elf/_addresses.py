@@ -36,17 +36,18 @@ _document(
 
 
 class AddressIndex:
-    """The index of the symbols of a table by their addresses, with its words."""
+    """The index of the symbols of a table by their addresses, with its words and numbers."""
 
     def __init__(self, file: Any, table: Any, indices: Tuple[int, int], within: int) -> None:
         self._file, self._table = file, table
         part = declared.RANGE.pack(*indices)
         self._index = create_string_buffer(declared.ADDRESS_INDEX.size)
-        self._words = create_string_buffer(0)
-        for count in (0, None):
-            words = self.sizes.words if count is None else count
-            self._words = create_string_buffer(4 * words)
-            check(library.xmas_elf_address_index(*file._input, table, part, within, self._words, words, self._index))
+        for words, numbers in ((0, 0), (None, None)):
+            if words is None:
+                words, numbers = self.sizes.words, self.sizes.numbers
+            self._words, self._numbers = create_string_buffer(4 * words), create_string_buffer(8 * numbers)
+            memory = self._words, words, self._numbers, numbers
+            check(library.xmas_elf_address_index(*file._input, table, part, within, *memory, self._index))
         self._names: Dict[int, Tuple[Optional[str], int]] = {}
 
     @property
@@ -57,10 +58,11 @@ class AddressIndex:
     def symbols_at(self, addresses: Iterable[int]) -> List[Optional[SymbolAt]]:
         """The symbols of addresses, in their order, by one call of the archive."""
         numbers = array(_NUMBER, addresses)
-        count, words = len(numbers), self.sizes.words
+        count, sizes = len(numbers), self.sizes
         found = create_string_buffer(count * declared.SYMBOL_AT.size)
         numbers_at, _ = numbers.buffer_info()
-        check(library.xmas_elf_symbols_at(*self._file._input[:2], self._index, self._words, words, numbers_at, count, found, count))
+        memory = self._words, sizes.words, self._numbers, sizes.numbers
+        check(library.xmas_elf_symbols_at(*self._file._input[:2], self._index, *memory, numbers_at, count, found, count))
         return [self._of(fields) for fields in declared.SYMBOL_AT.iter_unpack(found.raw[: count * declared.SYMBOL_AT.size])]
 
     def symbol(self, index: int) -> Symbol:

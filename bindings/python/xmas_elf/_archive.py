@@ -34,9 +34,12 @@ class ElfError(Exception):
     about: Optional[str]
     """What it is about, as the name of the symbol that is in no object; or None."""
 
-    def __init__(self, status: int, about: Optional[str] = None) -> None:
+    of: Optional[int]
+    """The index of the file that it is about, where several are read; or None."""
+
+    def __init__(self, status: int, about: Optional[str] = None, of: Optional[int] = None) -> None:
         super().__init__(status)
-        self.about = about
+        self.about, self.of = about, of
         try:
             self.status = Status(status)
         except ValueError:

@@ -510,6 +510,7 @@ class AddressIndexRecord(NamedTuple):
     indices_offset: int
     indices_size: int
     words: int
+    numbers: int
     sized_count: int
     open_count: int
     within: int
@@ -544,6 +545,7 @@ _document(
         "The bytes of the section of type SHT_SYMTAB_SHNDX; its size is 0 if there is none. The number of "
         "bytes.",
     words="The number of words that the index takes.",
+    numbers="The number of numbers of 64 bits that the index takes.",
     sized_count="The number of symbols with a size in the index; 0 if it is not built.",
     open_count="The number of symbols of size 0 in the index; 0 if it is not built.",
     within="The index of the section whose symbols alone are asked for, or 0.",
@@ -551,7 +553,7 @@ _document(
 )
 
 
-ADDRESS_INDEX = Struct("@QQQQQIHHQQQQQIH0Q")
+ADDRESS_INDEX = Struct("@QQQQQIHHQQQQQQIH0Q")
 
 
 class SymbolAtRecord(NamedTuple):
@@ -745,17 +747,19 @@ class PieceSizesRecord(NamedTuple):
     """The sizes of the pieces of a file."""
 
     words: int
+    numbers: int
     count: int  # type: ignore[assignment]
 
 
 _document(
     PieceSizesRecord,
     words="The number of words that the call takes.",
-    count="The number of all pieces of the file; 0 if the call only found the number of words.",
+    numbers="The number of numbers of 64 bits that the call takes.",
+    count="The number of all pieces of the file; 0 if the call only found how many words and numbers it takes.",
 )
 
 
-PIECE_SIZES = Struct("@QQ0Q")
+PIECE_SIZES = Struct("@QQQ0Q")
 
 
 class LoadObjectRecord(NamedTuple):
@@ -788,7 +792,7 @@ _document(
 LOAD_OBJECT = Struct("@PNPNQQQ0Q")
 
 
-# What each export answers, and its parameters: a slice is a pointer and a count.
+# What each export returns, and its parameters: a slice is a pointer and a count.
 EXPORTS: Dict[str, Tuple[Any, Tuple[Any, ...]]] = {
     "xmas_elf_open": (c_uint32, (c_void_p, c_size_t, c_void_p,)),
     "xmas_elf_check_header": (c_uint32, (c_void_p, c_size_t, c_void_p,)),
@@ -828,15 +832,16 @@ EXPORTS: Dict[str, Tuple[Any, Tuple[Any, ...]]] = {
     "xmas_elf_look_ups": (None, (c_void_p, c_size_t, c_void_p, c_void_p, c_size_t, c_void_p, c_size_t, c_void_p, c_size_t,)),
     "xmas_elf_hash_open": (c_uint32, (c_void_p, c_size_t, c_void_p, c_uint64, c_void_p,)),
     "xmas_elf_check_hash": (c_uint32, (c_void_p, c_size_t, c_void_p,)),
-    "xmas_elf_address_index": (c_uint32, (c_void_p, c_size_t, c_void_p, c_void_p, c_void_p, c_uint32, c_void_p, c_size_t, c_void_p,)),
-    "xmas_elf_symbols_at": (c_uint32, (c_void_p, c_size_t, c_void_p, c_void_p, c_size_t, c_void_p, c_size_t, c_void_p, c_size_t,)),
-    "xmas_elf_pieces": (c_uint32, (c_void_p, c_size_t, c_void_p, c_uint64, c_void_p, c_size_t, c_void_p, c_size_t, c_void_p,)),
-    "xmas_elf_symbol_pieces": (c_uint32, (c_void_p, c_size_t, c_void_p, c_uint64, c_uint64, c_uint64, c_void_p, c_size_t, c_void_p, c_size_t, c_void_p,)),
+    "xmas_elf_address_index": (c_uint32, (c_void_p, c_size_t, c_void_p, c_void_p, c_void_p, c_uint32, c_void_p, c_size_t, c_void_p, c_size_t, c_void_p,)),
+    "xmas_elf_symbols_at": (c_uint32, (c_void_p, c_size_t, c_void_p, c_void_p, c_size_t, c_void_p, c_size_t, c_void_p, c_size_t, c_void_p, c_size_t,)),
+    "xmas_elf_pieces": (c_uint32, (c_void_p, c_size_t, c_void_p, c_uint64, c_void_p, c_size_t, c_void_p, c_size_t, c_void_p, c_size_t, c_void_p,)),
+    "xmas_elf_symbol_pieces": (c_uint32, (c_void_p, c_size_t, c_void_p, c_uint64, c_uint64, c_uint64, c_void_p, c_size_t, c_void_p, c_size_t, c_void_p, c_size_t, c_void_p,)),
     "xmas_elf_load_plan": (c_uint32, (c_void_p, c_size_t, c_void_p, c_uint64, c_uint64, c_void_p,)),
     "xmas_elf_load_mappings": (c_uint32, (c_void_p, c_size_t, c_void_p, c_uint64, c_uint64, c_uint32, c_uint64, c_void_p, c_size_t, c_void_p,)),
     "xmas_elf_load_image": (c_uint32, (c_void_p, c_size_t, c_void_p, c_uint64, c_uint64, c_uint32, c_void_p, c_size_t,)),
     "xmas_elf_check_image": (c_uint32, (c_void_p, c_size_t, c_uint64, c_uint64, c_uint64, c_void_p, c_size_t,)),
     "xmas_elf_relocate": (c_uint32, (c_void_p, c_size_t, c_uint64, c_uint32, c_uint64, c_uint64, c_void_p, c_size_t, c_void_p,)),
+    "xmas_elf_relocate_all": (c_uint32, (c_void_p, c_size_t, c_uint32, c_uint64, c_uint64, c_void_p, c_size_t, c_void_p, c_void_p,)),
     "xmas_elf_message": (c_size_t, (c_uint32, c_void_p, c_size_t,)),
 }
 
@@ -845,7 +850,7 @@ class Status(IntEnum):
     """The status of a call: OK, or an error. The numbers never change."""
 
     OK = 0
-    """No refusal."""
+    """No error."""
     SHORT_PART_1 = 1
     """File is shorter than the first ELF header part."""
     NO_MAGIC = 2
@@ -990,12 +995,16 @@ class Status(IntEnum):
     """Kind of relocations is neither Rel nor Rela."""
     LINK_OBJECT_INDEX = 117
     """Object index is out of range."""
+    LINK_VERSION_CHAIN = 118
+    """Version records are more or fewer than told."""
     OTHER_DATA = 201
     """A section holds other data than what is asked for."""
     NO_RECORD = 202
     """A table has no record with this index."""
     NOT_FOUND = 203
     """Nothing has this name."""
+    MANY_OBJECTS = 204
+    """There are more than 64 objects."""
     LOAD_TYPE = 301
     """Type is neither executable nor shared object."""
     LOAD_ENTRY_SIZE = 302
@@ -1062,6 +1071,42 @@ class Status(IntEnum):
     """Symbol is in no object."""
     LOAD_COPY_SOURCE = 333
     """Bytes to copy are not in the image of their object."""
+    LOAD_BYTE_ORDER = 334
+    """Byte order is not little-endian."""
+    LOAD_IDENT_VERSION = 335
+    """Version in the first bytes is not 1."""
+    LOAD_OS_ABI = 336
+    """ABI of the operating system is neither System V nor GNU."""
+    LOAD_ABI_VERSION = 337
+    """Version of the ABI is not known."""
+    LOAD_PADDING = 338
+    """Bytes 9 to 15 are not zero."""
+    LOAD_VERSION = 339
+    """Version of the file is not 1."""
+    LOAD_EXECUTABLE = 340
+    """Program at a fixed address is no library."""
+    LOAD_NO_DYNAMIC = 341
+    """No dynamic segment."""
+    LOAD_ENTRY = 342
+    """Entry point is past the address limit."""
+    LOAD_NO_ADDENDS = 343
+    """Relocations without addends in a file of class 64."""
+    LOAD_NO_SLOTS = 344
+    """No table of the procedure linkage table for its kind of relocations."""
+    LOAD_FIRST_PACKED = 345
+    """First packed relocation is not an address."""
+    LOAD_RELATIVE_COUNT = 346
+    """Fewer relative relocations than are counted."""
+    LOAD_SLOT_TYPE = 347
+    """Type of a relocation is not for the procedure linkage table."""
+    LOAD_NO_SIZE = 348
+    """Size of a symbol that is in no object."""
+    LOAD_COPY_KIND = 349
+    """Symbol to copy is absolute or an indirect function."""
+    LOAD_CALL_SYMBOL = 350
+    """Relocation by a function that names a symbol."""
+    LOAD_ADDENDS = 351
+    """Relocations with addends in a file of class 32."""
     INDEX_MANY_SYMBOLS = 401
     """Table has 2^32 symbols or more."""
     INDEX_FEW_WORDS = 402

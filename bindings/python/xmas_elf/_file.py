@@ -38,6 +38,8 @@ class ElfFile(Reading):
     The bytes must not change while they are read, and a mapped file must not be cut off: a read past its end ends the
     process (SIGBUS). For a file that others write to, pass what `read()` gives."""
 
+    _path: Optional[str] = None
+
     def __init__(self, source: Union[bytes, bytearray, memoryview, BinaryIO, Any]) -> None:
         super().__init__(source)
 
@@ -45,7 +47,14 @@ class ElfFile(Reading):
     def load_from_path(cls, path: Union[str, "os.PathLike[str]"]) -> "ElfFile":
         """The file at a path, which is mapped."""
         with open(os.fspath(path), "rb") as stream:
-            return cls(stream)
+            file = cls(stream)
+        file._path = os.fspath(path)
+        return file
+
+    @property
+    def path(self) -> Optional[str]:
+        """The path that the file was loaded from; None for another source."""
+        return self._path
 
     def close(self) -> None:
         """Gives the file back. Its parts that are in use stay readable; other calls of the file raise ValueError."""
@@ -285,7 +294,7 @@ class ElfFile(Reading):
         try:
             return [self._named(*name) for name in rows("xmas_elf_dynamic_texts", declared.NAME, *self._input, DT_NEEDED)]
         except ElfError as error:
-            if error.status == Status.LINK_NO_DYNAMIC:
+            if self._has_no_dynamic(error):
                 return []
             raise
 
@@ -337,6 +346,8 @@ class ElfFile(Reading):
         table = self._table("xmas_elf_symbols_open", symbols.index) if symbols else self._dynamic_table
         if table is None:
             return None
+        # A symbol without a name names no address.
+        check(declared.SymbolTableRecord._make(declared.SYMBOL_TABLE.unpack(table)).strings_status)
         wide = next((it for it in sections if symbols and it.type == SHT_SYMTAB_SHNDX and it.link == symbols.index), None)
         return table, (wide.offset, wide.size) if wide else (0, 0)
 
@@ -349,7 +360,7 @@ class ElfFile(Reading):
         return {}
 
     def bytes_at(self, address: int, count: int) -> memoryview:
-        """The bytes for `count` addresses from `address` on, as a loader maps them: those of the first segment of type PT_LOAD
+        """The bytes for `count` addresses from `address` on, as a loader maps them: those of the last segment of type PT_LOAD
         that has them all in the file; else those of the first that has them all in memory, where zeros follow the bytes of
         the file (`.bss`). An error if no segment has them."""
         try:
@@ -376,15 +387,18 @@ class ElfFile(Reading):
 
         If there is none, and no version is asked for, it is the first of the symbols that `dlsym` can't get: those of
         sections of type SHT_SYMTAB, and those that aren't defined here. One that is defined comes first."""
-        status = 0
+        failed: Optional[ElfError] = None
         try:
             symbol = self._found(name, "" if version is None else version)
         except ElfError as error:
-            symbol, status = None, int(error.status)
+            symbol, failed = None, error
         if symbol is None and version is None:
             symbol = self._by_name.get(name)
-        if symbol is None and status != Status.LINK_NO_DYNAMIC:
-            check(status)
+            # One of those without a name may be it.
+            if symbol is None and failed is None:
+                check(self._nameless)
+        if symbol is None and failed is not None and not self._has_no_dynamic(failed):
+            raise failed
         return symbol
 
     def _found(self, name: str, version: str) -> Optional[Symbol]:
@@ -404,6 +418,11 @@ class ElfFile(Reading):
             if symbol.name and (symbol.name not in found or symbol.is_defined > found[symbol.name].is_defined):
                 found[symbol.name] = symbol
         return found
+
+    @cached_property
+    def _nameless(self) -> int:
+        """Why the name of the first symbol without one can't be read; 0 if there is none."""
+        return next((it.name_status for it in self._not_served() if it.name_status), 0)
 
     def _not_served(self) -> Iterator[Symbol]:
         """The symbols that a look-up in the dynamic segment doesn't find; all if it can't be read."""
@@ -428,7 +447,7 @@ class ElfFile(Reading):
         try:
             return self._named(*one("xmas_elf_dynamic_texts", declared.NAME, *self._input, tag, 0))
         except ElfError as error:
-            if error.status in (Status.NO_RECORD, Status.LINK_NO_DYNAMIC):
+            if error.status == Status.NO_RECORD or self._has_no_dynamic(error):
                 return None
             raise
 
@@ -438,7 +457,7 @@ class ElfFile(Reading):
         try:
             return self._table("xmas_elf_dynamic_symbols_open")
         except ElfError as error:
-            if error.status == Status.LINK_NO_DYNAMIC:
+            if self._has_no_dynamic(error):
                 return None
             if error.status == Status.LINK_NO_ENTRY and all(it.tag != DT_SYMTAB for it in entries_of_segment(self)):
                 return None

@@ -57,11 +57,13 @@ class TlsTemplate(NamedTuple):
 
 
 class Verdict(NamedTuple):
-    """Whether Linux and glibc load a file: true or false, and as a text `yes`, or `no` with the reason."""
+    """Whether Linux and glibc load a file, or a program with its libraries: true or false, and as a text `yes`, or `no` with the
+    reason."""
 
     loads: bool
     status: int
     text: str
+    of: Optional[int] = None
 
     def __bool__(self) -> bool:
         return self.loads
@@ -108,7 +110,8 @@ _document(
     Verdict,
     loads="Whether they load it.",
     status="The status: OK, or why they don't.",
-    text="The text of the status.",
+    text="The text of the status; of a program with its libraries after the file that it is about, and before the name.",
+    of="Of a program with its libraries the index of the file that the reason is about; otherwise None.",
 )
 _document(
     LoadPlan,

@@ -91,9 +91,9 @@ def pieces_of(file: Any) -> Iterator[Piece]:
     def sizes(*arguments: Any) -> Any:
         return declared.PieceSizesRecord._make(file._asked("xmas_elf_pieces", declared.PIECE_SIZES, 0, *arguments))
 
-    count = sizes(None, 0, None, 0).words
-    words = create_string_buffer(4 * count)
-    for begin, end, index, number in _stored(lambda pieces, room: int(sizes(words, count, pieces, room).count), count + 7):
+    needed = sizes(None, 0, None, 0, None, 0)
+    memory = create_string_buffer(4 * needed.words), needed.words, create_string_buffer(8 * needed.numbers), needed.numbers
+    for begin, end, index, number in _stored(lambda pieces, room: int(sizes(*memory, pieces, room).count), needed.words + 7):
         owner = Owner(number)
         yield Piece(begin, end, owner, index if owner in (Owner.SECTION, Owner.SEGMENT) else None)
 
@@ -133,11 +133,11 @@ class SectionSymbols:
         first, count = self._groups.get(section, (0, 0))
         table = (self._size * first, self._size * count, self._strings_at, self._record.strings_size, count, *self._record[5:])
         part = (self._words_at + 4 * first, 4 * count) if self._has_words else (0, 0)
-        index = declared.ADDRESS_INDEX.pack(*table, *part, 0, 0, 0, section, self._machine)
-        total, words = c_uint64(), create_string_buffer(12 * count)
+        index = declared.ADDRESS_INDEX.pack(*table, *part, 0, 0, 0, 0, section, self._machine)
+        total, words, numbers = c_uint64(), create_string_buffer(8 * count), create_string_buffer(16 * count)
 
         def call(pieces: Any, room: int) -> int:
-            arguments = index, begin, end, 0, words, 3 * count, pieces, room, byref(total)
+            arguments = index, begin, end, 0, words, 2 * count, numbers, 2 * count, pieces, room, byref(total)
             check(library.xmas_elf_symbol_pieces(self._input, len(self._input), *arguments))
             return total.value
 

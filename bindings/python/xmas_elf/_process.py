@@ -1,16 +1,21 @@
 """The objects of a process, and what relocations write to their images."""
 from __future__ import annotations
 
+import os
 from ctypes import byref, c_uint64
-from typing import Any, List, NamedTuple, Optional, Sequence
+from typing import Any, Callable, Container, Iterator, List, NamedTuple, Optional, Sequence, Tuple
 
 from . import _declarations as declared
 from ._archive import ElfError, check, library
 from ._declarations import Status, _document
 from ._input import address_of, view_of
+from ._loading import Loader, Verdict
 from ._parts import relocations_of_segment
 from ._versions import Version, VersionKind
-from .constants import EM_386, EM_X86_64, STB_LOCAL, STB_WEAK
+from .constants import EM_386, EM_X86_64, PT_DYNAMIC, STB_LOCAL, STB_WEAK
+
+# The most objects that a call of the archive takes.
+MOST_OBJECTS = 64
 
 
 class LoadObject(NamedTuple):
@@ -71,6 +76,54 @@ def relocate(objects: Sequence[LoadObject], of: int, image: bytearray, lazy: boo
     return count.value
 
 
+class Relocated(NamedTuple):
+    """The images of the objects of a process after relocation."""
+
+    images: List[memoryview]
+    numberless: int
+
+
+_document(
+    Relocated,
+    images="The bytes of each object in memory, from the start of its span on.",
+    numberless="How many words have no number: what functions return, and descriptors of thread-local storage.",
+)
+
+
+def relocate_all(objects: Sequence[LoadObject], lazy: bool = False, page: int = 0, limit: int = 0) -> Relocated:
+    """The images of all objects, with the words of all of them, the last object's first, as the dynamic linker writes them. Each
+    file is read once; the images of the objects are not read. An error has the index of the object in `of`, and LOAD_UNRESOLVED the
+    name of the first symbol that is in no object."""
+    images = _images(objects, page, limit)
+    memory = images[0].obj if images else bytearray()
+    packed, left, failed = _Packed(objects), c_uint64(), c_uint64(len(objects))
+    status = library.xmas_elf_relocate_all(
+        *packed.arguments, int(lazy), page, limit, address_of(view_of(memory)), len(memory), byref(left), byref(failed)
+    )
+    if status:
+        of = failed.value if failed.value < len(objects) else None
+        about = _unresolved(objects, of) if status == Status.LOAD_UNRESOLVED and of is not None else None
+        raise ElfError(status, about, of)
+    return Relocated(images, left.value)
+
+
+def _images(objects: Sequence[LoadObject], page: int, limit: int) -> List[memoryview]:
+    """The images of all objects before relocation, one after another in one `bytearray`."""
+    ends = [0]
+    for index, it in enumerate(objects):
+        try:
+            span = it.file.load_plan(page, limit).span
+        except ElfError as error:
+            raise ElfError(error.status, error.about, index) from None
+        ends.append(ends[-1] + span.end - span.start)
+    memory = memoryview(bytearray(ends[-1]))
+    images = [memory[start:end] for start, end in zip(ends, ends[1:])]
+    for index, (it, image) in enumerate(zip(objects, images)):
+        by = Loader.GLIBC if index else Loader.LINUX
+        check(library.xmas_elf_load_image(*it.file._input, page, limit, by, address_of(image), len(image)))
+    return images
+
+
 def _is_in(file: Any, name: str, version: str) -> bool:
     try:
         return file._found(name, version) is not None
@@ -124,3 +177,66 @@ def with_thread_storage(objects: Sequence[LoadObject]) -> List[LoadObject]:
 def _place(end: int, size: int, align: int, first: int) -> int:
     """How far below an aligned address storage begins that ends at least so far below it, and has its aligned byte at `first`."""
     return -(-(end + size - first) // align) * align + first
+
+
+def loads(files: Sequence[Any], lazy: bool = False, page: int = 0, limit: int = 0) -> Verdict:
+    """Whether a program loads with its libraries, each an `ElfFile`, in the order in which they are loaded, the program first: true
+    or false, and the text `yes`, or `no` with the file and the reason. The first of these is the reason: a file has no plan; a
+    library that a file needs is not among the files; the tables or the words of a file can't be read or written; a symbol is in
+    no file. With `lazy` jump slots get their symbols later. It takes up to 64 files."""
+    if not 0 < len(files) <= MOST_OBJECTS:
+        raise ValueError(f"between 1 and {MOST_OBJECTS} files are wanted")
+    for index, step in _steps([LoadObject(it) for it in files], lazy, page, limit):
+        try:
+            step()
+        except ElfError as error:
+            of = index if error.of is None else error.of
+            return Verdict(False, error.status, f"{_shown(files[of], of)}: {error}", of)
+    return Verdict(True, Status.OK, "")
+
+
+def _shown(file: Any, index: int) -> str:
+    return file.path or f"file {index}"
+
+
+def _steps(objects: List[LoadObject], lazy: bool, page: int, limit: int) -> Iterator[Tuple[int, Callable[[], object]]]:
+    """What must pass, each with the index of the object that it is about."""
+    for index, it in enumerate(objects):
+        yield index, lambda: it.file.load_plan(page, limit)
+    # A static program relocates itself, if it does.
+    if len(objects) == 1 and all(it.type != PT_DYNAMIC for it in objects[0].file.segments()):
+        return
+    names = {name for it in objects for name in _names(it.file)}
+    for index in range(len(objects)):
+        yield index, lambda: _check_needed(objects[index].file, names)
+    for index in range(len(objects)):
+        yield index, lambda: _check_file(objects[0], objects[index], page, limit)
+    for index in range(len(objects)):
+        yield index, lambda: check_image(objects, index, page, limit)
+    yield 0, lambda: relocate_all(objects, lazy, page, limit)
+
+
+def _names(file: Any) -> Iterator[str]:
+    """The names by which a library is needed: its path, the last part of it, or its own name."""
+    if file.path:
+        yield from (file.path, os.path.basename(file.path))
+    try:
+        yield file.soname or ""
+    except ElfError:
+        pass
+
+
+def _check_needed(file: Any, names: Container[str]) -> None:
+    for name in file.needed:
+        if name not in names:
+            raise ElfError(Status.NOT_FOUND, name)
+
+
+def _check_file(first: LoadObject, it: LoadObject, page: int, limit: int) -> None:
+    """Raises if a file can't be read as an object of the program. A call for an object that isn't there reads the files, and
+    then says so."""
+    arguments = _Packed((first, it)).arguments
+    status = library.xmas_elf_check_image(*arguments, 2, page, limit, None, 0)
+    if status != Status.LINK_OBJECT_INDEX:
+        check(status)
+

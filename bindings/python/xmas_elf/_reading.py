@@ -35,6 +35,16 @@ class Reading:
         check(getattr(library, export)(*self._input, *arguments, out))
         return layout.unpack(out)
 
+    def _has_no_dynamic(self, error: ElfError) -> bool:
+        """Whether the error says that there is no dynamic segment. Raises if there may be one, since the program headers can't be
+        read."""
+        if error.status != Status.LINK_NO_DYNAMIC:
+            return False
+        count = declared.CountsRecord._make(self._asked("xmas_elf_counts", declared.COUNTS)).segments
+        if count:
+            self._asked("xmas_elf_segment", declared.SEGMENT, count - 1)
+        return True
+
     def _table(self, export: str, *arguments: Any) -> Any:
         """The symbols that a call finds: numbers that other calls take back."""
         table = create_string_buffer(declared.SYMBOL_TABLE.size)

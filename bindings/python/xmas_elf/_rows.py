@@ -12,23 +12,26 @@ from ._declarations import Status
 Row = Tuple[Any, ...]
 # A number of 64 bits.
 NUMBER = Struct("@Q")
-# How many records a call fills.
+# How many records the first call fills.
 ROOM = 512
 
 
 def batches(export: str, layout: Struct, *arguments: Any, room: int = ROOM) -> Iterator[Iterator[Row]]:
     """The records of a table from index 0 on, call by call. They are copied out of the memory that a call fills: an iterator
-    over a view of it, kept by an error's traceback, can end CPython 3.11 in its garbage collector."""
+    over a view of it, kept by an error's traceback, can end CPython 3.11 in its garbage collector. A call after one that had
+    too little room has twice as much: some read the records from the first on."""
     call, first, filled = getattr(library, export), 0, c_uint64()
     records = create_string_buffer(room * layout.size)
-    memory = memoryview(records)
     while True:
         status = call(*arguments, first, records, room, byref(filled))
         if status == Status.NO_RECORD:
             return
         check(status)
-        yield layout.iter_unpack(bytes(memory[: filled.value * layout.size]))
+        yield layout.iter_unpack(bytes(memoryview(records)[: filled.value * layout.size]))
         first += filled.value
+        if filled.value == room:
+            room *= 2
+            records = create_string_buffer(room * layout.size)
 
 
 def one(export: str, layout: Struct, *arguments: Any) -> Row:
@@ -49,5 +52,5 @@ def of_segment(file: Any, export: str, layout: Struct) -> Iterator[Row]:
     try:
         yield from rows(export, layout, *file._input, room=min(1 << 16, 1 + len(file._view) // 8))
     except ElfError as error:
-        if error.status != Status.LINK_NO_DYNAMIC:
+        if not file._has_no_dynamic(error):
             raise

@@ -76,7 +76,7 @@ def versions(file: Reading, export: str, room: int) -> Iterator[Version]:
                 known[fields] = _version(file, declared.VersionRecord._make(fields))
             yield known[fields]
     except ElfError as error:
-        if error.status not in (Status.LINK_NO_DYNAMIC, Status.NOT_FOUND):
+        if error.status != Status.NOT_FOUND and not file._has_no_dynamic(error):
             raise
 
 

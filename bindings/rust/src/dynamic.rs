@@ -7,18 +7,27 @@ use core::fmt;
 use core::ops::Deref;
 
 // Whether a list can be read, by what a call for none of its records returned. A file without it has an empty list.
-pub(crate) fn begun(said: Result<u64, Error>) -> Result<(), Error> {
+pub(crate) fn begun(file: &ElfFile<'_>, said: Result<u64, Error>) -> Result<(), Error> {
     match said {
-        Ok(_) | Err(Error::NoRecord | Error::LinkNoDynamic | Error::NotFound) => Ok(()),
-        Err(error) => Err(error),
+        Ok(_) | Err(Error::NoRecord | Error::NotFound) => Ok(()),
+        Err(error) => no_dynamic(file, error),
+    }
+}
+
+// An error that is none if it says that there is no dynamic segment, and all program headers can be read.
+pub(crate) fn no_dynamic(file: &ElfFile<'_>, error: Error) -> Result<(), Error> {
+    match error {
+        Error::LinkNoDynamic => file.segments().map(|_| ()),
+        error => Err(error),
     }
 }
 
 impl<'a> ElfFile<'a> {
     /// The names of the libraries that the file needs, in the order of the dynamic entries (DT_NEEDED); none if it has no
-    /// dynamic segment.
+    /// dynamic segment. They are read 64 at a time, each time from the first entry on: the time grows with the square of the
+    /// number of entries.
     pub fn needed(&self) -> Result<impl Iterator<Item = Result<&'a str, Error>> + '_, Error> {
-        begun(ffi::dynamic_texts(self.input, &self.header, DT_NEEDED, 0, &mut []))?;
+        begun(self, ffi::dynamic_texts(self.input, &self.header, DT_NEEDED, 0, &mut []))?;
         let names = Batch::<Name, 64>::items(|first, out| ffi::dynamic_texts(self.input, &self.header, DT_NEEDED, first, out));
         Ok(names.map(|name| self.name_of(&name)))
     }
@@ -41,8 +50,8 @@ impl<'a> ElfFile<'a> {
     pub(crate) fn dynamic_text(&self, tag: u64) -> Result<Option<&'a str>, Error> {
         match one(|out| ffi::dynamic_texts(self.input, &self.header, tag, 0, out)) {
             Ok(name) => self.name_of(&name).map(Some),
-            Err(Error::NoRecord | Error::LinkNoDynamic) => Ok(None),
-            Err(error) => Err(error),
+            Err(Error::NoRecord) => Ok(None),
+            Err(error) => no_dynamic(self, error).map(|()| None),
         }
     }
 
@@ -51,7 +60,7 @@ impl<'a> ElfFile<'a> {
     pub fn dynamic(&self) -> Result<impl Iterator<Item = Dynamic> + '_, Error> {
         let section = self.sections()?.find(|section| section.type_ == SHT_DYNAMIC);
         if section.is_none() {
-            begun(ffi::dynamic_entries(self.input, &self.header, 0, &mut []))?;
+            begun(self, ffi::dynamic_entries(self.input, &self.header, 0, &mut []))?;
         }
         let of_segment = section.is_none().then(|| Batch::<Dynamic, 64>::items(|first, out| ffi::dynamic_entries(self.input, &self.header, first, out)));
         let of_section = section.map(|section| section.dynamic()).transpose()?;
@@ -65,7 +74,7 @@ impl<'a> ElfFile<'a> {
     }
 
     /// The symbols of the dynamic segment (DT_SYMTAB), from index 0 on, as many as `dynamic_symbol_count` says; none if
-    /// the file has no such segment.
+    /// the file has no such segment. Versions are read 128 at a time, as by `dynamic_symbol_versions`.
     pub fn dynamic_symbols(&self) -> Result<DynamicSymbols<'_, 'a>, Error> {
         DynamicSymbols::new(self)
     }
@@ -83,7 +92,7 @@ impl<'a> ElfFile<'a> {
         ffi::symbols(self.input, &self.dynamic_symbol_table()?, first, out).map(|count| count as usize)
     }
 
-    /// Puts where the names of the symbols of the dynamic segment from an index on stand to the front of `out`, as many
+    /// Puts the places of the names of the symbols of the dynamic segment from an index on to the front of `out`, as many
     /// as `dynamic_symbols_from` gives, and says how many.
     pub fn dynamic_symbol_names_from(&self, first: u64, out: &mut [Name]) -> Result<usize, Error> {
         ffi::symbol_names(self.input, &self.dynamic_symbol_table()?, first, out).map(|count| count as usize)
@@ -100,8 +109,8 @@ impl<'a> ElfFile<'a> {
     pub fn find_symbol(&self, name: &str, version: Option<&str>) -> Result<Option<DynamicSymbol<'a>>, Error> {
         let version = version.unwrap_or_default();
         let said = match ffi::find_symbol(self.input, &self.header, name.as_bytes(), version.as_bytes()) {
-            Err(Error::LinkNoDynamic) => return Ok(None),
-            said => said?,
+            Err(error) => return no_dynamic(self, error).map(|()| None),
+            Ok(said) => said,
         };
         if said.found == 0 {
             return Ok(None);
@@ -117,9 +126,10 @@ impl<'a> ElfFile<'a> {
     }
 
     /// The versions of the symbols of the dynamic segment (DT_VERSYM), as many and in the order of `dynamic_symbols`; none
-    /// if the file has none.
+    /// if the file has none. They are read 256 at a time, and each time the symbols are counted again by the hash table: with
+    /// GNU's alone the time grows with the number of symbols times that of its buckets.
     pub fn dynamic_symbol_versions(&self) -> Result<impl Iterator<Item = Result<SymbolVersion<'a>, Error>> + '_, Error> {
-        begun(ffi::dynamic_symbol_versions(self.input, &self.header, 0, &mut []))?;
+        begun(self, ffi::dynamic_symbol_versions(self.input, &self.header, 0, &mut []))?;
         let versions = Batch::<Version, 256>::items(|first, out| ffi::dynamic_symbol_versions(self.input, &self.header, first, out));
         Ok(versions.map(|version| self.version_of(&version)))
     }
@@ -132,9 +142,10 @@ impl<'a> ElfFile<'a> {
     }
 
     /// The versions that the file defines (DT_VERDEF), in their order, that of the file itself included. A record that is
-    /// cut off is the last item.
+    /// cut off is the last item. They are read 64 at a time, each time from the first on: the time grows with the square of
+    /// their number.
     pub fn version_definitions(&self) -> Result<impl Iterator<Item = Result<SymbolVersion<'a>, Error>> + '_, Error> {
-        begun(ffi::version_definitions(self.input, &self.header, 0, &mut []))?;
+        begun(self, ffi::version_definitions(self.input, &self.header, 0, &mut []))?;
         let versions = Batch::<Version, 64>::items(|first, out| ffi::version_definitions(self.input, &self.header, first, out));
         Ok(versions.map(|version| self.version_of(&version)))
     }
@@ -147,7 +158,7 @@ impl<'a> ElfFile<'a> {
 
     /// The versions that the file needs of libraries (DT_VERNEED), in their order; else as `version_definitions`.
     pub fn version_needs(&self) -> Result<impl Iterator<Item = Result<SymbolVersion<'a>, Error>> + '_, Error> {
-        begun(ffi::version_needs(self.input, &self.header, 0, &mut []))?;
+        begun(self, ffi::version_needs(self.input, &self.header, 0, &mut []))?;
         let versions = Batch::<Version, 64>::items(|first, out| ffi::version_needs(self.input, &self.header, first, out));
         Ok(versions.map(|version| self.version_of(&version)))
     }
@@ -238,7 +249,7 @@ pub struct DynamicSymbols<'f, 'a> {
 impl<'f, 'a> DynamicSymbols<'f, 'a> {
     fn new(file: &'f ElfFile<'a>) -> Result<DynamicSymbols<'f, 'a>, Error> {
         let found = file.dynamic_symbol_table();
-        begun(found.map(|table| table.count))?;
+        begun(file, found.map(|table| table.count))?;
         let unversioned = ffi::dynamic_symbol_versions(file.input, &file.header, 0, &mut []).err();
         Ok(DynamicSymbols { file, table: found.unwrap_or_default(), entries: Batch::new(), names: Batch::new(), unversioned, versions: Batch::new() })
     }

@@ -148,12 +148,16 @@ pub enum Error {
     LinkRelocationKind,
     /// Object index is out of range.
     LinkObjectIndex,
+    /// Version records are more or fewer than told.
+    LinkVersionChain,
     /// A section holds other data than what is asked for.
     OtherData,
     /// A table has no record with this index.
     NoRecord,
     /// Nothing has this name.
     NotFound,
+    /// There are more than 64 objects.
+    ManyObjects,
     /// Type is neither executable nor shared object.
     LoadType,
     /// Program headers are not of the size of the class.
@@ -220,6 +224,42 @@ pub enum Error {
     LoadUnresolved,
     /// Bytes to copy are not in the image of their object.
     LoadCopySource,
+    /// Byte order is not little-endian.
+    LoadByteOrder,
+    /// Version in the first bytes is not 1.
+    LoadIdentVersion,
+    /// ABI of the operating system is neither System V nor GNU.
+    LoadOsAbi,
+    /// Version of the ABI is not known.
+    LoadAbiVersion,
+    /// Bytes 9 to 15 are not zero.
+    LoadPadding,
+    /// Version of the file is not 1.
+    LoadVersion,
+    /// Program at a fixed address is no library.
+    LoadExecutable,
+    /// No dynamic segment.
+    LoadNoDynamic,
+    /// Entry point is past the address limit.
+    LoadEntry,
+    /// Relocations without addends in a file of class 64.
+    LoadNoAddends,
+    /// No table of the procedure linkage table for its kind of relocations.
+    LoadNoSlots,
+    /// First packed relocation is not an address.
+    LoadFirstPacked,
+    /// Fewer relative relocations than are counted.
+    LoadRelativeCount,
+    /// Type of a relocation is not for the procedure linkage table.
+    LoadSlotType,
+    /// Size of a symbol that is in no object.
+    LoadNoSize,
+    /// Symbol to copy is absolute or an indirect function.
+    LoadCopyKind,
+    /// Relocation by a function that names a symbol.
+    LoadCallSymbol,
+    /// Relocations with addends in a file of class 32.
+    LoadAddends,
     /// Table has 2^32 symbols or more.
     IndexManySymbols,
     /// Too few words for the index.
@@ -304,9 +344,11 @@ impl Error {
             115 => Error::LinkVersionCount,
             116 => Error::LinkRelocationKind,
             117 => Error::LinkObjectIndex,
+            118 => Error::LinkVersionChain,
             201 => Error::OtherData,
             202 => Error::NoRecord,
             203 => Error::NotFound,
+            204 => Error::ManyObjects,
             301 => Error::LoadType,
             302 => Error::LoadEntrySize,
             303 => Error::LoadCount,
@@ -340,6 +382,24 @@ impl Error {
             331 => Error::LoadWordInTable,
             332 => Error::LoadUnresolved,
             333 => Error::LoadCopySource,
+            334 => Error::LoadByteOrder,
+            335 => Error::LoadIdentVersion,
+            336 => Error::LoadOsAbi,
+            337 => Error::LoadAbiVersion,
+            338 => Error::LoadPadding,
+            339 => Error::LoadVersion,
+            340 => Error::LoadExecutable,
+            341 => Error::LoadNoDynamic,
+            342 => Error::LoadEntry,
+            343 => Error::LoadNoAddends,
+            344 => Error::LoadNoSlots,
+            345 => Error::LoadFirstPacked,
+            346 => Error::LoadRelativeCount,
+            347 => Error::LoadSlotType,
+            348 => Error::LoadNoSize,
+            349 => Error::LoadCopyKind,
+            350 => Error::LoadCallSymbol,
+            351 => Error::LoadAddends,
             401 => Error::IndexManySymbols,
             402 => Error::IndexFewWords,
             other => Error::Unknown(other),
@@ -421,9 +481,11 @@ impl Error {
             Error::LinkVersionCount => 115,
             Error::LinkRelocationKind => 116,
             Error::LinkObjectIndex => 117,
+            Error::LinkVersionChain => 118,
             Error::OtherData => 201,
             Error::NoRecord => 202,
             Error::NotFound => 203,
+            Error::ManyObjects => 204,
             Error::LoadType => 301,
             Error::LoadEntrySize => 302,
             Error::LoadCount => 303,
@@ -457,6 +519,24 @@ impl Error {
             Error::LoadWordInTable => 331,
             Error::LoadUnresolved => 332,
             Error::LoadCopySource => 333,
+            Error::LoadByteOrder => 334,
+            Error::LoadIdentVersion => 335,
+            Error::LoadOsAbi => 336,
+            Error::LoadAbiVersion => 337,
+            Error::LoadPadding => 338,
+            Error::LoadVersion => 339,
+            Error::LoadExecutable => 340,
+            Error::LoadNoDynamic => 341,
+            Error::LoadEntry => 342,
+            Error::LoadNoAddends => 343,
+            Error::LoadNoSlots => 344,
+            Error::LoadFirstPacked => 345,
+            Error::LoadRelativeCount => 346,
+            Error::LoadSlotType => 347,
+            Error::LoadNoSize => 348,
+            Error::LoadCopyKind => 349,
+            Error::LoadCallSymbol => 350,
+            Error::LoadAddends => 351,
             Error::IndexManySymbols => 401,
             Error::IndexFewWords => 402,
             Error::Unknown(status) => *status,

@@ -7,7 +7,7 @@
 use crate::records::{AddressIndex, Answer, Counts, Dynamic, Entry, FoundAt, FoundSymbol, FoundTable, Header, LoadObject, Mapping, Name, NoteRange, Piece, PieceSizes, Plan, ProgramHeader, Range, Relocation, SectionHeader, SymbolTable, Version};
 use crate::Error;
 
-fn answered<T>(status: u32, value: T) -> Result<T, Error> {
+fn result_of<T>(status: u32, value: T) -> Result<T, Error> {
     match status {
         0 => Ok(value),
         status => Err(Error::of(status)),
@@ -83,13 +83,17 @@ extern "C" {
         out: *mut FoundTable) -> u32;
     fn xmas_elf_check_hash(input: *const u8, input_len: usize, table: *const FoundTable) -> u32;
     fn xmas_elf_address_index(input: *const u8, input_len: usize, header: *const Header, table: *const SymbolTable,
-        indices: *const Range, within: u32, words: *mut u32, words_len: usize, out: *mut AddressIndex) -> u32;
+        indices: *const Range, within: u32, words: *mut u32, words_len: usize, numbers: *mut u64, numbers_len: usize,
+        out: *mut AddressIndex) -> u32;
     fn xmas_elf_symbols_at(input: *const u8, input_len: usize, index: *const AddressIndex, words: *const u32,
-        words_len: usize, addresses: *const u64, addresses_len: usize, out: *mut FoundAt, out_len: usize) -> u32;
+        words_len: usize, numbers: *const u64, numbers_len: usize, addresses: *const u64, addresses_len: usize,
+        out: *mut FoundAt, out_len: usize) -> u32;
     fn xmas_elf_pieces(input: *const u8, input_len: usize, header: *const Header, first: u64, words: *mut u32,
-        words_len: usize, out: *mut Piece, out_len: usize, sizes: *mut PieceSizes) -> u32;
+        words_len: usize, numbers: *mut u64, numbers_len: usize, out: *mut Piece, out_len: usize,
+        sizes: *mut PieceSizes) -> u32;
     fn xmas_elf_symbol_pieces(input: *const u8, input_len: usize, index: *const AddressIndex, begin: u64, end: u64,
-        first: u64, words: *mut u32, words_len: usize, out: *mut Piece, out_len: usize, count: *mut u64) -> u32;
+        first: u64, words: *mut u32, words_len: usize, numbers: *mut u64, numbers_len: usize, out: *mut Piece,
+        out_len: usize, count: *mut u64) -> u32;
     fn xmas_elf_load_plan(input: *const u8, input_len: usize, header: *const Header, page: u64, limit: u64,
         out: *mut Plan) -> u32;
     fn xmas_elf_load_mappings(input: *const u8, input_len: usize, header: *const Header, page: u64, limit: u64,
@@ -100,6 +104,8 @@ extern "C" {
         marks: *mut u8, marks_len: usize) -> u32;
     fn xmas_elf_relocate(objects: *const LoadObject<'_>, objects_len: usize, of: u64, lazy: u32, page: u64,
         limit: u64, image: *mut u8, image_len: usize, count: *mut u64) -> u32;
+    fn xmas_elf_relocate_all(objects: *const LoadObject<'_>, objects_len: usize, lazy: u32, page: u64, limit: u64,
+        images: *mut u8, images_len: usize, left: *mut u64, failed: *mut u64) -> u32;
     fn xmas_elf_message(status: u32, out: *mut u8, out_len: usize) -> usize;
 }
 
@@ -109,7 +115,7 @@ pub(crate) fn open(input: &[u8]) -> Result<Header, Error> {
     let mut out = Header::default();
     // SAFETY: see the head of this file.
     let status = unsafe { xmas_elf_open(input.as_ptr(), input.len(), &mut out) };
-    answered(status, out)
+    result_of(status, out)
 }
 
 /// Checks the header against the input: its own size, its class, version and byte order, and that its two tables lie
@@ -118,7 +124,7 @@ pub(crate) fn open(input: &[u8]) -> Result<Header, Error> {
 pub(crate) fn check_header(input: &[u8], header: &Header) -> Result<(), Error> {
     // SAFETY: see the head of this file.
     let status = unsafe { xmas_elf_check_header(input.as_ptr(), input.len(), header) };
-    answered(status, ())
+    result_of(status, ())
 }
 
 /// The numbers of sections and segments that the file claims; its tables may be cut off before. It returns no error.
@@ -126,7 +132,7 @@ pub(crate) fn counts(input: &[u8], header: &Header) -> Result<Counts, Error> {
     let mut out = Counts::default();
     // SAFETY: see the head of this file.
     let status = unsafe { xmas_elf_counts(input.as_ptr(), input.len(), header, &mut out) };
-    answered(status, out)
+    result_of(status, out)
 }
 
 /// The index of the section with the names of sections. Errors: `ReservedIndex`.
@@ -134,7 +140,7 @@ pub(crate) fn names_index(input: &[u8], header: &Header) -> Result<u32, Error> {
     let mut out = u32::default();
     // SAFETY: see the head of this file.
     let status = unsafe { xmas_elf_names_index(input.as_ptr(), input.len(), header, &mut out) };
-    answered(status, out)
+    result_of(status, out)
 }
 
 /// The section header at an index. The index is not compared with the number of sections: past the table the call
@@ -144,7 +150,7 @@ pub(crate) fn section(input: &[u8], header: &Header, index: u64) -> Result<Secti
     let mut out = SectionHeader::default();
     // SAFETY: see the head of this file.
     let status = unsafe { xmas_elf_section(input.as_ptr(), input.len(), header, index, &mut out) };
-    answered(status, out)
+    result_of(status, out)
 }
 
 /// Checks the section header at an index: that this reader knows its type, as it does 19 (SHT_RELR). Where the data
@@ -153,7 +159,7 @@ pub(crate) fn section(input: &[u8], header: &Header, index: u64) -> Result<Secti
 pub(crate) fn check_section(input: &[u8], header: &Header, index: u64) -> Result<(), Error> {
     // SAFETY: see the head of this file.
     let status = unsafe { xmas_elf_check_section(input.as_ptr(), input.len(), header, index) };
-    answered(status, ())
+    result_of(status, ())
 }
 
 /// The section headers from index `first` on, up to the number of sections or the first that can't be read. If they
@@ -163,7 +169,7 @@ pub(crate) fn sections(input: &[u8], header: &Header, first: u64, out: &mut [Sec
     // SAFETY: see the head of this file.
     let status = unsafe { xmas_elf_sections(input.as_ptr(), input.len(), header, first, out.as_mut_ptr(), out.len(),
         &mut count) };
-    answered(status, count)
+    result_of(status, count)
 }
 
 /// The first section with a name. A section of type 19 (SHT_RELR), or whose name can't be read, is skipped, and a
@@ -173,7 +179,7 @@ pub(crate) fn find_section(input: &[u8], header: &Header, name: &[u8]) -> Result
     // SAFETY: see the head of this file.
     let status = unsafe { xmas_elf_find_section(input.as_ptr(), input.len(), header, name.as_ptr(), name.len(), &mut
         out) };
-    answered(status, out)
+    result_of(status, out)
 }
 
 /// The index of the first section with a name: that of the section that `find_section` gives, which takes less time.
@@ -183,7 +189,7 @@ pub(crate) fn find_section_index(input: &[u8], header: &Header, name: &[u8]) -> 
     // SAFETY: see the head of this file.
     let status = unsafe { xmas_elf_find_section_index(input.as_ptr(), input.len(), header, name.as_ptr(), name.len(),
         &mut out) };
-    answered(status, out)
+    result_of(status, out)
 }
 
 /// The range of a section's data. A section of type SHT_NOBITS has none in the file: its range belongs to other
@@ -194,7 +200,7 @@ pub(crate) fn section_data(input: &[u8], header: &Header, index: u64) -> Result<
     let mut out = Range::default();
     // SAFETY: see the head of this file.
     let status = unsafe { xmas_elf_section_data(input.as_ptr(), input.len(), header, index, &mut out) };
-    answered(status, out)
+    result_of(status, out)
 }
 
 /// The ranges of the names of sections from index `first` on, each with a status of its own, without the zero bytes
@@ -206,7 +212,7 @@ pub(crate) fn section_names(input: &[u8], header: &Header, first: u64, out: &mut
     // SAFETY: see the head of this file.
     let status = unsafe { xmas_elf_section_names(input.as_ptr(), input.len(), header, first, out.as_mut_ptr(),
         out.len(), &mut count) };
-    answered(status, count)
+    result_of(status, count)
 }
 
 /// The range of the name table of sections, which goes on to the end of the input. Read it once: the name of a
@@ -216,7 +222,7 @@ pub(crate) fn names(input: &[u8], header: &Header) -> Result<Range, Error> {
     let mut out = Range::default();
     // SAFETY: see the head of this file.
     let status = unsafe { xmas_elf_names(input.as_ptr(), input.len(), header, &mut out) };
-    answered(status, out)
+    result_of(status, out)
 }
 
 /// The range of the text that begins `index` bytes after the start of `part` and ends before the next zero byte of
@@ -225,7 +231,7 @@ pub(crate) fn text(input: &[u8], part: &Range, index: u64) -> Result<Range, Erro
     let mut out = Range::default();
     // SAFETY: see the head of this file.
     let status = unsafe { xmas_elf_text(input.as_ptr(), input.len(), part, index, &mut out) };
-    answered(status, out)
+    result_of(status, out)
 }
 
 /// The program header at an index. Errors, in the order of the tests: `NoProgramHeaders`, `UnknownClass`,
@@ -234,7 +240,7 @@ pub(crate) fn segment(input: &[u8], header: &Header, index: u32) -> Result<Progr
     let mut out = ProgramHeader::default();
     // SAFETY: see the head of this file.
     let status = unsafe { xmas_elf_segment(input.as_ptr(), input.len(), header, index, &mut out) };
-    answered(status, out)
+    result_of(status, out)
 }
 
 /// Checks the program header at an index against the input: the size of the table's entries, that the segment ends
@@ -245,7 +251,7 @@ pub(crate) fn segment(input: &[u8], header: &Header, index: u32) -> Result<Progr
 pub(crate) fn check_segment(input: &[u8], header: &Header, index: u32) -> Result<(), Error> {
     // SAFETY: see the head of this file.
     let status = unsafe { xmas_elf_check_segment(input.as_ptr(), input.len(), header, index) };
-    answered(status, ())
+    result_of(status, ())
 }
 
 /// The program headers from index `first` on, up to the number of segments or the first that can't be read. If they
@@ -255,7 +261,7 @@ pub(crate) fn segments(input: &[u8], header: &Header, first: u64, out: &mut [Pro
     // SAFETY: see the head of this file.
     let status = unsafe { xmas_elf_segments(input.as_ptr(), input.len(), header, first, out.as_mut_ptr(), out.len(),
         &mut count) };
-    answered(status, count)
+    result_of(status, count)
 }
 
 /// The range of a segment's data. `NullData` is for type PT_NULL, `InvalidPhType` for a type that this reader does
@@ -266,7 +272,7 @@ pub(crate) fn segment_data(input: &[u8], header: &Header, index: u32) -> Result<
     let mut out = Range::default();
     // SAFETY: see the head of this file.
     let status = unsafe { xmas_elf_segment_data(input.as_ptr(), input.len(), header, index, &mut out) };
-    answered(status, out)
+    result_of(status, out)
 }
 
 /// The symbols from index `first` on of a table that `symbols_open` or `dynamic_symbols_open` found. Any table may be
@@ -277,7 +283,7 @@ pub(crate) fn symbols(input: &[u8], table: &SymbolTable, first: u64, out: &mut [
     // SAFETY: see the head of this file.
     let status = unsafe { xmas_elf_symbols(input.as_ptr(), input.len(), table, first, out.as_mut_ptr(), out.len(),
         &mut count) };
-    answered(status, count)
+    result_of(status, count)
 }
 
 /// The ranges of the names of these symbols, each with a status of its own: the texts at each symbol's `name` in the
@@ -290,7 +296,7 @@ pub(crate) fn symbol_names(input: &[u8], table: &SymbolTable, first: u64, out: &
     // SAFETY: see the head of this file.
     let status = unsafe { xmas_elf_symbol_names(input.as_ptr(), input.len(), table, first, out.as_mut_ptr(),
         out.len(), &mut count) };
-    answered(status, count)
+    result_of(status, count)
 }
 
 /// Finds the symbols of a section of type SHT_SYMTAB or SHT_DYNSYM, and the string table that it is linked to, once
@@ -302,7 +308,7 @@ pub(crate) fn symbols_open(input: &[u8], header: &Header, section: u64) -> Resul
     let mut out = SymbolTable::default();
     // SAFETY: see the head of this file.
     let status = unsafe { xmas_elf_symbols_open(input.as_ptr(), input.len(), header, section, &mut out) };
-    answered(status, out)
+    result_of(status, out)
 }
 
 /// The relocations from index `first` on of a section of type SHT_REL or SHT_RELA. For a section of another type the
@@ -314,7 +320,7 @@ pub(crate) fn relocations(input: &[u8], header: &Header, section: u64, first: u6
     // SAFETY: see the head of this file.
     let status = unsafe { xmas_elf_relocations(input.as_ptr(), input.len(), header, section, first, out.as_mut_ptr(),
         out.len(), &mut count) };
-    answered(status, count)
+    result_of(status, count)
 }
 
 /// The addresses in the packed relative relocations of a section of type 19 (SHT_RELR) from index `first` on: those
@@ -327,7 +333,7 @@ pub(crate) fn packed_relocations(input: &[u8], header: &Header, section: u64, fi
     // SAFETY: see the head of this file.
     let status = unsafe { xmas_elf_packed_relocations(input.as_ptr(), input.len(), header, section, first,
         out.as_mut_ptr(), out.len(), &mut count) };
-    answered(status, count)
+    result_of(status, count)
 }
 
 /// The dynamic entries from index `first` on of a section of type SHT_DYNAMIC, also those after the entry with tag 0.
@@ -340,44 +346,44 @@ pub(crate) fn dynamics(input: &[u8], header: &Header, section: u64, first: u64,
     // SAFETY: see the head of this file.
     let status = unsafe { xmas_elf_dynamics(input.as_ptr(), input.len(), header, section, first, out.as_mut_ptr(),
         out.len(), &mut count) };
-    answered(status, count)
+    result_of(status, count)
 }
 
-/// The dynamic entries of the first segment of type PT_DYNAMIC from index `first` on, also those after the entry with
-/// tag 0. No section header is needed. Errors, in the order of the tests: `LinkNoDynamic`, `DataRange`,
-/// `UnknownClass`, `NotMultiple`, `NoRecord`.
+/// The dynamic entries of the last segment of type PT_DYNAMIC from index `first` on, also those after the entry with
+/// tag 0. No section header is needed. Errors, in the order of the tests: `LinkNoDynamic`, `LinkAddress`,
+/// `DataRange`, `UnknownClass`, `NotMultiple`, `NoRecord`.
 pub(crate) fn dynamic_entries(input: &[u8], header: &Header, first: u64, out: &mut [Dynamic]) -> Result<u64, Error> {
     let mut count = u64::default();
     // SAFETY: see the head of this file.
     let status = unsafe { xmas_elf_dynamic_entries(input.as_ptr(), input.len(), header, first, out.as_mut_ptr(),
         out.len(), &mut count) };
-    answered(status, count)
+    result_of(status, count)
 }
 
 /// The relocations of the dynamic segment from index `first` on: those of the table DT_RELA, then of DT_REL, then of
 /// DT_JMPREL. The index of a symbol is one of `dynamic_symbols_open`. No section header is needed. Each call reads
 /// the relocations before `first` anew, so give much room. Errors, in the order of the tests: `LinkNoDynamic`,
-/// `DataRange`, `NotMultiple`, `LinkNoEntry`, `LinkRelocationKind`, `LinkAddress`, `NoRecord`.
+/// `LinkAddress`, `DataRange`, `NotMultiple`, `LinkNoEntry`, `LinkRelocationKind`, `NoRecord`.
 pub(crate) fn dynamic_relocations(input: &[u8], header: &Header, first: u64,
     out: &mut [Relocation]) -> Result<u64, Error> {
     let mut count = u64::default();
     // SAFETY: see the head of this file.
     let status = unsafe { xmas_elf_dynamic_relocations(input.as_ptr(), input.len(), header, first, out.as_mut_ptr(),
         out.len(), &mut count) };
-    answered(status, count)
+    result_of(status, count)
 }
 
 /// The addresses in the packed relative relocations of the dynamic segment (DT_RELR) from index `first` on;
 /// `NoRecord` also if there are none. No section header is needed. Each call reads the words from the first on, so
-/// give much room. Errors, in the order of the tests: `LinkNoDynamic`, `DataRange`, `NotMultiple`, `LinkNoEntry`,
-/// `LinkAddress`, `LinkNotMultiple`, `NoRecord`.
+/// give much room. Errors, in the order of the tests: `LinkNoDynamic`, `LinkAddress`, `DataRange`, `NotMultiple`,
+/// `LinkNoEntry`, `LinkNotMultiple`, `NoRecord`.
 pub(crate) fn dynamic_packed_relocations(input: &[u8], header: &Header, first: u64,
     out: &mut [u64]) -> Result<u64, Error> {
     let mut count = u64::default();
     // SAFETY: see the head of this file.
     let status = unsafe { xmas_elf_dynamic_packed_relocations(input.as_ptr(), input.len(), header, first,
         out.as_mut_ptr(), out.len(), &mut count) };
-    answered(status, count)
+    result_of(status, count)
 }
 
 /// The first note of a range, by the alignment of its section or segment (8, and else 4). `NoRecord` is for an empty
@@ -388,34 +394,34 @@ pub(crate) fn note(input: &[u8], header: &Header, part: &Range, align: u64) -> R
     let mut out = NoteRange::default();
     // SAFETY: see the head of this file.
     let status = unsafe { xmas_elf_note(input.as_ptr(), input.len(), header, part, align, &mut out) };
-    answered(status, out)
+    result_of(status, out)
 }
 
-/// The range of the file bytes for addresses `address .. address + count`: those of the first PT_LOAD segment that
-/// has them all. No section header is needed. Of a segment without file bytes the offset is 0. Errors, in the order
-/// of the tests: `LinkAddress`, `DataRange`.
+/// The range of the file bytes for addresses `address .. address + count`: those of the last PT_LOAD segment that has
+/// them all. No section header is needed. Of a segment without file bytes the offset is 0. Errors, in the order of
+/// the tests: `LinkAddress`, `DataRange`.
 pub(crate) fn bytes_at(input: &[u8], header: &Header, address: u64, count: u64) -> Result<Range, Error> {
     let mut out = Range::default();
     // SAFETY: see the head of this file.
     let status = unsafe { xmas_elf_bytes_at(input.as_ptr(), input.len(), header, address, count, &mut out) };
-    answered(status, out)
+    result_of(status, out)
 }
 
 /// The ranges of the texts that the dynamic entries with a tag name, from index `first` of them on, each with a
 /// status of its own, in the order of the entries: for tag 1 (DT_NEEDED) the names of the libraries that the file
 /// needs, for 14 (DT_SONAME) the name of the library, for 29 (DT_RUNPATH) and 15 (DT_RPATH) the folders where the
-/// dynamic linker looks for libraries. The entries are those of the first segment of type PT_DYNAMIC before the entry
+/// dynamic linker looks for libraries. The entries are those of the last segment of type PT_DYNAMIC before the entry
 /// with tag 0, so no section header is needed. `NoRecord` is for a tag that no more entries have. Each call reads the
 /// entries from the first on, so give room for all where a file may have many. Errors, in the order of the tests:
-/// `LinkNoDynamic`, `DataRange`, `NotMultiple`, `NoRecord`. Errors of a record, in the order of the tests:
-/// `LinkNoEntry`, `LinkAddress`, `DataRange`, `TextStart`, `TextEnd`, `TextUtf8`.
+/// `LinkNoDynamic`, `LinkAddress`, `DataRange`, `NotMultiple`, `NoRecord`. Errors of a record, in the order of the
+/// tests: `LinkNoEntry`, `LinkAddress`, `DataRange`, `TextStart`, `TextEnd`, `TextUtf8`.
 pub(crate) fn dynamic_texts(input: &[u8], header: &Header, tag: u64, first: u64,
     out: &mut [Name]) -> Result<u64, Error> {
     let mut count = u64::default();
     // SAFETY: see the head of this file.
     let status = unsafe { xmas_elf_dynamic_texts(input.as_ptr(), input.len(), header, tag, first, out.as_mut_ptr(),
         out.len(), &mut count) };
-    answered(status, count)
+    result_of(status, count)
 }
 
 /// Finds the symbols of the dynamic segment (DT_SYMTAB) and the string table of their names (DT_STRTAB), once for
@@ -423,34 +429,35 @@ pub(crate) fn dynamic_texts(input: &[u8], header: &Header, tag: u64, first: u64,
 /// entry says: the number of chains of the gABI's hash table (DT_HASH) where the segment names one, and else one more
 /// than the last index that GNU's (DT_GNU_HASH) reaches, or its first index where it reaches none; this one does not
 /// count symbols after the last exported one. If the string table can't be read, the call is OK, and `strings_status`
-/// is the reason. Errors, in the order of the tests: `LinkNoDynamic`, `DataRange`, `NotMultiple`, `LinkNoEntry`,
-/// `LinkAddress`, `ShortData`, `LinkShortTable`, `LinkBloomCount`, `LinkChainIndex`, `LinkChainData`,
+/// is the reason. Errors, in the order of the tests: `LinkNoDynamic`, `LinkAddress`, `DataRange`, `NotMultiple`,
+/// `LinkNoEntry`, `ShortData`, `LinkShortTable`, `LinkBloomCount`, `LinkChainIndex`, `LinkChainData`,
 /// `LinkSymbolIndex`.
 pub(crate) fn dynamic_symbols_open(input: &[u8], header: &Header) -> Result<SymbolTable, Error> {
     let mut out = SymbolTable::default();
     // SAFETY: see the head of this file.
     let status = unsafe { xmas_elf_dynamic_symbols_open(input.as_ptr(), input.len(), header, &mut out) };
-    answered(status, out)
+    result_of(status, out)
 }
 
 /// Finds the symbols of a file, once for many calls of `symbols` and `symbol_names`: those of the first section of
 /// type SHT_SYMTAB, as `symbols_open` does, and of a file without such a section, as after `strip`, those of the
 /// dynamic segment, as `dynamic_symbols_open` does. Errors, in the order of the tests: `ShortSectionHeader`,
 /// `UnknownClass`, `SmallEntry`, `InvalidShType`, `DataRange`, `NotMultiple`, `Note32`, `ShortData`, `OtherData`,
-/// `LinkNoDynamic`, `LinkNoEntry`, `LinkAddress`, `LinkShortTable`, `LinkBloomCount`, `LinkChainIndex`,
+/// `LinkNoDynamic`, `LinkAddress`, `LinkNoEntry`, `LinkShortTable`, `LinkBloomCount`, `LinkChainIndex`,
 /// `LinkChainData`, `LinkSymbolIndex`.
 pub(crate) fn file_symbols_open(input: &[u8], header: &Header) -> Result<SymbolTable, Error> {
     let mut out = SymbolTable::default();
     // SAFETY: see the head of this file.
     let status = unsafe { xmas_elf_file_symbols_open(input.as_ptr(), input.len(), header, &mut out) };
-    answered(status, out)
+    result_of(status, out)
 }
 
 /// The versions of the symbols of the dynamic segment (DT_VERSYM) from index `first` on, each with a status of its
 /// own: the first definition with the symbol's number but for the one that names the file, and else the first need
 /// with it. The call gives as many versions as the table of `dynamic_symbols_open` has symbols. `NotFound` is for a
-/// file whose symbols have no versions. Each call counts the symbols anew, so give room for all. Errors, in the order
-/// of the tests: `LinkNoDynamic`, `DataRange`, `NotMultiple`, `LinkNoEntry`, `LinkAddress`, `ShortData`,
+/// file whose symbols have no versions. Each call counts the symbols anew, so give room for all. A version with a
+/// number of 64 or more is searched for among all definitions and needs, once for each symbol that has it. Errors, in
+/// the order of the tests: `LinkNoDynamic`, `LinkAddress`, `DataRange`, `NotMultiple`, `LinkNoEntry`, `ShortData`,
 /// `LinkShortTable`, `LinkBloomCount`, `LinkChainIndex`, `LinkChainData`, `LinkSymbolIndex`, `NotFound`, `NoRecord`.
 /// Errors of a record, in the order of the tests: `LinkShortVersion`, `LinkVersionCount`, `LinkNoEntry`,
 /// `LinkAddress`, `DataRange`, `TextStart`, `TextEnd`, `TextUtf8`.
@@ -460,34 +467,33 @@ pub(crate) fn dynamic_symbol_versions(input: &[u8], header: &Header, first: u64,
     // SAFETY: see the head of this file.
     let status = unsafe { xmas_elf_dynamic_symbol_versions(input.as_ptr(), input.len(), header, first,
         out.as_mut_ptr(), out.len(), &mut count) };
-    answered(status, count)
+    result_of(status, count)
 }
 
 /// The versions that the file defines (DT_VERDEF) from index `first` on, in their order, each with a status of its
 /// own: a record that is cut off is the last one. No section header is needed. Each call reads the records from the
-/// first on, so give room for all. Errors, in the order of the tests: `LinkNoDynamic`, `DataRange`, `NotMultiple`,
-/// `LinkAddress`, `LinkNoEntry`, `NoRecord`. Errors of a record, in the order of the tests: `LinkShortVersion`,
-/// `LinkNoEntry`, `LinkAddress`, `DataRange`, `TextStart`, `TextEnd`, `TextUtf8`.
+/// first on, so give room for all. Errors, in the order of the tests: `LinkNoDynamic`, `LinkAddress`, `DataRange`,
+/// `NotMultiple`, `NoRecord`. Errors of a record, in the order of the tests: `LinkShortVersion`, `LinkNoEntry`,
+/// `LinkAddress`, `DataRange`, `TextStart`, `TextEnd`, `TextUtf8`.
 pub(crate) fn version_definitions(input: &[u8], header: &Header, first: u64,
     out: &mut [Version]) -> Result<u64, Error> {
     let mut count = u64::default();
     // SAFETY: see the head of this file.
     let status = unsafe { xmas_elf_version_definitions(input.as_ptr(), input.len(), header, first, out.as_mut_ptr(),
         out.len(), &mut count) };
-    answered(status, count)
+    result_of(status, count)
 }
 
 /// The versions that the file needs of libraries (DT_VERNEED) from index `first` on, in their order, as
-/// `version_definitions` gives the others. Errors, in the order of the tests: `LinkNoDynamic`, `DataRange`,
-/// `NotMultiple`, `LinkAddress`, `LinkNoEntry`, `NoRecord`. Errors of a record, in the order of the tests:
-/// `LinkShortVersion`, `LinkVersionCount`, `LinkNoEntry`, `LinkAddress`, `DataRange`, `TextStart`, `TextEnd`,
-/// `TextUtf8`.
+/// `version_definitions` gives the others. Errors, in the order of the tests: `LinkNoDynamic`, `LinkAddress`,
+/// `DataRange`, `NotMultiple`, `NoRecord`. Errors of a record, in the order of the tests: `LinkShortVersion`,
+/// `LinkVersionCount`, `LinkNoEntry`, `LinkAddress`, `DataRange`, `TextStart`, `TextEnd`, `TextUtf8`.
 pub(crate) fn version_needs(input: &[u8], header: &Header, first: u64, out: &mut [Version]) -> Result<u64, Error> {
     let mut count = u64::default();
     // SAFETY: see the head of this file.
     let status = unsafe { xmas_elf_version_needs(input.as_ptr(), input.len(), header, first, out.as_mut_ptr(),
         out.len(), &mut count) };
-    answered(status, count)
+    result_of(status, count)
 }
 
 /// The symbol of the dynamic segment that `dlvsym` finds by a name and a version (DT_VERSYM): the first symbol on the
@@ -497,8 +503,8 @@ pub(crate) fn version_needs(input: &[u8], header: &Header, first: u64, out: &mut
 /// linkers use: also one that is not defined and has a value. The symbol is found only if other files can use it: its
 /// binding is global, weak or unique, and its visibility the default or protected. If no symbol is found, that is no
 /// error. Each call counts the symbols of the dynamic segment anew; for many names `look_ups` is faster, which knows
-/// no versions. Errors, in the order of the tests: `TextUtf8`, `LinkNoDynamic`, `DataRange`, `NotMultiple`,
-/// `LinkNoEntry`, `LinkAddress`, `ShortData`, `LinkShortTable`, `LinkBloomCount`, `LinkChainIndex`, `LinkChainData`,
+/// no versions. Errors, in the order of the tests: `TextUtf8`, `LinkNoDynamic`, `LinkAddress`, `DataRange`,
+/// `NotMultiple`, `LinkNoEntry`, `ShortData`, `LinkShortTable`, `LinkBloomCount`, `LinkChainIndex`, `LinkChainData`,
 /// `LinkSymbolIndex`, `HashData`, `ChainIndex`, `SymbolIndex`, `ChainSum`, `HashCycle`, `LinkShortVersion`,
 /// `LinkVersionCount`, `TextStart`, `TextEnd`.
 pub(crate) fn find_symbol(input: &[u8], header: &Header, name: &[u8], version: &[u8]) -> Result<FoundSymbol, Error> {
@@ -506,7 +512,7 @@ pub(crate) fn find_symbol(input: &[u8], header: &Header, name: &[u8], version: &
     // SAFETY: see the head of this file.
     let status = unsafe { xmas_elf_find_symbol(input.as_ptr(), input.len(), header, name.as_ptr(), name.len(),
         version.as_ptr(), version.len(), &mut out) };
-    answered(status, out)
+    result_of(status, out)
 }
 
 /// Looks many names up in a hash table that `hash_open` found, each a range of the bytes `names`: as many as there
@@ -535,7 +541,7 @@ pub(crate) fn hash_open(input: &[u8], header: &Header, section: u64) -> Result<F
     let mut out = FoundTable::default();
     // SAFETY: see the head of this file.
     let status = unsafe { xmas_elf_hash_open(input.as_ptr(), input.len(), header, section, &mut out) };
-    answered(status, out)
+    result_of(status, out)
 }
 
 /// Checks a hash table that `hash_open` found. If it is OK, look-ups return no error for the table, and each finds a
@@ -548,40 +554,40 @@ pub(crate) fn hash_open(input: &[u8], header: &Header, section: u64) -> Result<F
 pub(crate) fn check_hash(input: &[u8], table: &FoundTable) -> Result<(), Error> {
     // SAFETY: see the head of this file.
     let status = unsafe { xmas_elf_check_hash(input.as_ptr(), input.len(), table) };
-    answered(status, ())
+    result_of(status, ())
 }
 
 /// Builds an index of symbols by their addresses, for many questions of `symbols_at`. Without words (`words_count` 0)
-/// it only finds how many the index takes: `words` of the record; then call it again with as many. They stay the
-/// caller's, who keeps them for the questions. `table` is a record of `symbols_open` or `dynamic_symbols_open`;
-/// `indices` is the range of the section of type SHT_SYMTAB_SHNDX that is linked to the symbols' section, of size 0
-/// where there is none; `within` is the index of a section whose symbols alone are asked for, as in an object file,
-/// where values are offsets in sections, and else 0. A symbol names addresses if it is in a section, has no type or
-/// is a function or an object, and has a name; labels that assemblers make and mapping symbols don't. It takes time n
-/// log n for n symbols. `words` is changed in no call that is not OK. Errors, in the order of the tests: `DataRange`,
-/// `NotMultiple`, `IndexManySymbols`, `IndexFewWords`.
+/// it only finds how many words and numbers the index takes: `words` and `numbers` of the record; then call it again
+/// with as many. They stay the caller's, who keeps them for the questions. `table` is a record of `symbols_open` or
+/// `dynamic_symbols_open`; `indices` is the range of the section of type SHT_SYMTAB_SHNDX that is linked to the
+/// symbols' section, of size 0 where there is none; `within` is the index of a section whose symbols alone are asked
+/// for, as in an object file, where values are offsets in sections, and else 0. A symbol names addresses if it is in
+/// a section, has no type or is a function or an object, and has a name; labels that assemblers make and mapping
+/// symbols don't. It takes time n log n for n symbols. `words` and `numbers` are changed in no call that is not OK.
+/// Errors, in the order of the tests: `DataRange`, `NotMultiple`, `IndexManySymbols`, `IndexFewWords`.
 pub(crate) fn address_index(input: &[u8], header: &Header, table: &SymbolTable, indices: &Range, within: u32,
-    words: &mut [u32]) -> Result<AddressIndex, Error> {
+    words: &mut [u32], numbers: &mut [u64]) -> Result<AddressIndex, Error> {
     let mut out = AddressIndex::default();
     // SAFETY: see the head of this file.
     let status = unsafe { xmas_elf_address_index(input.as_ptr(), input.len(), header, table, indices, within,
-        words.as_mut_ptr(), words.len(), &mut out) };
-    answered(status, out)
+        words.as_mut_ptr(), words.len(), numbers.as_mut_ptr(), numbers.len(), &mut out) };
+    result_of(status, out)
 }
 
 /// The symbols of many addresses by an index, as many as there are addresses and as `out` has room for. A symbol
 /// covers `size` addresses from its `value` on, and with size 0 its value alone. Of several that cover an address,
 /// one with a size comes first, then the one that begins last, the smallest, a function before an object, a global
 /// one before a weak one before a local one, and the first of the table. If no symbol covers an address, that is no
-/// error. A question takes time log n for n symbols. Each word is tested: with others than those of `address_index` a
-/// symbol may be missed, and one that is found covers the address. Errors, in the order of the tests: `DataRange`,
-/// `NotMultiple`.
-pub(crate) fn symbols_at(input: &[u8], index: &AddressIndex, words: &[u32], addresses: &[u64],
+/// error. A question takes time log n for n symbols. With other words or numbers than those of `address_index` a
+/// symbol may be missed, and one that is found covers the address, but may be one that names none. Errors, in the
+/// order of the tests: `DataRange`, `NotMultiple`.
+pub(crate) fn symbols_at(input: &[u8], index: &AddressIndex, words: &[u32], numbers: &[u64], addresses: &[u64],
     out: &mut [FoundAt]) -> Result<(), Error> {
     // SAFETY: see the head of this file.
     let status = unsafe { xmas_elf_symbols_at(input.as_ptr(), input.len(), index, words.as_ptr(), words.len(),
-        addresses.as_ptr(), addresses.len(), out.as_mut_ptr(), out.len()) };
-    answered(status, ())
+        numbers.as_ptr(), numbers.len(), addresses.as_ptr(), addresses.len(), out.as_mut_ptr(), out.len()) };
+    result_of(status, ())
 }
 
 /// The pieces of a file from index `first` on, in the order of their offsets, as many as `out` has room for: which
@@ -589,46 +595,47 @@ pub(crate) fn symbols_at(input: &[u8], index: &AddressIndex, words: &[u32], addr
 /// of the file. Of the parts that cover a byte it belongs to the first of these kinds: the ELF header, the program
 /// header table, the section header table, sections (but those of type SHT_NULL and SHT_NOBITS), segments (but those
 /// of type PT_NULL and PT_GNU_RELRO); of several of a kind to the one that begins last, then the smallest, then the
-/// first of the table. Without words (`words_count` 0) it only finds how many it takes: `words` of `sizes`. Call it
-/// again with as many, and then with room for `count` pieces. Each call builds an index in the words, in time n log n
-/// for n sections and segments, so give room for all. The words may hold anything before and after. Errors:
-/// `IndexFewWords`.
-pub(crate) fn pieces(input: &[u8], header: &Header, first: u64, words: &mut [u32],
+/// first of the table. Without words (`words_count` 0) it only finds how many words and numbers it takes: `words` and
+/// `numbers` of `sizes`. Call it again with as many, and then with room for `count` pieces. Each call builds an index
+/// in them, in time n log n for n sections and segments, so give room for all. They may hold anything before and
+/// after. Errors: `IndexFewWords`.
+pub(crate) fn pieces(input: &[u8], header: &Header, first: u64, words: &mut [u32], numbers: &mut [u64],
     out: &mut [Piece]) -> Result<PieceSizes, Error> {
     let mut sizes = PieceSizes::default();
     // SAFETY: see the head of this file.
     let status = unsafe { xmas_elf_pieces(input.as_ptr(), input.len(), header, first, words.as_mut_ptr(), words.len(),
-        out.as_mut_ptr(), out.len(), &mut sizes) };
-    answered(status, sizes)
+        numbers.as_mut_ptr(), numbers.len(), out.as_mut_ptr(), out.len(), &mut sizes) };
+    result_of(status, sizes)
 }
 
 /// The pieces of addresses `begin .. end` by symbols, from index `first` on, as many as `out` has room for; `count`
 /// is the number of all. Every address is in exactly one piece: that of the symbol with a size that `symbols_at`
 /// finds for it, or that of no symbol. `index` is a record of `address_index`, which may be called without words for
 /// it, with the index of a section as `within`, and `begin` and `end` are the addresses of its first byte and after
-/// its last one; in an object file, 0 and its size. The call takes `words` of the record, and builds the index in
-/// them anew: they may hold anything before and after. Errors, in the order of the tests: `DataRange`, `NotMultiple`,
-/// `IndexManySymbols`, `IndexFewWords`.
+/// its last one; in an object file, 0 and its size. The call takes `words` and `numbers` of the record, and builds
+/// the index in them anew: they may hold anything before and after. Errors, in the order of the tests: `DataRange`,
+/// `NotMultiple`, `IndexManySymbols`, `IndexFewWords`.
 pub(crate) fn symbol_pieces(input: &[u8], index: &AddressIndex, begin: u64, end: u64, first: u64, words: &mut [u32],
-    out: &mut [Piece]) -> Result<u64, Error> {
+    numbers: &mut [u64], out: &mut [Piece]) -> Result<u64, Error> {
     let mut count = u64::default();
     // SAFETY: see the head of this file.
     let status = unsafe { xmas_elf_symbol_pieces(input.as_ptr(), input.len(), index, begin, end, first,
-        words.as_mut_ptr(), words.len(), out.as_mut_ptr(), out.len(), &mut count) };
-    answered(status, count)
+        words.as_mut_ptr(), words.len(), numbers.as_mut_ptr(), numbers.len(), out.as_mut_ptr(), out.len(), &mut count)
+        };
+    result_of(status, count)
 }
 
 /// Whether Linux and glibc load a file, and what they put into memory for it. `page` is the size of a page, a power
 /// of two; 0 means 4096. `limit` is the end of the addresses that a loader may use; 0 means that of Linux: 0xffffe000
-/// for a file of class 32, and else 0x7ffffffff000, that of x86-64. The load segments are those of type PT_LOAD.
-/// Errors, in the order of the tests: `LoadType`, `LoadEntrySize`, `LoadCount`, `LoadTable`, `LoadFileSize`,
-/// `LoadEmpty`, `LoadMisaligned`, `LoadAlignment`, `LoadRange`, `LoadData`, `LoadOverlap`, `LoadZeros`, `LoadNoLoad`,
-/// `LoadHeaders`, `LoadInterpreter`, `LoadRelro`, `LoadTls`.
+/// for a file of class 32, 0x1000000000000 for one of class 64 for AArch64, and else 0x7ffffffff000, that of x86-64.
+/// The load segments are those of type PT_LOAD. Errors, in the order of the tests: `LoadType`, `LoadEntrySize`,
+/// `LoadCount`, `LoadTable`, `LoadFileSize`, `LoadEmpty`, `LoadMisaligned`, `LoadAlignment`, `LoadRange`, `LoadData`,
+/// `LoadOverlap`, `LoadZeros`, `LoadNoLoad`, `LoadHeaders`, `LoadInterpreter`, `LoadRelro`, `LoadTls`, `LoadEntry`.
 pub(crate) fn load_plan(input: &[u8], header: &Header, page: u64, limit: u64) -> Result<Plan, Error> {
     let mut out = Plan::default();
     // SAFETY: see the head of this file.
     let status = unsafe { xmas_elf_load_plan(input.as_ptr(), input.len(), header, page, limit, &mut out) };
-    answered(status, out)
+    result_of(status, out)
 }
 
 /// What a loader maps for a file before relocation, from index `first` on, in the order of addresses: no mapping is
@@ -637,14 +644,14 @@ pub(crate) fn load_plan(input: &[u8], header: &Header, page: u64, limit: u64) ->
 /// maps the pages between load segments, too, without access. Each call reads the program headers anew, so give room
 /// for all. Errors, in the order of the tests: `LoadType`, `LoadEntrySize`, `LoadCount`, `LoadTable`, `LoadFileSize`,
 /// `LoadEmpty`, `LoadMisaligned`, `LoadAlignment`, `LoadRange`, `LoadData`, `LoadOverlap`, `LoadZeros`, `LoadNoLoad`,
-/// `LoadHeaders`, `LoadInterpreter`, `LoadRelro`, `LoadTls`, `NoRecord`.
+/// `LoadHeaders`, `LoadInterpreter`, `LoadRelro`, `LoadTls`, `LoadEntry`, `NoRecord`.
 pub(crate) fn load_mappings(input: &[u8], header: &Header, page: u64, limit: u64, loader: u32, first: u64,
     out: &mut [Mapping]) -> Result<u64, Error> {
     let mut count = u64::default();
     // SAFETY: see the head of this file.
     let status = unsafe { xmas_elf_load_mappings(input.as_ptr(), input.len(), header, page, limit, loader, first,
         out.as_mut_ptr(), out.len(), &mut count) };
-    answered(status, count)
+    result_of(status, count)
 }
 
 /// Writes the bytes of a file to `image`, as a loader maps them before relocation: byte `i` is that at the start of
@@ -652,13 +659,13 @@ pub(crate) fn load_mappings(input: &[u8], header: &Header, page: u64, limit: u64
 /// `limit` and `loader` are those of `load_mappings`. `image` is changed in no call that is not OK. Errors, in the
 /// order of the tests: `LoadType`, `LoadEntrySize`, `LoadCount`, `LoadTable`, `LoadFileSize`, `LoadEmpty`,
 /// `LoadMisaligned`, `LoadAlignment`, `LoadRange`, `LoadData`, `LoadOverlap`, `LoadZeros`, `LoadNoLoad`,
-/// `LoadHeaders`, `LoadInterpreter`, `LoadRelro`, `LoadTls`, `LoadImageSize`.
+/// `LoadHeaders`, `LoadInterpreter`, `LoadRelro`, `LoadTls`, `LoadEntry`, `LoadImageSize`.
 pub(crate) fn load_image(input: &[u8], header: &Header, page: u64, limit: u64, loader: u32,
     image: &mut [u8]) -> Result<(), Error> {
     // SAFETY: see the head of this file.
     let status = unsafe { xmas_elf_load_image(input.as_ptr(), input.len(), header, page, limit, loader,
         image.as_mut_ptr(), image.len()) };
-    answered(status, ())
+    result_of(status, ())
 }
 
 /// Whether the words of the object at index `of` can be written before the program runs: the tables of its dynamic
@@ -667,23 +674,25 @@ pub(crate) fn load_image(input: &[u8], header: &Header, page: u64, limit: u64, l
 /// tables or with another word. Of the objects only the files are read. `page` and `limit` are those of `load_plan`,
 /// which each file must pass. `marks` has at least a bit for each byte of the span of the object's plan: its size in
 /// bytes, divided by 8, and one more. What it holds before and after has no meaning. A call takes up to 64 objects;
-/// for more it returns `LoadImageSize`. It reads all files before it tests `of`, so `LinkObjectIndex` comes before
-/// errors of the files only where there is no object. Errors, in the order of the tests: `LinkObjectIndex`,
-/// `LoadImageSize`, `ShortPart1`, `NoMagic`, `InvalidClass`, `ShortHeaders`, `LinkNoDynamic`, `DataRange`,
-/// `NotMultiple`, `LinkNoEntry`, `LinkAddress`, `ShortData`, `LinkShortTable`, `LinkBloomCount`, `LinkChainIndex`,
-/// `LinkChainData`, `LinkSymbolIndex`, `LinkUnknownClass`, `LinkNotMultiple`, `LinkRelocationKind`, `SymbolIndex`,
-/// `HashData`, `ChainIndex`, `ChainSum`, `HashCycle`, `LinkShortVersion`, `LinkVersionCount`, `TextStart`, `TextEnd`,
-/// `TextUtf8`, `LoadType`, `LoadEntrySize`, `LoadCount`, `LoadTable`, `LoadFileSize`, `LoadEmpty`, `LoadMisaligned`,
+/// for more it returns `ManyObjects`. It reads all files before it tests `of`, so `LinkObjectIndex` comes before
+/// errors of the files only where there is no object. A relocation that names a symbol takes a look-up in each file
+/// up to the one that has it. Errors, in the order of the tests: `LinkObjectIndex`, `ManyObjects`, `ShortPart1`,
+/// `NoMagic`, `InvalidClass`, `ShortHeaders`, `LinkNoDynamic`, `LinkAddress`, `DataRange`, `NotMultiple`,
+/// `LinkNoEntry`, `ShortData`, `LinkShortTable`, `LinkBloomCount`, `LinkChainIndex`, `LinkChainData`,
+/// `LinkSymbolIndex`, `LinkUnknownClass`, `LinkNotMultiple`, `LinkRelocationKind`, `SymbolIndex`, `HashData`,
+/// `ChainIndex`, `ChainSum`, `HashCycle`, `LinkShortVersion`, `LinkVersionCount`, `TextStart`, `TextEnd`, `TextUtf8`,
+/// `LoadType`, `LoadEntrySize`, `LoadCount`, `LoadTable`, `LoadFileSize`, `LoadEmpty`, `LoadMisaligned`,
 /// `LoadAlignment`, `LoadRange`, `LoadData`, `LoadOverlap`, `LoadZeros`, `LoadNoLoad`, `LoadHeaders`,
-/// `LoadInterpreter`, `LoadRelro`, `LoadTls`, `LoadDynamic`, `LoadNoEntry`, `LoadRelocationSize`, `LoadNotMultiple`,
-/// `LoadUnreadable`, `LoadSlotKind`, `LoadMachine`, `LoadFewMarks`, `LoadWordType`, `LoadWordAddress`,
-/// `LoadReadOnly`, `LoadWordsOverlap`, `LoadWordInTable`.
+/// `LoadInterpreter`, `LoadRelro`, `LoadTls`, `LoadEntry`, `LoadDynamic`, `LoadNoEntry`, `LoadNoAddends`,
+/// `LoadAddends`, `LoadNoSlots`, `LoadRelocationSize`, `LoadNotMultiple`, `LoadUnreadable`, `LoadFirstPacked`,
+/// `LoadSlotKind`, `LoadMachine`, `LoadRelativeCount`, `LoadSlotType`, `LoadFewMarks`, `LoadWordType`, `LoadNoSize`,
+/// `LoadCopyKind`, `LoadCallSymbol`, `LoadWordAddress`, `LoadReadOnly`, `LoadWordsOverlap`, `LoadWordInTable`.
 pub(crate) fn check_image(objects: &[LoadObject<'_>], of: u64, page: u64, limit: u64,
     marks: &mut [u8]) -> Result<(), Error> {
     // SAFETY: see the head of this file.
     let status = unsafe { xmas_elf_check_image(objects.as_ptr(), objects.len(), of, page, limit, marks.as_mut_ptr(),
         marks.len()) };
-    answered(status, ())
+    result_of(status, ())
 }
 
 /// Writes the words of the object at index `of` to `image`, which holds what `load_image` writes. `page` and `limit`
@@ -694,23 +703,53 @@ pub(crate) fn check_image(objects: &[LoadObject<'_>], of: u64, page: u64, limit:
 /// (R_X86_64_COPY) before the one that they are copied to, and give it its image then; `image` shares no byte with
 /// the images of objects. If `check_image` is OK for the object, each byte is that of the one word over it, else that
 /// of the file. If a call is not OK, the words before the first that can't be written are written. A call takes up to
-/// 64 objects; for more it returns `LoadImageSize`. It reads all files before it tests `of` and the size of `image`,
-/// so `LinkObjectIndex` and `LoadImageSize` come before errors of the files only where there is no object or more
-/// than 64. It needs about 200 KiB of stack. Errors, in the order of the tests: `LinkObjectIndex`, `LoadImageSize`,
-/// `ShortPart1`, `NoMagic`, `InvalidClass`, `ShortHeaders`, `LinkNoDynamic`, `DataRange`, `NotMultiple`,
-/// `LinkNoEntry`, `LinkAddress`, `ShortData`, `LinkShortTable`, `LinkBloomCount`, `LinkChainIndex`, `LinkChainData`,
-/// `LinkSymbolIndex`, `LinkUnknownClass`, `LinkNotMultiple`, `LinkRelocationKind`, `SymbolIndex`, `HashData`,
-/// `ChainIndex`, `ChainSum`, `HashCycle`, `LinkShortVersion`, `LinkVersionCount`, `TextStart`, `TextEnd`, `TextUtf8`,
-/// `LoadType`, `LoadEntrySize`, `LoadCount`, `LoadTable`, `LoadFileSize`, `LoadEmpty`, `LoadMisaligned`,
-/// `LoadAlignment`, `LoadRange`, `LoadData`, `LoadOverlap`, `LoadZeros`, `LoadNoLoad`, `LoadHeaders`,
-/// `LoadInterpreter`, `LoadRelro`, `LoadTls`, `LoadWordType`, `LoadUnresolved`, `LoadWordAddress`, `LoadCopySource`.
+/// 64 objects; for more it returns `ManyObjects`. It reads all files before it tests `of`, so `LinkObjectIndex` comes
+/// before errors of the files only where there is no object. A relocation that names a symbol takes a look-up in each
+/// file up to the one that has it. It needs about 200 KiB of stack. Errors, in the order of the tests:
+/// `LinkObjectIndex`, `ManyObjects`, `ShortPart1`, `NoMagic`, `InvalidClass`, `ShortHeaders`, `LinkNoDynamic`,
+/// `LinkAddress`, `DataRange`, `NotMultiple`, `LinkNoEntry`, `ShortData`, `LinkShortTable`, `LinkBloomCount`,
+/// `LinkChainIndex`, `LinkChainData`, `LinkSymbolIndex`, `LinkUnknownClass`, `LinkNotMultiple`, `LinkRelocationKind`,
+/// `SymbolIndex`, `HashData`, `ChainIndex`, `ChainSum`, `HashCycle`, `LinkShortVersion`, `LinkVersionCount`,
+/// `TextStart`, `TextEnd`, `TextUtf8`, `LoadType`, `LoadEntrySize`, `LoadCount`, `LoadTable`, `LoadFileSize`,
+/// `LoadEmpty`, `LoadMisaligned`, `LoadAlignment`, `LoadRange`, `LoadData`, `LoadOverlap`, `LoadZeros`, `LoadNoLoad`,
+/// `LoadHeaders`, `LoadInterpreter`, `LoadRelro`, `LoadTls`, `LoadEntry`, `LoadImageSize`, `LoadWordType`,
+/// `LoadNoSize`, `LoadCopyKind`, `LoadCallSymbol`, `LoadUnresolved`, `LoadWordAddress`, `LoadCopySource`.
 pub(crate) fn relocate(objects: &[LoadObject<'_>], of: u64, lazy: u32, page: u64, limit: u64,
     image: &mut [u8]) -> Result<u64, Error> {
     let mut count = u64::default();
     // SAFETY: see the head of this file.
     let status = unsafe { xmas_elf_relocate(objects.as_ptr(), objects.len(), of, lazy, page, limit,
         image.as_mut_ptr(), image.len(), &mut count) };
-    answered(status, count)
+    result_of(status, count)
+}
+
+/// Writes the words of all objects to their images, those of the last object first, as the dynamic linker does. Each
+/// file is read once, so it takes less time than a call of `relocate` for each object. `images` are what `load_image`
+/// writes for each object, one image after another in the order of the objects: its size is the sum of those of all
+/// spans. Bytes are copied (R_X86_64_COPY) from the images of the objects after the own one; `image` of an object is
+/// not read. `lazy`, `page` and `limit` are those of `relocate`. `left` is the number of words without a number of
+/// all objects. If `check_image` is OK for an object, each byte of its image is then that of the one word over it,
+/// else that of the file. If a call is not OK, `failed` is the index of the object with the error; it is unchanged
+/// where none has it: with no object (`LinkObjectIndex`), with more than 64 (`ManyObjects`), and where `images` is
+/// not of the size of all images (`LoadImageSize`). Of errors of words the last object with one counts: then the
+/// objects after it are relocated, and its words before the first that can't be written are written. Otherwise
+/// `images` is unchanged. A relocation that names a symbol takes a look-up in each file up to the one that has it. It
+/// needs about 200 KiB of stack. Errors, in the order of the tests: `LinkObjectIndex`, `ManyObjects`, `ShortPart1`,
+/// `NoMagic`, `InvalidClass`, `ShortHeaders`, `LinkNoDynamic`, `LinkAddress`, `DataRange`, `NotMultiple`,
+/// `LinkNoEntry`, `ShortData`, `LinkShortTable`, `LinkBloomCount`, `LinkChainIndex`, `LinkChainData`,
+/// `LinkSymbolIndex`, `LinkUnknownClass`, `LinkNotMultiple`, `LinkRelocationKind`, `SymbolIndex`, `HashData`,
+/// `ChainIndex`, `ChainSum`, `HashCycle`, `LinkShortVersion`, `LinkVersionCount`, `TextStart`, `TextEnd`, `TextUtf8`,
+/// `LoadType`, `LoadEntrySize`, `LoadCount`, `LoadTable`, `LoadFileSize`, `LoadEmpty`, `LoadMisaligned`,
+/// `LoadAlignment`, `LoadRange`, `LoadData`, `LoadOverlap`, `LoadZeros`, `LoadNoLoad`, `LoadHeaders`,
+/// `LoadInterpreter`, `LoadRelro`, `LoadTls`, `LoadEntry`, `LoadImageSize`, `LoadWordType`, `LoadNoSize`,
+/// `LoadCopyKind`, `LoadCallSymbol`, `LoadUnresolved`, `LoadWordAddress`, `LoadCopySource`.
+pub(crate) fn relocate_all(objects: &[LoadObject<'_>], lazy: u32, page: u64, limit: u64, images: &mut [u8],
+    failed: &mut u64) -> Result<u64, Error> {
+    let mut left = u64::default();
+    // SAFETY: see the head of this file.
+    let status = unsafe { xmas_elf_relocate_all(objects.as_ptr(), objects.len(), lazy, page, limit,
+        images.as_mut_ptr(), images.len(), &mut left, failed) };
+    result_of(status, left)
 }
 
 /// Writes the text of a status to the front of `out`, as much as fits, and returns the size of the whole text in

@@ -42,9 +42,9 @@ impl<'f, 'a> HashTable<'f, 'a> {
 
     /// What a look-up for a name says, in numbers.
     pub fn look_up_counted(&self, name: &str) -> Result<LookUp, Error> {
-        let mut answers = [Answer::default()];
-        self.look_ups(name.as_bytes(), &[ByteRange::from(0..name.len())], &mut answers)?;
-        answers[0].look_up()
+        let mut results = [Answer::default()];
+        self.look_ups(name.as_bytes(), &[ByteRange::from(0..name.len())], &mut results)?;
+        results[0].look_up()
     }
 
     /// Many look-ups by one call, each for the name that is a range of `names`: as many as there are ranges and as

@@ -77,7 +77,7 @@ impl<'f, 'a> Section<'f, 'a> {
         ffi::symbols(self.file.input, &self.symbol_table()?, first, out).map(|count| count as usize)
     }
 
-    /// Puts where the names of the symbols from an index on stand to the front of `out`, as many as `symbols_from` gives,
+    /// Puts the places of the names of the symbols from an index on to the front of `out`, as many as `symbols_from` gives,
     /// and says how many. It costs less than a call of `name` for each.
     pub fn symbol_names_from(&self, first: u64, out: &mut [Name]) -> Result<usize, Error> {
         ffi::symbol_names(self.file.input, &self.symbol_table()?, first, out).map(|count| count as usize)

@@ -43,7 +43,7 @@ mod hardening;
 mod hash;
 pub mod header;
 mod items;
-mod lent;
+mod borrowed;
 mod load_plan;
 mod message;
 mod notes;
@@ -76,7 +76,7 @@ pub use items::{Section, Sections, Segment, Segments};
 pub use load_plan::{Contents, LoadPlan, Loader};
 pub use message::Message;
 pub use notes::{Note, Notes};
-pub use process::{check_image, relocate, Binding};
+pub use process::{check_image, relocate, relocate_all, Binding, ObjectError};
 pub use records::Range as ByteRange;
 pub use ranges::LookUp;
 pub use records::{Answer, Dynamic, Entry, Header, LoadObject, Mapping, Name, ProgramHeader, Relocation, SectionHeader, Span, SymbolTable, TlsTemplate, Version};
@@ -165,7 +165,7 @@ impl<'a> ElfFile<'a> {
         ffi::sections(self.input, &self.header, first, out).map(|count| count as usize)
     }
 
-    /// Puts where the names of the sections from an index on stand to the front of `out`, as many as it has room for or
+    /// Puts the places of the names of the sections from an index on to the front of `out`, as many as it has room for or
     /// all that follow, and says how many. An error if `sections` has none at that index. It costs less than a call
     /// of `name` for each.
     pub fn section_names_from(&self, first: u64, out: &mut [Name]) -> Result<usize, Error> {

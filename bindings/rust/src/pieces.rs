@@ -82,19 +82,19 @@ pub(crate) fn stored(room: usize, mut ask: impl FnMut(&mut [records::Piece]) -> 
 impl<'a> ElfFile<'a> {
     /// Which bytes belong to what, in the order of their offsets. Every byte is in exactly one piece, so the sizes sum to the
     /// size of the file. A byte that several parts cover belongs to a header before a section before a segment, and of
-    /// several sections or segments to the one that begins last, then the smallest, then the first. It allocates 8 bytes
+    /// several sections or segments to the one that begins last, then the smallest, then the first. It allocates 24 bytes
     /// for each section and segment, and 32 for each piece.
     pub fn pieces(&self) -> impl ExactSizeIterator<Item = Piece> {
-        let needed = ffi::pieces(self.input, &self.header, 0, &mut [], &mut []).map_or(0, |sizes| sizes.words);
-        let mut words = vec![0; needed as usize];
-        let found = stored(words.len() + 7, |out| Ok(ffi::pieces(self.input, &self.header, 0, &mut words, out)?.count));
+        let needed = ffi::pieces(self.input, &self.header, 0, &mut [], &mut [], &mut []).map_or((0, 0), |sizes| (sizes.words, sizes.numbers));
+        let (mut words, mut numbers) = (vec![0; needed.0 as usize], vec![0; needed.1 as usize]);
+        let found = stored(words.len() + 7, |out| Ok(ffi::pieces(self.input, &self.header, 0, &mut words, &mut numbers, out)?.count));
         found.into_iter().map(Piece::of)
     }
 }
 
 impl<'f, 'a> Section<'f, 'a> {
     /// Which addresses of the section belong to which symbol: that of [`crate::SymbolMap::symbol_at`], of the symbols of the
-    /// section, if its size is not 0. Every address is in exactly one piece. It allocates 8 bytes for each symbol of the
+    /// section, if its size is not 0. Every address is in exactly one piece. It allocates 24 bytes for each symbol of the
     /// section, and 32 for each piece. An error if the symbols can't be read; of a file without symbols all is in none. It
     /// passes over all symbols of the file: for many sections use [`ElfFile::section_symbols`].
     pub fn symbol_pieces(&self) -> Result<impl ExactSizeIterator<Item = SymbolPiece<'a>> + 'f, Error> {
@@ -102,8 +102,8 @@ impl<'f, 'a> Section<'f, 'a> {
         let begin = if file.header.type_ == ET_REL { 0 } else { self.header.address };
         let end = begin.saturating_add(self.header.size);
         let index = asked_index(file, self.within())?;
-        let mut words = vec![0; index.words as usize];
-        let found = stored(words.len() + 1, |out| ffi::symbol_pieces(file.input, &index, begin, end, 0, &mut words, out));
+        let (mut words, mut numbers) = (vec![0; index.words as usize], vec![0; index.numbers as usize]);
+        let found = stored(words.len() + 1, |out| ffi::symbol_pieces(file.input, &index, begin, end, 0, &mut words, &mut numbers, out));
         Ok(found.into_iter().map(move |piece| {
             let symbol = if piece.owner == SYMBOL { Symbol::of_table(file, &index.table, piece.index).ok() } else { None };
             SymbolPiece { begin: piece.begin, end: piece.end, symbol }

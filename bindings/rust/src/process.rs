@@ -2,6 +2,7 @@
 
 use crate::records::LoadObject;
 use crate::{ffi, Error};
+use core::fmt;
 
 /// When jump slots get their symbols.
 #[derive(Clone, Copy, Debug, PartialEq, Eq, Hash)]
@@ -46,4 +47,35 @@ pub fn check_image(objects: &[LoadObject<'_>], of: usize, page: u64, limit: u64,
 /// are left to the caller: results of functions, and descriptors of thread-local storage.
 pub fn relocate(objects: &[LoadObject<'_>], of: usize, when: Binding, page: u64, limit: u64, image: &mut [u8]) -> Result<u64, Error> {
     ffi::relocate(objects, of as u64, u32::from(when == Binding::Lazy), page, limit, image)
+}
+
+/// What can't be read or written of one of several objects.
+#[derive(Clone, Copy, Debug, PartialEq, Eq, Hash)]
+pub struct ObjectError {
+    /// Why.
+    pub error: Error,
+    /// The index of the object, if one has the error.
+    pub object: Option<usize>,
+}
+
+impl fmt::Display for ObjectError {
+    fn fmt(&self, f: &mut fmt::Formatter<'_>) -> fmt::Result {
+        match self.object {
+            Some(object) => write!(f, "object {object}: {}", self.error),
+            None => self.error.fmt(f),
+        }
+    }
+}
+
+impl core::error::Error for ObjectError {}
+
+/// Writes the words of all objects to their images, those of the last object first, as the dynamic linker does. Each file is read once,
+/// and must have a plan for this page size and limit, of which 0 are those of Linux. `images` are those that
+/// [`LoadPlan::fill`](crate::LoadPlan::fill) filled, one after another in the order of the objects; those of the objects are not read.
+/// The result is the number of words without a number, which are left to the caller.
+pub fn relocate_all(objects: &[LoadObject<'_>], when: Binding, page: u64, limit: u64, images: &mut [u8]) -> Result<u64, ObjectError> {
+    let mut failed = u64::MAX;
+    let answer = ffi::relocate_all(objects, u32::from(when == Binding::Lazy), page, limit, images, &mut failed);
+    let object = usize::try_from(failed).ok().filter(|object| *object < objects.len());
+    answer.map_err(|error| ObjectError { error, object })
 }

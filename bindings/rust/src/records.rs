@@ -1,6 +1,6 @@
 //! The structs of the archive. Written by tools/exports/declarations.py.
 
-use crate::lent::Lent;
+use crate::borrowed::Borrowed;
 
 /// The ELF header of a file (gABI, "ELF Header").
 #[repr(C)]
@@ -278,6 +278,8 @@ pub(crate) struct AddressIndex {
     pub(crate) indices: Range,
     /// The number of words that the index takes.
     pub(crate) words: u64,
+    /// The number of numbers of 64 bits that the index takes.
+    pub(crate) numbers: u64,
     /// The number of symbols with a size in the index; 0 if it is not built.
     pub(crate) sized_count: u64,
     /// The number of symbols of size 0 in the index; 0 if it is not built.
@@ -394,7 +396,9 @@ pub(crate) struct Piece {
 pub(crate) struct PieceSizes {
     /// The number of words that the call takes.
     pub(crate) words: u64,
-    /// The number of all pieces of the file; 0 if the call only found the number of words.
+    /// The number of numbers of 64 bits that the call takes.
+    pub(crate) numbers: u64,
+    /// The number of all pieces of the file; 0 if the call only found how many words and numbers it takes.
     pub(crate) count: u64,
 }
 
@@ -404,9 +408,9 @@ pub(crate) struct PieceSizes {
 #[derive(Clone, Copy, Debug, Default, PartialEq, Eq)]
 pub struct LoadObject<'a> {
     /// The bytes of the file.
-    pub(crate) file: Lent<'a>,
+    pub(crate) file: Borrowed<'a>,
     /// Its image after relocation, where bytes of it are copied to another object; else it may be empty.
-    pub(crate) image: Lent<'a>,
+    pub(crate) image: Borrowed<'a>,
     /// The number that is added to its addresses.
     pub(crate) base: u64,
     /// The number of its module of thread-local storage.

@@ -19,7 +19,7 @@ impl ElfFile<'_> {
         let ask = |first: u64, out: &mut [Relocation]| ffi::dynamic_relocations(self.input, &self.header, first, out);
         let has_sections = tables.clone().next().is_some();
         if !has_sections {
-            begun(ask(0, &mut []))?;
+            begun(self, ask(0, &mut []))?;
         }
         // Each table was read above.
         let of_sections = tables.flat_map(|section| section.relocations().into_iter().flatten());
@@ -35,7 +35,7 @@ impl ElfFile<'_> {
         let ask = |first: u64, out: &mut [u64]| ffi::dynamic_packed_relocations(self.input, &self.header, first, out);
         let has_sections = tables.clone().next().is_some();
         if !has_sections {
-            begun(ask(0, &mut []))?;
+            begun(self, ask(0, &mut []))?;
         }
         let of_sections = tables.flat_map(|section| section.packed_relocations().into_iter().flatten());
         let of_segment = (!has_sections).then(|| Batch::<u64, ROOM>::items(ask));

@@ -82,8 +82,8 @@ impl<'f, 'a> SectionSymbols<'f, 'a> {
             machine: self.file.header.machine,
             ..AddressIndex::default()
         };
-        let mut words = vec![0; 3 * count];
-        let found = stored(2 * count + 1, |out| ffi::symbol_pieces(&self.input, &index, begin, end, 0, &mut words, out));
+        let (mut words, mut numbers) = (vec![0; 2 * count], vec![0; 2 * count]);
+        let found = stored(2 * count + 1, |out| ffi::symbol_pieces(&self.input, &index, begin, end, 0, &mut words, &mut numbers, out));
         let symbol_of = |piece: &crate::records::Piece| {
             let index = self.order.get(first + piece.index as usize).filter(|_| piece.owner == SYMBOL)?.1;
             Symbol::of_table(self.file, &self.table, u64::from(index)).ok()

@@ -1,6 +1,8 @@
 //! The symbols of addresses.
 
 use crate::constants::*;
+use crate::dynamic::no_dynamic;
+use crate::ranges::checked;
 use crate::records::{AddressIndex, FoundAt};
 use crate::{ffi, ByteRange, ElfFile, Error, Section, Symbol, SymbolTable};
 use alloc::vec;
@@ -29,7 +31,7 @@ impl SymbolAt<'_> {
     }
 }
 
-/// The symbols of a file by their addresses: the index of the archive, and its words.
+/// The symbols of a file by their addresses: the index of the archive, and its words and numbers.
 ///
 /// It has the symbols of the section of type SHT_SYMTAB, or else of SHT_DYNSYM, or else of the dynamic segment, that name
 /// addresses: they are in a section, are functions, objects or of no type, and have a name; labels that assemblers make
@@ -39,6 +41,7 @@ pub struct SymbolMap<'f, 'a> {
     file: &'f ElfFile<'a>,
     index: AddressIndex,
     words: Vec<u32>,
+    numbers: Vec<u64>,
 }
 
 impl core::fmt::Debug for SymbolMap<'_, '_> {
@@ -57,9 +60,9 @@ fn section_with_symbols<'f, 'a>(file: &'f ElfFile<'a>) -> Result<Option<Section<
 // The table of the symbols of a section, or else of the dynamic segment; none if the file has neither.
 fn table_of(file: &ElfFile<'_>, section: Option<Section<'_, '_>>) -> Result<Option<SymbolTable>, Error> {
     match section.map_or_else(|| file.dynamic_symbol_table(), |section| section.symbol_table()) {
-        Ok(table) => Ok(Some(table)),
-        Err(Error::LinkNoDynamic) => Ok(None),
-        Err(error) => Err(error),
+        // A symbol without a name names no address.
+        Ok(table) => checked(table.strings_status).map(|()| Some(table)),
+        Err(error) => no_dynamic(file, error).map(|()| None),
     }
 }
 
@@ -76,30 +79,30 @@ pub(crate) fn address_symbols(file: &ElfFile<'_>) -> Result<Option<(SymbolTable,
     Ok(table_of(file, section)?.map(|table| (table, indices_of(file, section))))
 }
 
-// The symbols of a file, or of one of its sections alone, and the number of words that an index of them takes; none if the file
-// has no symbols.
+// The symbols of a file, or of one of its sections alone, and how many words and numbers an index of them takes; none if the
+// file has no symbols.
 pub(crate) fn asked_index(file: &ElfFile<'_>, within: u32) -> Result<AddressIndex, Error> {
     match address_symbols(file)? {
-        Some((table, indices)) => ffi::address_index(file.input(), file.header(), &table, &indices, within, &mut []),
+        Some((table, indices)) => ffi::address_index(file.input(), file.header(), &table, &indices, within, &mut [], &mut []),
         None => Ok(AddressIndex::default()),
     }
 }
 
-// The index of these symbols, with its words.
-fn index_of(file: &ElfFile<'_>, within: u32) -> Result<(AddressIndex, Vec<u32>), Error> {
+// The index of these symbols, with its words and numbers.
+fn index_of(file: &ElfFile<'_>, within: u32) -> Result<(AddressIndex, Vec<u32>, Vec<u64>), Error> {
     let asked = asked_index(file, within)?;
     if asked == AddressIndex::default() {
-        return Ok((asked, Vec::new()));
+        return Ok((asked, Vec::new(), Vec::new()));
     }
-    let mut words = vec![0; asked.words as usize];
-    let index = ffi::address_index(file.input(), file.header(), &asked.table, &asked.indices, within, &mut words)?;
-    Ok((index, words))
+    let (mut words, mut numbers) = (vec![0; asked.words as usize], vec![0; asked.numbers as usize]);
+    let index = ffi::address_index(file.input(), file.header(), &asked.table, &asked.indices, within, &mut words, &mut numbers)?;
+    Ok((index, words, numbers))
 }
 
 impl<'f, 'a> SymbolMap<'f, 'a> {
     pub(crate) fn new(file: &'f ElfFile<'a>, within: u32) -> Result<SymbolMap<'f, 'a>, Error> {
-        let (index, words) = index_of(file, within)?;
-        Ok(SymbolMap { file, index, words })
+        let (index, words, numbers) = index_of(file, within)?;
+        Ok(SymbolMap { file, index, words, numbers })
     }
 
     /// The number of symbols in the map.
@@ -117,7 +120,7 @@ impl<'f, 'a> SymbolMap<'f, 'a> {
     /// table.
     pub fn symbol_at(&self, address: u64) -> Option<SymbolAt<'a>> {
         let mut found = [FoundAt::default()];
-        ffi::symbols_at(self.file.input(), &self.index, &self.words, &[address], &mut found).ok()?;
+        ffi::symbols_at(self.file.input(), &self.index, &self.words, &self.numbers, &[address], &mut found).ok()?;
         self.of(&found[0])
     }
 
@@ -125,7 +128,7 @@ impl<'f, 'a> SymbolMap<'f, 'a> {
     pub fn symbols_at(&self, addresses: &[u64]) -> Vec<Option<SymbolAt<'a>>> {
         let mut found = vec![FoundAt::default(); addresses.len()];
         // The ranges were found in this input, so there is no error.
-        let _ = ffi::symbols_at(self.file.input(), &self.index, &self.words, addresses, &mut found);
+        let _ = ffi::symbols_at(self.file.input(), &self.index, &self.words, &self.numbers, addresses, &mut found);
         found.iter().map(|one| self.of(one)).collect()
     }
 

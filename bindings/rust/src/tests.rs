@@ -22,7 +22,7 @@ fn parts_of_a_file() {
     let input = whole();
     let header = ffi::open(&input).expect("an ELF file");
     assert_eq!(ffi::check_header(&input, &header), Ok(()));
-    let counts = ffi::counts(&input, &header).expect("never refused");
+    let counts = ffi::counts(&input, &header).expect("never an error");
     let names_index = ffi::names_index(&input, &header).expect("an index");
     assert!(u64::from(names_index) < counts.sections && counts.segments > 0);
     assert_eq!(ffi::segment(&input, &header, 0).map(|segment| segment.type_), Ok(PT_PHDR));
@@ -264,7 +264,7 @@ fn symbols_by_names_and_versions() {
         (version[0].name.text_in(&input), version[0].hidden)
     };
     // glibc defines two symbols of this name, of which the older one is hidden.
-    let found = |version: &[u8]| ffi::find_symbol(&input, &header, b"memcpy", version).expect("not refused");
+    let found = |version: &[u8]| ffi::find_symbol(&input, &header, b"memcpy", version).expect("no error");
     let (newest, older) = (found(b""), found(b"GLIBC_2.2.5"));
     assert_eq!((newest.found, older.found), (1, 1));
     assert_eq!((version_at(newest.index), version_at(older.index)), (("GLIBC_2.14", 0), ("GLIBC_2.2.5", 1)));
@@ -282,7 +282,7 @@ fn symbols_by_names_and_versions() {
     assert_eq!(ffi::find_symbol(&[], &header, b"", b""), Err(Error::LinkNoDynamic));
     let file = crate::ElfFile::new(&input).expect("an ELF file");
     for (version, wanted, shown) in [(None, newest, "@@GLIBC_2.14"), (Some("GLIBC_2.2.5"), older, "@GLIBC_2.2.5")] {
-        let found = file.find_symbol("memcpy", version).expect("not refused").expect("a symbol");
+        let found = file.find_symbol("memcpy", version).expect("no error").expect("a symbol");
         assert_eq!((found.index(), *found, found.name()), (wanted.index.into(), wanted.symbol, Ok("memcpy")));
         assert!(found.version().is_ok_and(|version| version.is_some_and(|version| version.to_string() == shown)));
     }
@@ -291,10 +291,10 @@ fn symbols_by_names_and_versions() {
 
 // What a look-up for one name says.
 fn look_up(input: &[u8], table: &FoundTable, name: &[u8]) -> Result<crate::LookUp, Error> {
-    let mut answers = [Answer::default(); 2];
-    ffi::look_ups(input, table, name, &[Range { offset: 0, size: name.len() as u64 }], &mut answers);
-    assert_eq!(answers[1], Answer::default());
-    answers[0].look_up()
+    let mut results = [Answer::default(); 2];
+    ffi::look_ups(input, table, name, &[Range { offset: 0, size: name.len() as u64 }], &mut results);
+    assert_eq!(results[1], Answer::default());
+    results[0].look_up()
 }
 
 #[test]
@@ -311,13 +311,13 @@ fn look_ups() {
     for said in names.iter().filter_map(|name| look_up(&input, &table, name.range().ok()?.bytes_in(&input)).ok()) {
         assert!(said.found == 0 || said.index > 0 && u64::from(said.index) < table.symbols.count);
     }
-    let said = look_up(&input, &table, b"no_such_name").expect("not refused");
+    let said = look_up(&input, &table, b"no_such_name").expect("no error");
     assert_eq!((said.found, said.index), (0, 0));
     let names = b"no_such_name\xff";
     let ranges = [Range { offset: 0, size: 12 }, Range { offset: 12, size: 1 }, Range { offset: 13, size: 1 }];
-    let mut answers = [Answer::default(); 3];
-    ffi::look_ups(&input, &table, names, &ranges, &mut answers);
-    assert_eq!(answers.map(|one| one.look_up()), [Ok(said), Err(Error::TextUtf8), Err(Error::DataRange)]);
+    let mut results = [Answer::default(); 3];
+    ffi::look_ups(&input, &table, names, &ranges, &mut results);
+    assert_eq!(results.map(|one| one.look_up()), [Ok(said), Err(Error::TextUtf8), Err(Error::DataRange)]);
     assert_eq!(ffi::hash_open(&input, &header, symbols), Err(Error::OtherData));
     // Tables that no call found.
     let far = Range { offset: u64::MAX, size: 24 };
@@ -346,7 +346,7 @@ fn look_ups_in_a_table_of_the_standard() {
     assert_eq!(ffi::symbol_names(&longer, &table.symbols, 0, &mut names), Ok(count.into()));
     let name_of = |index: u32| names[index as usize].range().map(|name| name.bytes_in(&longer));
     for name in (1..count).filter_map(|index| name_of(index).ok()) {
-        let said = look_up(&longer, &table, name).expect("not refused");
+        let said = look_up(&longer, &table, name).expect("no error");
         assert_eq!((said.found, name_of(said.index)), (1, Ok(name)));
     }
     assert_eq!(look_up(&longer, &table, b"no_such_name").map(|said| (said.found, said.looked_at)), Ok((0, count - 1)));
@@ -364,32 +364,38 @@ fn symbols_of_addresses() {
     let header = ffi::open(&input).expect("an ELF file");
     let table = ffi::symbols_open(&input, &header, section_of_type(&input, &header, SHT_SYMTAB).0).expect("symbols");
     let none = Range::default();
-    let index_in = |words: &mut [u32]| ffi::address_index(&input, &header, &table, &none, 0, words);
-    let asked = index_in(&mut []).expect("a number of words");
+    let index_in = |words: &mut [u32], numbers: &mut [u64]| ffi::address_index(&input, &header, &table, &none, 0, words, numbers);
+    let asked = index_in(&mut [], &mut []).expect("a number of words");
     assert!(asked.words > 1 && (asked.sized_count, asked.open_count) == (0, 0));
     let mut words = std::vec![7; asked.words as usize + 1];
-    assert_eq!(index_in(&mut words[..asked.words as usize - 1]), Err(Error::IndexFewWords));
-    assert!(words.iter().all(|word| *word == 7));
-    let index = index_in(&mut words).expect("an index");
+    let mut numbers = std::vec![7; asked.numbers as usize + 1];
+    assert_eq!(index_in(&mut words[..asked.words as usize - 1], &mut numbers), Err(Error::IndexFewWords));
+    assert_eq!(index_in(&mut words, &mut numbers[..asked.numbers as usize - 1]), Err(Error::IndexFewWords));
+    assert!(words.iter().all(|word| *word == 7) && numbers.iter().all(|number| *number == 7));
+    let index = index_in(&mut words, &mut numbers).expect("an index");
+    assert_eq!((index.numbers, numbers.last()), (2 * index.sized_count, Some(&7)));
     assert_eq!((index.words, 2 * index.sized_count + index.open_count, words.last()), (asked.words, asked.words, Some(&7)));
     let mut symbols = std::vec![Entry::default(); table.count as usize];
     assert_eq!(ffi::symbols(&input, &table, 0, &mut symbols), Ok(table.count));
     let addresses: Vec<u64> = symbols.iter().filter(|one| one.kind() == STT_FUNC && one.size > 0).map(|one| one.value + one.size / 2).collect();
     let mut found = std::vec![FoundAt::default(); addresses.len() + 1];
-    assert_eq!(ffi::symbols_at(&input, &index, &words, &addresses, &mut found), Ok(()));
+    assert_eq!(ffi::symbols_at(&input, &index, &words, &numbers, &addresses, &mut found), Ok(()));
     assert!(found.pop().is_some_and(|last| last == FoundAt::default()) && addresses.len() > 100);
     for (one, address) in found.iter().zip(&addresses) {
         assert_eq!((one.found, one.symbol, one.symbol.value + one.offset), (1, symbols[one.index as usize], *address));
     }
-    // With other words a symbol may be missed, and one that is found covers the address.
-    words.rotate_left(1);
-    let mut others = std::vec![FoundAt::default(); addresses.len()];
-    assert_eq!(ffi::symbols_at(&input, &index, &words, &addresses, &mut others), Ok(()));
-    assert!(others.iter().zip(&addresses).all(|(one, address)| one.found == 0 || address - one.symbol.value < one.symbol.size.max(1)));
+    // With other words or numbers a symbol may be missed, and one that is found covers the address.
+    for (turned, also) in [(1, 0), (0, 1), (1, 1)] {
+        words.rotate_left(turned);
+        numbers.rotate_left(also);
+        let mut others = std::vec![FoundAt::default(); addresses.len()];
+        assert_eq!(ffi::symbols_at(&input, &index, &words, &numbers, &addresses, &mut others), Ok(()));
+        assert!(others.iter().zip(&addresses).all(|(one, address)| one.found == 0 || address - one.symbol.value < one.symbol.size.max(1)));
+    }
     let far = Range { offset: u64::MAX, size: 0 };
-    assert_eq!(ffi::address_index(&input, &header, &table, &far, 0, &mut words), Err(Error::DataRange));
-    assert_eq!(ffi::address_index(&input, &header, &table, &Range { offset: 0, size: 3 }, 0, &mut words), Err(Error::NotMultiple));
-    assert_eq!(ffi::symbols_at(&input, &AddressIndex { indices: far, ..index }, &words, &addresses, &mut found), Err(Error::DataRange));
+    assert_eq!(ffi::address_index(&input, &header, &table, &far, 0, &mut words, &mut numbers), Err(Error::DataRange));
+    assert_eq!(ffi::address_index(&input, &header, &table, &Range { offset: 0, size: 3 }, 0, &mut words, &mut numbers), Err(Error::NotMultiple));
+    assert_eq!(ffi::symbols_at(&input, &AddressIndex { indices: far, ..index }, &words, &numbers, &addresses, &mut found), Err(Error::DataRange));
 }
 
 // The mappings of the test itself that /proc has of it, relative to the first: start, end, offset and permissions, for those of the
@@ -464,6 +470,28 @@ fn words_are_those_of_the_process() {
     assert_eq!(crate::check_image(&objects, 0, 0, 0, &mut []), Err(Error::LoadFewMarks));
     crate::check_image(&objects, 0, 0, 0, &mut std::vec![0; image.len() / 8 + 1]).expect("words that can be written");
     let left = crate::relocate(&objects, 0, crate::Binding::Now, 0, 0, &mut image).expect("all symbols");
+    // One call for all objects writes the same to this one.
+    let mut sizes = std::vec::Vec::new();
+    let mut images = std::vec::Vec::new();
+    for (index, (_, bytes)) in files.iter().enumerate() {
+        let (file, by) = (crate::ElfFile::new(bytes).expect("an ELF file"), if index == 0 { crate::Loader::Linux } else { crate::Loader::Glibc });
+        let plan = file.load_plan().expect("it runs");
+        let mut own = std::vec![0; (plan.span().end - plan.span().start) as usize];
+        plan.fill(by, &mut own).expect("an image of this size");
+        sizes.push(own.len());
+        images.extend(own);
+    }
+    let short = images.len() - 1;
+    let misfit = crate::ObjectError { error: Error::LoadImageSize, object: None };
+    assert_eq!(crate::relocate_all(&objects, crate::Binding::Now, 0, 0, &mut images[..short]), Err(misfit));
+    crate::relocate_all(&objects, crate::Binding::Now, 0, 0, &mut images).expect("all symbols");
+    assert!(images[..sizes[0]] == image[..]);
+    let unresolved = crate::relocate_all(&objects[..1], crate::Binding::Now, 0, 0, &mut images[..sizes[0]]);
+    assert_eq!(unresolved, Err(crate::ObjectError { error: Error::LoadUnresolved, object: Some(0) }));
+    assert_eq!(std::format!("{}", unresolved.expect_err("a symbol")), "object 0: Symbol is in no object");
+    let many = std::vec![objects[0]; 65];
+    let answer = crate::relocate_all(&many, crate::Binding::Now, 0, 0, &mut []);
+    assert_eq!(answer, Err(crate::ObjectError { error: Error::ManyObjects, object: None }));
     // What is read-only after relocation is as in memory, but for the words without a number and the dynamic segment.
     let relro = plan.relro().expect("a part that is read-only after relocation");
     let (_, dynamic) = section_of_type(&files[0].1, file.header(), SHT_DYNAMIC);
@@ -484,13 +512,13 @@ fn empty_slices() {
     assert_eq!(ffi::section(&[], &header, 0), Err(Error::ShortSectionHeader));
     assert_eq!(ffi::find_section_index(&[], &header, &[]), Err(Error::NotFound));
     ffi::look_ups(&[], &FoundTable::default(), &[], &[], &mut []);
-    assert_eq!(ffi::symbols_at(&[], &AddressIndex::default(), &[], &[], &mut []), Ok(()));
+    assert_eq!(ffi::symbols_at(&[], &AddressIndex::default(), &[], &[], &[], &mut []), Ok(()));
     assert_eq!(ffi::load_mappings(&[], &header, 0, 0, 0, 0, &mut []), Err(Error::LoadTable));
     assert_eq!(ffi::message(203, &mut []), "Nothing has this name".len());
 }
 
 #[test]
-fn each_call_answers_what_is_listed() {
+fn each_call_returns_what_is_listed() {
     // tools/exports/bindings.sh puts the files of tools/compare/damage.py there.
     let folder = std::env::var_os("XMAS_ELF_DAMAGED").into_iter().flat_map(|folder| std::fs::read_dir(folder).expect("a folder"));
     let damaged: Vec<_> = folder.map(|file| std::fs::read(file.expect("a file").path()).expect("its bytes")).collect();
@@ -502,11 +530,11 @@ fn each_call_answers_what_is_listed() {
     for (input, name) in [(&*whole, &b"main"[..]), (&[], &[])].into_iter().chain(damaged.iter().map(|file| (&**file, &b".text"[..]))) {
         let header = ffi::open(input).unwrap_or(header);
         for (section, index) in (0..40).flat_map(|section| [0, 1, 7, 1 << 40, u64::MAX].map(|index| (section, index))) {
-            let addresses = AddressIndex { table, words: 3, sized_count: 1, open_count: 1, machine: EM_X86_64, ..AddressIndex::default() };
+            let addresses = AddressIndex { table, words: 3, numbers: 2, sized_count: 1, open_count: 1, machine: EM_X86_64, ..AddressIndex::default() };
             let asked = Asked { input, header, part: Range { offset: index, size: 64 }, table, hash, addresses, name, section, index };
-            every(&asked, |call, answer, listed| {
+            every(&asked, |call, result, listed| {
                 calls += 1;
-                match answer {
+                match result {
                     Ok(()) => read += 1,
                     Err(error) => assert!(listed.contains(&error), "{call}: {error:?}"),
                 }

@@ -20,26 +20,26 @@ fn lies_in(input: &[u8], part: &[u8]) -> bool {
     part.is_empty() || input.as_ptr_range().start <= part.as_ptr() && part.as_ptr_range().end <= input.as_ptr_range().end
 }
 
-// Look-ups by one call answer as each by itself does; a range past the end of the names is refused.
+// Look-ups by one call return what each by itself does; a range past the end of the names has an error.
 fn visit_look_ups(table: &HashTable<'_, '_>) {
     let names = "mainprintfmain\0a".as_bytes();
     let ranges = [0..4, 4..10, 4..4, 10..14, 14..16, 0..10].map(ByteRange::from);
-    let mut answers = [Answer::default(); 8];
-    let Ok(count) = table.look_ups(names, &ranges, &mut answers) else {
+    let mut results = [Answer::default(); 8];
+    let Ok(count) = table.look_ups(names, &ranges, &mut results) else {
         return assert_eq!(table.look_up("main").err(), table.check().err());
     };
     assert_eq!(count, ranges.len());
-    for (range, answer) in ranges.iter().zip(&answers) {
+    for (range, result) in ranges.iter().zip(&results) {
         let start = range.offset as usize;
         let name = std::str::from_utf8(&names[start..start + range.size as usize]).expect("ASCII");
         let alone = table.look_up_counted(name).map(|said| (said.found, said.index, said.looked_at));
-        assert_eq!(answer.look_up().map(|said| (said.found, said.index, said.looked_at)), alone);
+        assert_eq!(result.look_up().map(|said| (said.found, said.index, said.looked_at)), alone);
     }
     let past = [ByteRange::from(14..17), ByteRange { offset: u64::MAX, size: u64::MAX }];
-    assert_eq!(table.look_ups(names, &past, &mut answers[..1]), Ok(1));
-    assert!(answers[0].index() == Err(Error::DataRange) && answers[1].look_up().is_ok() == table.look_up("printf").is_ok());
-    assert_eq!(table.look_ups(b"\xff", &[ByteRange::from(0..1)], &mut answers), Ok(1));
-    assert_eq!(answers[0].index(), Err(Error::TextUtf8));
+    assert_eq!(table.look_ups(names, &past, &mut results[..1]), Ok(1));
+    assert!(results[0].index() == Err(Error::DataRange) && results[1].look_up().is_ok() == table.look_up("printf").is_ok());
+    assert_eq!(table.look_ups(b"\xff", &[ByteRange::from(0..1)], &mut results), Ok(1));
+    assert_eq!(results[0].index(), Err(Error::TextUtf8));
 }
 
 // Sections and their names by many at once, as each by itself.
@@ -152,7 +152,7 @@ fn visit_dynamic_symbols(file: &ElfFile<'_>) {
     assert_eq!(file.dynamic_symbol_names_from(3, &mut names).unwrap_or(0), count);
     // The symbols of a table that can't be read are an error, and not none.
     let room = file.dynamic_symbols_from(0, &mut [Entry::default()]).err();
-    let is_none = [None, Some(Error::NoRecord), Some(Error::LinkNoDynamic)].contains(&room);
+    let is_none = [None, Some(Error::NoRecord)].contains(&room) || room == Some(Error::LinkNoDynamic) && file.segments().is_ok();
     let Ok(symbols) = file.dynamic_symbols() else {
         assert!(!is_none && count == 0);
         return;
@@ -182,7 +182,7 @@ fn visit_versions(file: &ElfFile<'_>) {
     let count = file.dynamic_symbol_versions_from(3, &mut many).unwrap_or(0);
     let listed = || file.dynamic_symbol_versions().into_iter().flatten();
     assert!(listed().skip(3).take(7).eq(many[..count].iter().map(|one| file.version_of(one))));
-    // The symbols themselves may be refused.
+    // The symbols themselves may not be readable.
     let symbols = file.dynamic_symbols_from(3, &mut [Entry::default(); 7]);
     assert!(count == 0 || symbols.map_or(true, |symbols| symbols == count));
     let count = file.version_definitions_from(1, &mut many).unwrap_or(0);
@@ -331,7 +331,7 @@ fn visit(input: &[u8]) -> usize {
 }
 
 #[test]
-fn damaged_files_are_read_or_refused() {
+fn damaged_files_are_read_or_have_an_error() {
     let whole = std::fs::read(std::env::current_exe().expect("a path")).expect("the test itself is a file");
     let mut numbers = Numbers(0x9e37_79b9_7f4a_7c15);
     assert!(visit(&whole) > 100);
@@ -364,7 +364,7 @@ fn a_number_of_sections_that_is_lost_is_an_error() {
 }
 
 #[test]
-fn short_inputs_are_refused() {
+fn short_inputs_have_an_error() {
     let whole = std::fs::read(std::env::current_exe().expect("a path")).expect("the test itself is a file");
     for len in 0..64 {
         assert!(ElfFile::new(&whole[..len]).is_err());
@@ -374,7 +374,7 @@ fn short_inputs_are_refused() {
 
 // tools/exports/bindings.sh puts the files of tools/compare/damage.py there.
 #[test]
-fn files_of_the_folder_are_read_or_refused() {
+fn files_of_the_folder_are_read_or_have_an_error() {
     let Some(folder) = std::env::var_os("XMAS_ELF_DAMAGED") else {
         return;
     };

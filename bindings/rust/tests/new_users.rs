@@ -141,7 +141,7 @@ fn look_up(path: &Path) -> usize {
     let by_nm = by_nm(path);
     for ((value, shown), _) in by_nm.iter().filter(|((value, shown), _)| *value != 0 && shown.contains('@')) {
         let (name, version) = shown.split_once('@').expect("a version");
-        let found = |version| file.find_symbol(name, version).expect("not refused").map(|symbol| (symbol.value, symbol.name().map(str::to_owned)));
+        let found = |version| file.find_symbol(name, version).expect("no error").map(|symbol| (symbol.value, symbol.name().map(str::to_owned)));
         let wanted = Some((*value, Ok(name.to_owned())));
         assert_eq!(found(Some(version.trim_start_matches('@'))), wanted, "{}: {shown}", path.display());
         let unversioned: Vec<u64> = by_nm.keys().filter(|(value, other)| *value != 0 && other == name).map(|(value, _)| *value).collect();

@@ -30,7 +30,7 @@ class Chromium(webdriver.Chrome):
         self.get(address)
 
     def send(self, method, **params):
-        """The answer to a command of the DevTools protocol."""
+        """The result of a command of the DevTools protocol."""
         return self.execute_cdp_cmd(method, params)
 
     def resize(self, width, height):
@@ -81,5 +81,5 @@ class Chromium(webdriver.Chrome):
         self.send("Emulation.setEmulatedMedia", features=[{"name": name, "value": value} for name, value in wanted.items()])
 
     def faults(self):
-        """What the page's console says of errors and refused policies."""
+        """What the page's console says of errors and violated policies."""
         return [it["message"] for it in self.get_log("browser") if it["level"] == "SEVERE"]

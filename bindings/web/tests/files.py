@@ -80,13 +80,13 @@ def without_sections(room, path):
     return changed(room, path, f"bare-{path.name}", comparing.stripped)
 
 
-def refused_symbols(room, path):
+def unread_symbols(room, path):
     """A file whose dynamic symbols are no section's: their section goes past the end of the file."""
     held = damage.Damage(path.read_bytes(), random)
     for base in held.sections:
         if held.of_section(base, "type") == 11:
             held.put_in(base, offset=1 << 40)
-    return written(room / f"refused-{path.name}", held.data)
+    return written(room / f"unread-{path.name}", held.data)
 
 
 def wide_numbers(room, path):

@@ -116,7 +116,7 @@ def try_comparison(test):
 
 
 def try_foreign(test):
-    """Files that are no ELF files, and one that doesn't fit, are refused by name and reason."""
+    """Files that are no ELF files, and one that doesn't fit, are told by name and reason."""
     short = "File is shorter than the first ELF header part"
     foreign = {"a.txt": (b"plain text\n" * 9, "Did not find ELF magic number"), "empty": (b"", short),
                "<img src=x onerror=alert(1)>": (b"\x7fELF", short), "too-large.elf": (b"", "does not fit")}
@@ -126,8 +126,8 @@ def try_foreign(test):
             file.truncate(1 << 40 if name == "too-large.elf" else None)
         test.open(test.room / name)
         said = test.page.text("#message")
-        is_refused = test.page.run("document.body.dataset.view") != "viewer"
-        test.same(f"{name}: refused", is_refused and name in said and text in said, True)
+        is_closed = test.page.run("document.body.dataset.view") != "viewer"
+        test.same(f"{name}: not opened", is_closed and name in said and text in said, True)
 
 
 def try_damaged(test):
@@ -139,6 +139,27 @@ def try_damaged(test):
         if test.page.run("document.body.dataset.view") == "viewer":
             test.compared += bool([*test.tabs()])
     test.tab("Overview")
+
+
+def try_missing_parts(test):
+    """Of fifty files of which parts are missing the page says so, or shows what it does of the whole file."""
+    def shown():
+        return test.page.texts(".card.first .facts dd, .card.first .hardened dd"), test.page.texts("[role=tab]")
+
+    program = files.programs(test.room)[0]
+    test.open(program, tab="Overview")
+    whole, told = shown(), 0
+    for index, data in enumerate(damage.missing(program.read_bytes(), 1)):
+        path = test.room / f"missing-{index}"
+        path.write_bytes(data)
+        test.open(path)
+        is_viewer = test.page.run("document.body.dataset.view") == "viewer"
+        if is_viewer:
+            test.tab("Overview")
+        is_told = not is_viewer or test.page.run("document.querySelector('.faults li, .facts .bad') !== null")
+        told += is_told
+        test.same(f"missing-{index}: said, or shown as the whole", is_told or shown() == whole, True)
+    test.same("missing parts that are said", told > 20, True)
 
 
 def try_hardening(test):
@@ -166,11 +187,11 @@ def try_zeros(test):
     test.open(LIBC)
     bss = next(it for it in readelf.sections(LIBC) if it[1] == ".bss")
     test.go("address", int(bss[3], 16) + 64)
-    test.page.wait_text("#goanswer", "Zero in memory .\\.bss.: the file has no byte", 5)
+    test.page.wait_text("#gosaid", "Zero in memory .\\.bss.: the file has no byte", 5)
     test.compared += 1
     # The field is empty with the next file.
     test.open(test.example)
-    test.same("the field of a new file", test.page.run("[document.getElementById('go').elements.where.value, document.getElementById('goanswer').textContent]"), ["", ""])
+    test.same("the field of a new file", test.page.run("[document.getElementById('go').elements.where.value, document.getElementById('gosaid').textContent]"), ["", ""])
 
 
 def try_hints(test):
@@ -227,7 +248,7 @@ IN_VIEW = """(() => {
 
 
 def try_resize(test):
-    """After a resize the byte that was chosen is in view; at 400 the name stands first, and at 1280 each check is in view."""
+    """After a resize the byte that was chosen is in view; at 400 the name comes first, and at 1280 each check is in view."""
     page = test.page
     page.resize(1280, 800)
     test.open(LIBC)
@@ -264,9 +285,9 @@ def try_screenshots(test):
     page.resize(*SIZE)
 
 
-def try_refused_symbols(test):
-    """Where a section of dynamic symbols is refused, those of the dynamic segment are shown."""
-    path = files.refused_symbols(test.room, LIBM)
+def try_unread_symbols(test):
+    """Where a section of dynamic symbols can't be read, those of the dynamic segment are shown."""
+    path = files.unread_symbols(test.room, LIBM)
     test.open(path)
     compare_tables(test, path, "Symbols", "Table", {"the dynamic segment": readelf.symbols(LIBM)[".dynsym"]}, symbol_form)
 
@@ -305,7 +326,7 @@ def try_examples(test):
         test.page.wait("document.body.dataset.state === 'ready'")
         test.tab("Overview")
         test.page.wait("document.querySelector('.overview') && !document.querySelector('.overview .pending')")
-        test.same(f"{name}: errors in the overview", test.page.text(".overview .refusal") is not None, name != "example.elf")
+        test.same(f"{name}: errors in the overview", test.page.text(".overview .fault") is not None, name != "example.elf")
         shown = [test.page.run(CHECKS)]
         for tab in ("Sections", "Segments"):
             test.tab(tab)
@@ -366,12 +387,12 @@ def try_narrow(test):
 
 
 def try_cut(test):
-    """A file without its second half: its segments are those that readelf lists, and it is said what is refused."""
+    """A file without its second half: its segments are those that readelf lists, and it is said what can't be read."""
     path = files.changed(test.room, LIBC, f"cut-{LIBC.name}", lambda data: data[: len(data) // 2])
     test.open(path)
     compare_segments(test, path, holds_sections=False)
     for tab, place, words in (
-            ("Overview", ".refusals", ("Section headers end early", "Data of segment", "Entries of the dynamic segment")),
+            ("Overview", ".faults", ("Section headers end early", "Data of segment", "Entries of the dynamic segment")),
             ("Sections", f"{PANEL} .notice", ("can be read", "File is shorter than section header offset"))):
         test.tab(tab)
         said = test.page.text(place)
@@ -463,7 +484,7 @@ def try_fields(test):
 
 
 def try_addresses(test):
-    """Bytes are found by their address, by a record's button and by "Go to", and an address in no segment is refused."""
+    """Bytes are found by their address, by a record's button and by "Go to", and an address in no segment gets an error."""
     test.open(LIBC)
     entry = int(readelf.header(LIBC)["Entry point address"], 16)
     load = next(row for row in readelf.segments(LIBC) if row[0] == "LOAD" and 0 <= entry - int(row[2], 16) < int(row[4], 16))
@@ -472,7 +493,7 @@ def try_addresses(test):
     test.page.click(".follow button")
     test.wait(is_at % offset)
     test.go("address", 0xffffffffffff0000)
-    test.wait("/Address is in no loaded segment/.test(document.getElementById('goanswer').textContent)")
+    test.wait("/Address is in no loaded segment/.test(document.getElementById('gosaid').textContent)")
     test.go("address", entry + 16)
     test.wait(is_at % (offset + 16))
 
@@ -549,13 +570,13 @@ def try_hostile_names(test):
         test.same(f"markup in {tab}: elements made of it", test.page.run(MADE), 0)
         shown = test.page.text(PANEL)
         test.same(f"markup in {tab}: names shown as they are", sum(it in shown for it in files.MARKUP) >= least, True)
-    refused = test.page.run("(() => { try { document.createElement('p').innerHTML = '<b>x</b>'; return false; } catch { return true; } })()")
-    test.same("markup of strings is refused", refused, True)
+    fault = test.page.run("(() => { try { document.createElement('p').innerHTML = '<b>x</b>'; return false; } catch { return true; } })()")
+    test.same("markup of strings is forbidden", fault, True)
     test.page.faults()
 
 
 def try_slow_check(test):
-    """The page answers while the check of a hash table takes long, and the check can be stopped."""
+    """The page can be used while the check of a hash table takes long, and the check can be stopped."""
     test.open(files.slow_table(test.room), tab="Hash tables")
     test.page.wait("document.querySelector('.checked button') !== null", 5)
     test.tab("Symbols")

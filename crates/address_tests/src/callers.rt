@@ -37,17 +37,20 @@ pub fn symbol_in(file: &ElfFile<'_>, address: u64) -> Option<At<Entry64>> {
     symbol_at(&symbols, address, None)
 }
 
-/// The symbol at an address, by an index that is built in words.
+/// The symbol at an address, by an index that is built in words and numbers.
 pub fn symbol_by_index<E: Entry + Record>(
     symbols: &AddressSymbols<'_, E>,
     words: &mut [u32],
+    numbers: &mut [u64],
     address: u64,
 ) -> Result<Option<At<E>>, IndexError>
     ensures { IfOk result (λ found. IsInnermost
         (claim_of_symbols E.fields symbols.now None) address (claim_at E.fields found)) }
 {
-    SymbolIndex::build(symbols, None, words)?;
-    Ok(SymbolIndex::lend(symbols, None, words).symbol_at(address))
+    let size = SymbolIndex::size(symbols, None);
+    SymbolIndex::build(symbols, None, words, numbers)?;
+    let index = SymbolIndex::lend(symbols, None, size, words, numbers);
+    Ok(index.symbol_at(address))
 }
 
 /// The name of the symbol of `.symtab` that an address is in, in a file of either class with fewer
@@ -128,32 +131,34 @@ pub fn dladdr_in<E: LinkedSymbol>(
     Ok(symbols.symbol_at(address))
 }
 
-/// Prints the symbol and the offset in it of each address of a backtrace. The words are those of an
-/// index (`SymbolIndex::build`).
+/// Prints the symbol and the offset in it of each address of a backtrace, by an index.
 pub fn print_backtrace<E: Entry + Record, W: Write>(
-    symbols: &AddressSymbols<'_, E>,
-    words: &[u32],
+    index: &SymbolIndex<'_, '_, '_, E>,
     addresses: &[u64],
     out: &mut W,
 ) -> io::Result<()> {
-    let index = SymbolIndex::lend(symbols, None, words);
+    let strings = index.claims.symbols.strings;
     for address in addresses {
         let Some(at) = index.symbol_at(*address) else {
             writeln!(out, "{address:x} ?")?;
             continue;
         };
-        let name = text_at(symbols.strings, at.symbol.name() as usize).unwrap_or("?");
+        let name = text_at(strings, at.symbol.name() as usize).unwrap_or("?");
         writeln!(out, "{address:x} {name}+0x{:x}", at.offset)?;
     }
     Ok(())
 }
 
-/// The size of a file: the sum of the sizes of all its pieces. The words are those of an index
-/// (`Pieces::new`).
-pub fn sum_of_pieces(file: &ElfFile<'_>, words: &mut [u32]) -> Result<usize, IndexError>
+/// The size of a file: the sum of the sizes of all its pieces. The words and the numbers are those of
+/// an index (`Pieces::new`).
+pub fn sum_of_pieces(
+    file: &ElfFile<'_>,
+    words: &mut [u32],
+    numbers: &mut [u64],
+) -> Result<usize, IndexError>
     ensures { IfOk result (λ sum. sum ≡ byte_count file.now) }
 {
-    Ok(Pieces::new(file, words)?.total())
+    Ok(Pieces::new(file, words, numbers)?.total())
 }
 
 /// The index of the section that the byte at an offset belongs to, if it belongs to one.
@@ -179,17 +184,18 @@ fn section_in(owner: Owner) -> Option<usize>
 }
 
 /// The piece that the byte at an offset is in; `None` at the end of the file and past it. The words
-/// are those of an index (`Pieces::new`).
+/// and the numbers are those of an index (`Pieces::new`).
 pub fn piece_at(
     file: &ElfFile<'_>,
     words: &mut [u32],
+    numbers: &mut [u64],
     offset: usize,
 ) -> Result<Option<Piece>, IndexError>
     ensures { IfOk result (λ found. MatchOption found (byte_count file.now ≤ offset)
         (λ piece. (piece.begin ≤ offset) × (offset < piece.end)
         × IsOwner file.now offset piece.owner)) }
 {
-    for piece in Pieces::new(file, words)? {
+    for piece in Pieces::new(file, words, numbers)? {
         if offset < piece.end {
             return Ok(Some(piece));
         }

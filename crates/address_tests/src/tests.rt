@@ -3,6 +3,7 @@
 
 mod backtrace;
 mod candidates;
+mod differences;
 mod dladdr;
 mod files;
 mod index;

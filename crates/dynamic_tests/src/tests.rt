@@ -13,6 +13,7 @@ mod sections;
 mod segments;
 mod shared_object;
 mod symbols;
+mod twice;
 mod versions;
 mod view;
 mod want;

@@ -5,7 +5,7 @@ use Rattle.std.proofs.lemmas.Option.{option_and_then_some}
 use Rattle.xmas_elf.specs.Symbol.{SymbolFields}
 use Rattle.xmas_elf.specs.Table.{table_items}
 use Rattle.elf_addresses.specs.Candidates.{section_index}
-use Rattle.elf_addresses.specs.Claims.{Among, IsOpenBelow, begins_nearer}
+use Rattle.elf_addresses.specs.Claims.{Among, Covers, IsInnermost, IsOpenBelow, begins_nearer}
 use Rattle.elf_addresses.specs.SymbolAt.{IsInSection, IsOpenSymbol, TellsAt}
 use Rattle.elf_addresses.specs.SymbolClaims.{claim_if, claim_of_symbols, has_claim, symbol_claim, symbol_items}
 use Rattle.elf_addresses.specs.declared.claim.Claim.{Claim}
@@ -63,3 +63,14 @@ in_section {E} {r} fields symbols within address section at found among tells is
       tells = tells;
     }
     picked false h = tt
+
+-- the symbol of the innermost claim is found at its index
+pub innermost_there : {E : Type 0} → {r : _} → (fields : E → SymbolFields) (symbols : AddressSymbols E r) (within : Option ℕ) (address : ℕ) (claim : Claim) (found : Option Claim) → IsInnermost (claim_of_symbols fields symbols within) address (Some claim) → ((symbol : E) → slice_get (symbol_items symbols) claim.index ≡ Some symbol → Covers (symbol_claim claim.index (fields symbol)) address → found ≡ Some (symbol_claim claim.index (fields symbol))) → IsInnermost (claim_of_symbols fields symbols within) address found
+innermost_there {E} {r} fields symbols within address claim found inner known = by_symbol (slice_get (symbol_items symbols) claim.index) refl
+  where
+    by_symbol : (symbol : Option E) → slice_get (symbol_items symbols) claim.index ≡ symbol → IsInnermost (claim_of_symbols fields symbols within) address found
+    by_symbol None at = absurd (symbol_there fields symbols within claim.index claim inner.0.is (sym at))
+    by_symbol (Some symbol) at =
+        let same : symbol_claim claim.index (fields symbol) ≡ claim = claim_there fields symbols within claim.index claim symbol inner.0.is (sym at) in
+        let covers : Covers (symbol_claim claim.index (fields symbol)) address = subst (λ k. Covers k address) (sym same) inner.0.has in
+        subst (λ o. IsInnermost (claim_of_symbols fields symbols within) address o) (sym (known symbol at covers ∙ ap (λ k. Some k) same)) inner

@@ -1,7 +1,7 @@
 -- An index is well built exactly if its words are so place by place.
 use Rattle.std.proofs.Common.{◌≡◌, ◌<◌, ◌+◌, ℕ, Bool, true, false, List, length, Option, Some}
-use Rattle.elf_addresses.specs.Held.{InBlocks, InOrder, IsHeld}
-use Rattle.elf_addresses.specs.Index.{AreLasting, IsWellBuilt, IsWord, IsWorstFirst}
+use Rattle.elf_addresses.specs.Held.{InBlocks, InOrder, InRanges, IsHeld}
+use Rattle.elf_addresses.specs.Index.{AreLasting, AreRanges, IsWellBuilt, IsWord, IsWorstFirst}
 use Rattle.elf_addresses.specs.declared.claim.Claim.{Claim}
 use Rattle.elf_addresses.proofs.Listed.{all_words, each_in_order, in_order_here, length_words, next_in_order, order_from_next}
 
@@ -27,12 +27,24 @@ module _ (claim_of : ℕ → Option Claim) (range_of : ℕ → ℕ × ℕ) (coun
     each = λ place less. record { inside = (all place less).0; last = (all place less).1 };
   }
 
-  pub held : (sized lasting starts : List ℕ) → IsWellBuilt claim_of range_of sized lasting starts → IsHeld claim_of range_of count sized lasting starts
-  held sized lasting starts built = (in_order false sized built.order, in_blocks sized lasting built.blocks, in_order true starts built.rest)
+  pub in_ranges : (words begins sizes : List ℕ) → AreRanges range_of words begins sizes → InRanges range_of words begins sizes
+  in_ranges words begins sizes are = (are.begin_count, are.size_count, are.begin_at, are.size_at)
 
-  pub well_built : (sized lasting starts : List ℕ) → IsHeld claim_of range_of count sized lasting starts → IsWellBuilt claim_of range_of sized lasting starts
-  well_built sized lasting starts (order, blocks, rest) = record {
+  pub are_ranges : (words begins sizes : List ℕ) → InRanges range_of words begins sizes → AreRanges range_of words begins sizes
+  are_ranges words begins sizes (many, as_many, firsts, others) = record {
+    begin_count = many;
+    size_count = as_many;
+    begin_at = firsts;
+    size_at = others;
+  }
+
+  pub held : (sized begins sizes lasting starts : List ℕ) → IsWellBuilt claim_of range_of sized begins sizes lasting starts → IsHeld claim_of range_of count sized begins sizes lasting starts
+  held sized begins sizes lasting starts built = (in_order false sized built.order, in_ranges sized begins sizes built.ranges, in_blocks sized lasting built.blocks, in_order true starts built.rest)
+
+  pub well_built : (sized begins sizes lasting starts : List ℕ) → IsHeld claim_of range_of count sized begins sizes lasting starts → IsWellBuilt claim_of range_of sized begins sizes lasting starts
+  well_built sized begins sizes lasting starts (order, ranges, blocks, rest) = record {
     order = worst_first false sized order;
+    ranges = are_ranges sized begins sizes ranges;
     blocks = are_lasting sized lasting blocks;
     rest = worst_first true starts rest;
   }

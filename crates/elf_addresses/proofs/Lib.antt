@@ -3,6 +3,8 @@ pub mod Order
 pub mod Foremost
 pub mod ClaimsThere
 pub mod Ask
+pub mod Near
+pub mod Known
 pub mod Nested
 pub mod Listed
 pub mod Sorted
@@ -17,3 +19,4 @@ pub mod Behind
 pub mod HeldWords
 pub mod SizedRuns
 pub mod SectionCountings
+pub mod Merging

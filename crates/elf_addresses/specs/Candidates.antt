@@ -38,13 +38,12 @@ is_mapping machine first second third =
     else (if machine == 243 && second == 120 then true
     else is_mapping_letter machine second && (third == 0 || third == 46)))
 
--- a symbol has a name, and is not a local symbol without a type that is named as a mapping symbol or a label;
--- the bytes of a string table past its end are 0
+-- a symbol has a name (gABI, "Symbol Table": st_name is 0 if it has none), and is not a local symbol without a type
+-- that is named as a mapping symbol or a label; the bytes of a string table past its end are 0
 unfoldable pub is_named : ℕ → List ℕ → SymbolFields → Bool
 is_named machine strings symbol =
-    let first = slice_index strings symbol.name in
-    not (first == 0)
-    && not (symbol.info == 0 && is_mapping machine first (slice_index strings (symbol.name + 1)) (slice_index strings (symbol.name + 2)))
+    not (symbol.name == 0)
+    && not (symbol.info == 0 && is_mapping machine (slice_index strings symbol.name) (slice_index strings (symbol.name + 1)) (slice_index strings (symbol.name + 2)))
 
 -- a symbol names addresses, by the string table of its names, the machine, and the words of section indices
 abbrev pub is_candidate : ℕ → List ℕ → List ℕ → Option ℕ → ℕ → SymbolFields → Bool

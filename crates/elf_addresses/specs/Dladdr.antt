@@ -1,8 +1,9 @@
 -- The symbols that `dladdr` finds (determine_info of elf/dl-addr.c in glibc 2.36), and their order.
 use Rattle.std.specs.Prelude.{◌≡◌, ℕ, ◌+◌, ◌%◌, ◌/◌, max, Bool, ◌&&◌, ◌||◌, ◌==◌, not, nat_lt, List, Option, None, Some, length, slice_get, slice_index, if◌then◌else◌}
-use Rattle.std.specs.Option.{option_and_then}
+use Rattle.std.specs.Option.{option_and_then, option_map_or}
 use Rattle.xmas_elf.specs.Symbol.{SymbolFields}
 use Rattle.xmas_elf.specs.Table.{table_items}
+use Rattle.elf_addresses.specs.Claims.{no_claim}
 use Rattle.elf_addresses.specs.declared.claim.Claim.{Claim}
 use Rattle.elf_addresses.specs.declared.dladdr.DladdrSymbols.{DladdrSymbols}
 use Rattle.elf_addresses.specs.declared.dladdr.Reach.{Reach}
@@ -42,6 +43,12 @@ dladdr_if fields symbols index symbol =
 -- the claim of the symbol at an index, if there is one that is found
 abbrev pub dladdr_claims : {E : Type 0} → {r : _} → (E → SymbolFields) → DladdrSymbols E r → ℕ → Option Claim
 dladdr_claims fields symbols index = option_and_then (dladdr_if fields symbols index) (slice_get (table_items symbols.table) index)
+
+-- the claim of the symbol at an index, whether or not it is found; an open one at address 0 if there is none
+abbrev pub dladdr_known : {E : Type 0} → {r : _} → (E → SymbolFields) → DladdrSymbols E r → ℕ → Claim
+dladdr_known fields symbols index =
+    option_map_or (λ symbol. dladdr_claim (reach_of symbols.reach index (fields symbol)) index (fields symbol))
+    (slice_get (table_items symbols.table) index) (no_claim index)
 
 -- the first address and the size of a symbol; 0 and 1 if there is none
 abbrev pub dladdr_range : {E : Type 0} → (E → SymbolFields) → Option E → ℕ × ℕ

@@ -3,7 +3,9 @@ use Rattle.std.proofs.Common.{◌≡◌, ℕ, Option, Some, slice_get, ap, sym, 
 use Rattle.std.proofs.lemmas.Option.{option_and_then_some, slice_get_within}
 use Rattle.xmas_elf.specs.Symbol.{SymbolFields}
 use Rattle.xmas_elf.specs.Table.{table_items}
-use Rattle.elf_addresses.specs.Dladdr.{dladdr_claim, dladdr_claims, dladdr_if, dladdr_range, dladdr_ranges, is_found, reach_of}
+use Rattle.std.specs.Option.{option_map_or}
+use Rattle.elf_addresses.specs.Claims.{no_claim}
+use Rattle.elf_addresses.specs.Dladdr.{dladdr_claim, dladdr_claims, dladdr_if, dladdr_known, dladdr_range, dladdr_ranges, is_found, reach_of}
 use Rattle.elf_addresses.specs.SymbolRanges.{if_some}
 use Rattle.elf_addresses.specs.declared.claim.Claim.{Claim}
 use Rattle.elf_addresses.specs.declared.dladdr.DladdrSymbols.{DladdrSymbols}
@@ -15,10 +17,18 @@ module _ {E : Type 0} {r : _} (fields : E → SymbolFields) (symbols : DladdrSym
       let reach = reach_of symbols.reach i (fields found) in
       if_some (is_found symbols.strings.now reach (fields found)) (dladdr_claim reach i (fields found)) claim has
 
+  abbrev known_from : Option E → Claim
+  known_from found = option_map_or (λ symbol. dladdr_claim (reach_of symbols.reach i (fields symbol)) i (fields symbol)) found (no_claim i)
+
   -- an index with a claim is below the number of symbols
   pub dladdr_within : i < length (table_items symbols.table)
   dladdr_within = option_and_then_some (dladdr_if fields symbols i) (slice_get (table_items symbols.table) i) claim is
       (λ found there has. slice_get_within (table_items symbols.table) i found there)
+
+  -- it is known without a test whether the symbol is found
+  pub dladdr_knows : dladdr_known fields symbols i ≡ claim
+  dladdr_knows = option_and_then_some (dladdr_if fields symbols i) (slice_get (table_items symbols.table) i) claim is
+      (λ found there has. ap known_from there ∙ claim_is found has)
 
   -- a claim has the index of its symbol
   pub dladdr_index : claim.index ≡ i

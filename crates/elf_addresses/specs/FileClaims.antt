@@ -7,7 +7,7 @@ use Rattle.elf_records.specs.ProgramNumbers.{ph_type_number}
 use Rattle.xmas_elf.specs.Types.{ElfFile, ProgramHeader, SectionHeader}
 use Rattle.xmas_elf.specs.SectionHeader.{program_count_of, section_count_of, section_fields, section_list}
 use Rattle.xmas_elf.specs.ProgramHeader.{program_fields, program_list}
-use Rattle.elf_addresses.specs.Index.{word_count}
+use Rattle.elf_addresses.specs.Index.{number_count, word_count}
 use Rattle.elf_addresses.specs.declared.claim.Claim.{Claim}
 
 -- the number of bytes of a file
@@ -64,10 +64,13 @@ segment_range program = let fields = program_fields program in let type_ = ph_ty
 abbrev pub part_range : {H : Type 0} → (H → ℕ × ℕ) → ℕ → List H → ℕ → ℕ × ℕ
 part_range range n parts index = option_map_or (λ part. cut_range n (range part)) (slice_get parts index) (0, 0)
 
+-- the claim of a range
+abbrev pub claim_with : ℕ → ℕ × ℕ → Claim
+claim_with index range = record { begin = range.0; size = range.1; extent = range.1; rank = 0; index = index }
+
 -- the claim of a range, if it is not empty
 abbrev pub range_claim : ℕ → ℕ × ℕ → Option Claim
-range_claim index range =
-    if range.1 == 0 then None else Some (record { begin = range.0; size = range.1; extent = range.1; rank = 0; index = index })
+range_claim index range = if range.1 == 0 then None else Some (claim_with index range)
 
 -- the range in the file of the section at an index
 abbrev pub section_range_at : ElfFile → ℕ → ℕ × ℕ
@@ -89,3 +92,8 @@ segment_claim file index = range_claim index (segment_range_at file index)
 abbrev pub piece_words : ElfFile → ℕ
 piece_words file =
     word_count (section_claim file) (length (section_parts file)) + word_count (segment_claim file) (length (segment_parts file))
+
+-- the number of numbers for the ranges of the sections and of the segments
+abbrev pub piece_numbers : ElfFile → ℕ
+piece_numbers file =
+    number_count (section_claim file) (length (section_parts file)) + number_count (segment_claim file) (length (segment_parts file))

@@ -15,7 +15,14 @@ InBlocks range_of words lasting = (length lasting ≡ length words)
     × ((place : ℕ) → place < length words → InBlock (place + 1) (slice_index lasting place)
     × ((j : ℕ) → InBlock (place + 1) j → end_at range_of words j ≤ end_at range_of words (slice_index lasting place)))
 
--- the three parts of an index
-abbrev pub IsHeld : (ℕ → Option Claim) → (ℕ → ℕ × ℕ) → ℕ → List ℕ → List ℕ → List ℕ → Type 0
-IsHeld claim_of range_of count sized lasting starts =
-    InOrder claim_of false count sized × InBlocks range_of sized lasting × InOrder claim_of true count starts
+-- beside the words, the first addresses and the sizes at their indices
+abbrev pub InRanges : (ℕ → ℕ × ℕ) → List ℕ → List ℕ → List ℕ → Type 0
+InRanges range_of words begins sizes = (length begins ≡ length words) × (length sizes ≡ length words)
+    × ((place : ℕ) → place < length words → slice_index begins place ≡ (range_of (slice_index words place)).0)
+    × ((place : ℕ) → place < length words → slice_index sizes place ≡ (range_of (slice_index words place)).1)
+
+-- the five parts of an index
+abbrev pub IsHeld : (ℕ → Option Claim) → (ℕ → ℕ × ℕ) → ℕ → List ℕ → List ℕ → List ℕ → List ℕ → List ℕ → Type 0
+IsHeld claim_of range_of count sized begins sizes lasting starts =
+    InOrder claim_of false count sized × InRanges range_of sized begins sizes × InBlocks range_of sized lasting
+    × InOrder claim_of true count starts

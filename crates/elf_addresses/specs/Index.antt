@@ -11,15 +11,45 @@ IsKind is_open claim = (claim.size == 0) ≡ is_open
 abbrev pub StandsAt : (ℕ → Option Claim) → List ℕ → ℕ → Claim → Type 0
 StandsAt claim_of words place claim = (place < length words) × (claim_of (slice_index words place) ≡ Some claim)
 
+-- the claim is the one known at the word at a place
+pub record IsKnownIn (known_of : ℕ → Claim) (words : List ℕ) (claim : Claim) : Type 0 where
+  pub place : ℕ
+  pub within : place < length words
+  pub known : known_of (slice_index words place) ≡ claim
+
+-- the number is the word at a place where the range of a first address and a size has an address
+pub record StandsOver (words begins sizes : List ℕ) (address index : ℕ) : Type 0 where
+  pub place : ℕ
+  pub within : place < length words
+  pub is : slice_index words place ≡ index
+  pub begun : slice_index begins place ≤ address
+  pub ends : address < slice_index begins place + max (slice_index sizes place) 1
+
 -- the word at a place is the index of an open claim, or of a sized one
 abbrev pub IsWord : (ℕ → Option Claim) → Bool → List ℕ → ℕ → Type 0
 IsWord claim_of is_open words place = (claim : Claim) × StandsAt claim_of words place claim × IsKind is_open claim
 
--- the words are the indices of the open claims, or of the sized ones: each is there, and the one that is further in is later
+-- the words are the indices of the open claims, or of the sized ones: each is there, and the one that is further in is
+-- later
 pub record IsWorstFirst (claim_of : ℕ → Option Claim) (is_open : Bool) (words : List ℕ) : Type 0 where
   pub each : (place : ℕ) → place < length words → IsWord claim_of is_open words place
   pub all : (claim : Claim) → Among claim_of (IsKind is_open) claim → (place : ℕ) × StandsAt claim_of words place claim
   pub order : (j k : ℕ) (c d : Claim) → j < k → StandsAt claim_of words j c → StandsAt claim_of words k d → comes_before d c ≡ true
+
+-- no number is greater than a later one
+abbrev pub IsRising : List ℕ → Type 0
+IsRising numbers = (j k : ℕ) → j ≤ k → k < length numbers → slice_index numbers j ≤ slice_index numbers k
+
+-- beside words, the first addresses and the sizes at their indices
+pub record AreRanges (range_of : ℕ → ℕ × ℕ) (words begins sizes : List ℕ) : Type 0 where
+  pub begin_count : length begins ≡ length words
+  pub size_count : length sizes ≡ length words
+  pub begin_at : (place : ℕ) → place < length words → slice_index begins place ≡ (range_of (slice_index words place)).0
+  pub size_at : (place : ℕ) → place < length words → slice_index sizes place ≡ (range_of (slice_index words place)).1
+
+-- none of the ranges from a place on has an address
+abbrev pub NoneCovers : List ℕ → List ℕ → ℕ → ℕ → Type 0
+NoneCovers begins sizes from address = (j : ℕ) → from ≤ j → j < length begins → slice_index begins j ≤ address → address < slice_index begins j + max (slice_index sizes j) 1 → ⊥
 
 -- the first address after the range at a place, by the first address and the size at an index
 abbrev pub end_at : (ℕ → ℕ × ℕ) → List ℕ → ℕ → ℕ
@@ -40,8 +70,9 @@ pub record AreLasting (range_of : ℕ → ℕ × ℕ) (words lasting : List ℕ)
   pub each : (place : ℕ) → place < length words → OutlastsBlock range_of words (place + 1) (slice_index lasting place)
 
 -- the sized claims in order, the places in each block whose ranges end last, and the open claims in order
-pub record IsWellBuilt (claim_of : ℕ → Option Claim) (range_of : ℕ → ℕ × ℕ) (sized lasting starts : List ℕ) : Type 0 where
+pub record IsWellBuilt (claim_of : ℕ → Option Claim) (range_of : ℕ → ℕ × ℕ) (sized begins sizes lasting starts : List ℕ) : Type 0 where
   pub order : IsWorstFirst claim_of false sized
+  pub ranges : AreRanges range_of sized begins sizes
   pub blocks : AreLasting range_of sized lasting
   pub rest : IsWorstFirst claim_of true starts
 
@@ -59,11 +90,17 @@ listed claim_of is_open (suc n) = listed claim_of is_open n ++ (if is_kind is_op
 abbrev pub word_count : (ℕ → Option Claim) → ℕ → ℕ
 word_count claim_of count = length (listed claim_of false count) + length (listed claim_of false count) + length (listed claim_of true count)
 
--- words begin with a well built index: the sized claims, as many places, and the open claims
-abbrev pub IsBuilt : (ℕ → Option Claim) → (ℕ → ℕ × ℕ) → ℕ → List ℕ → Type 0
-IsBuilt claim_of range_of count words =
+-- the number of numbers that an index takes: two for each sized claim
+abbrev pub number_count : (ℕ → Option Claim) → ℕ → ℕ
+number_count claim_of count = length (listed claim_of false count) + length (listed claim_of false count)
+
+-- words and numbers begin with a well built index: the sized claims, as many places, and the open claims; the first
+-- addresses and the sizes
+abbrev pub IsBuilt : (ℕ → Option Claim) → (ℕ → ℕ × ℕ) → ℕ → List ℕ → List ℕ → Type 0
+IsBuilt claim_of range_of count words numbers =
     let sized = length (listed claim_of false count) in
-    IsWellBuilt claim_of range_of (take sized words) (take sized (drop sized words)) (take (length (listed claim_of true count)) (drop sized (drop sized words)))
+    IsWellBuilt claim_of range_of (take sized words) (take sized numbers) (take sized (drop sized numbers))
+    (take sized (drop sized words)) (take (length (listed claim_of true count)) (drop sized (drop sized words)))
 
 -- another claim is further in than a claim; no claim comes first
 abbrev pub is_behind : Option Claim → Option Claim → Bool

@@ -19,3 +19,4 @@ pub mod SymbolPieces
 pub mod SectionCounts
 pub mod Symtab
 pub mod OfFile
+pub mod Differences

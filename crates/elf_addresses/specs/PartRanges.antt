@@ -1,13 +1,17 @@
 -- The claim of a part has its index and its range, and is not empty (this project's own).
 use Rattle.std.proofs.Common.{◌≡◌, ℕ, ◌<◌, ◌==◌, Bool, true, false, List, length, Option, None, Some, slice_get, refl, ap, sym, if◌then◌else◌}
 use Rattle.std.proofs.lemmas.Option.{none-some, same_Some, slice_get_within}
-use Rattle.elf_addresses.specs.FileClaims.{part_range, range_claim}
+use Rattle.elf_addresses.specs.FileClaims.{claim_with, part_range, range_claim}
 use Rattle.elf_addresses.specs.declared.claim.Claim.{Claim}
 
 -- what is there if a condition fails, and that it fails
 pub unless_some : (b : Bool) (one claim : Claim) → ◌≡◌ {A = Option Claim} (if b then None else Some one) (Some claim) → (b ≡ false) × (one ≡ claim)
 unless_some true one claim is = absurd (none-some claim is)
 unless_some false one claim is = (refl, same_Some one claim is)
+
+-- a claim is that of its range
+pub range_known : (index : ℕ) (range : ℕ × ℕ) (claim : Claim) → range_claim index range ≡ Some claim → claim_with index range ≡ claim
+range_known index range claim is = (unless_some (range.1 == 0) (claim_with index range) claim is).1
 
 -- a claim has the index that it is made for
 pub range_index : (index : ℕ) (range : ℕ × ℕ) (claim : Claim) → range_claim index range ≡ Some claim → claim.index ≡ index

@@ -1,10 +1,11 @@
 -- The claims of the symbols of a table: the ranges of those that name addresses (gABI, "Symbol Table", st_value
 -- and st_size).
 use Rattle.std.specs.Prelude.{ℕ, Bool, List, Option, None, Some, length, slice_get, if◌then◌else◌}
-use Rattle.std.specs.Option.{option_and_then}
+use Rattle.std.specs.Option.{option_and_then, option_map_or}
 use Rattle.xmas_elf.specs.Symbol.{SymbolFields}
 use Rattle.xmas_elf.specs.Table.{table_items}
 use Rattle.elf_addresses.specs.Candidates.{is_candidate, symbol_rank}
+use Rattle.elf_addresses.specs.Claims.{no_claim}
 use Rattle.elf_addresses.specs.declared.claim.Claim.{Claim}
 use Rattle.elf_addresses.specs.declared.symbols.AddressSymbols.{AddressSymbols}
 
@@ -34,6 +35,11 @@ claim_if fields symbols within index symbol =
 abbrev pub claim_of_symbols : {E : Type 0} → {r : _} → (E → SymbolFields) → AddressSymbols E r → Option ℕ → ℕ → Option Claim
 claim_of_symbols fields symbols within index =
     option_and_then (claim_if fields symbols within index) (slice_get (symbol_items symbols) index)
+
+-- the claim of the symbol at an index, whether or not it names addresses; an open one at address 0 if there is none
+abbrev pub known_of_symbols : {E : Type 0} → {r : _} → (E → SymbolFields) → AddressSymbols E r → ℕ → Claim
+known_of_symbols fields symbols index =
+    option_map_or (λ symbol. symbol_claim index (fields symbol)) (slice_get (symbol_items symbols) index) (no_claim index)
 
 -- the first address and the size of a symbol; 0 if there is none
 abbrev pub symbol_range : {E : Type 0} → (E → SymbolFields) → Option E → ℕ × ℕ

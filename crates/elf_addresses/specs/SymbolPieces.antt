@@ -29,10 +29,11 @@ pub record IsSizedRun (claim_of : ℕ → Option Claim) (limit begin end : ℕ) 
 abbrev pub piece_claims : {E : Type 0} → {r s : _} → (E → SymbolFields) → SymbolPieces E r s → ℕ → Option Claim
 piece_claims fields pieces = claim_of_symbols fields pieces.claims.symbols.now pieces.claims.within
 
--- the address that the next piece begins at, and that at which the last ends
+-- the address at which the next piece begins
 abbrev pub symbol_place : {E : Type 0} → {r s : _} → SymbolPieces E r s → ℕ
 symbol_place pieces = pieces.place
 
+-- the address at which the last piece ends: the limit that the pieces were made with
 abbrev pub symbol_limit : {E : Type 0} → {r s : _} → SymbolPieces E r s → ℕ
 symbol_limit pieces = pieces.end
 

@@ -15,6 +15,13 @@ pub trait Claims {
     /// The claim at an index, if there is one.
     ghost claim_of: { Self → ℕ → Option Claim };
 
+    /// The claim that `known` returns at an index.
+    ghost known_of: { Self → ℕ → Claim };
+
+    /// It is the claim at the index, if there is one.
+    ghost knows: { (claims : Self) (i : ℕ) (claim : Claim)
+        → claim_of claims i ≡ Some claim → known_of claims i ≡ claim };
+
     /// An index with a claim is below the number of indices.
     ghost within: { (claims : Self) (i : ℕ) (claim : Claim)
         → claim_of claims i ≡ Some claim → i < count claims };
@@ -38,6 +45,11 @@ pub trait Claims {
     fn claim(&self, index: usize) -> Option<Claim>
         ensures claim { result ≡ claim_of self.now index }
         ensures own { IfSome result (λ claim. claim.index ≡ index) };
+
+    /// The claim at an index, if there is one, and otherwise any. This may be faster than `claim`,
+    /// since nothing is tested.
+    fn known(&self, index: usize) -> Claim
+        ensures { result ≡ known_of self.now index };
 
     /// The first address and the size at an index: those of the claim, if there is one, and
     /// otherwise any numbers. This may be faster than `claim`.

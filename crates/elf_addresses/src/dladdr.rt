@@ -4,13 +4,13 @@ ghost use Rattle.std.specs.Prelude.{◌≡◌, ◌≤◌, length, IfSome};
 ghost use Rattle.xmas_elf.specs.Table.{table_items};
 ghost use Rattle.elf_addresses.specs.Claims.{IsClaimAt, IsInnermost};
 ghost use Rattle.elf_addresses.specs.Dladdr.{IsDladdrAt, dladdr_at, dladdr_claim, dladdr_claims};
-ghost use Rattle.elf_addresses.specs.Dladdr.{dladdr_ranges, is_exported, is_found, reach_of};
-ghost use Rattle.elf_addresses.specs.DladdrRanges.{dladdr_index, dladdr_ranged, dladdr_within};
+ghost use Rattle.elf_addresses.specs.Dladdr.{dladdr_known, dladdr_ranges, is_exported, is_found, reach_of};
+ghost use Rattle.elf_addresses.specs.DladdrRanges.{dladdr_index, dladdr_knows, dladdr_ranged, dladdr_within};
 ghost use Rattle.elf_addresses.specs.Reached.{AreReached};
 
 mod reached;
 
-use crate::claim::Claim;
+use crate::claim::{Claim, no_claim};
 use crate::claims::{Claims, innermost};
 pub use crate::dladdr::reached::fill_reached;
 use crate::find::At;
@@ -47,6 +47,20 @@ impl Reach<'_> {
                 }
             }
         }
+    }
+}
+
+// The claim of a symbol, by its place in the order of the hash table.
+#[inline(always)]
+fn claim_of<E: Entry>(symbol: &E, reach: u32, index: usize) -> Claim
+    ensures { result ≡ dladdr_claim reach index (E.fields symbol.now) }
+{
+    Claim {
+        begin: symbol.value(),
+        size: symbol.size().max(1),
+        extent: 0,
+        rank: reach,
+        index,
     }
 }
 
@@ -129,6 +143,10 @@ impl<E: Entry + Record> Claims for DladdrSymbols<'_, E> {
 
     ghost claim_of = { λ symbols. dladdr_claims E.fields symbols };
 
+    ghost known_of = { λ symbols. dladdr_known E.fields symbols };
+
+    ghost knows = { λ symbols i claim is. dladdr_knows E.fields symbols i claim is };
+
     ghost within = { λ symbols i claim is. dladdr_within E.fields symbols i claim is };
 
     ghost range_of = { λ symbols. dladdr_ranges E.fields symbols };
@@ -149,13 +167,18 @@ impl<E: Entry + Record> Claims for DladdrSymbols<'_, E> {
         if !self.is_found(&symbol, reach) {
             return None;
         }
-        Some(Claim {
-            begin: symbol.value(),
-            size: symbol.size().max(1),
-            extent: 0,
-            rank: reach,
-            index,
-        })
+        Some(claim_of(&symbol, reach, index))
+    }
+
+    #[inline(always)]
+    fn known(&self, index: usize) -> Claim {
+        match self.table.get(index) {
+            Some(symbol) => {
+                let reach = self.reach.of(&symbol, index);
+                claim_of(&symbol, reach, index)
+            }
+            None => no_claim(index),
+        }
     }
 
     #[inline(always)]

@@ -2,11 +2,11 @@
 //! (gABI, "Sections" and "Program Header").
 
 ghost use Rattle.std.specs.Prelude.{◌≡◌, ◌<◌, ◌+◌, ◌^◌, length, slice_get};
-ghost use Rattle.elf_addresses.specs.FileClaims.{byte_count, cut_range, is_whole, range_claim};
+ghost use Rattle.elf_addresses.specs.FileClaims.{byte_count, claim_with, cut_range, is_whole, range_claim};
 ghost use Rattle.elf_addresses.specs.FileClaims.{section_claim, section_parts, section_range};
 ghost use Rattle.elf_addresses.specs.FileClaims.{section_range_at, segment_claim, segment_parts};
 ghost use Rattle.elf_addresses.specs.FileClaims.{segment_range, segment_range_at};
-ghost use Rattle.elf_addresses.specs.PartRanges.{range_index, range_range, range_within};
+ghost use Rattle.elf_addresses.specs.PartRanges.{range_index, range_known, range_range, range_within};
 ghost use Rattle.xmas_elf.specs.SectionTable.{section_table_file};
 ghost use Rattle.elf_records.specs.ProgramNumbers.{ph_type_number};
 ghost use Rattle.xmas_elf.specs.ProgramHeader.{program_fields};
@@ -68,6 +68,10 @@ impl Claims for SectionClaims<'_, '_> {
 
     ghost claim_of = { λ claims. section_claim claims.file.now };
 
+    ghost known_of = { λ claims i. claim_with i (section_range_at claims.file.now i) };
+
+    ghost knows = { λ claims i claim is. range_known i (section_range_at claims.file.now i) claim is };
+
     ghost within = { λ claims i claim is. range_within section_range (byte_count claims.file.now)
         (section_parts claims.file.now) i claim is };
 
@@ -86,6 +90,11 @@ impl Claims for SectionClaims<'_, '_> {
     #[inline(always)]
     fn claim(&self, index: usize) -> Option<Claim> {
         range_claim(index, self.range(index))
+    }
+
+    #[inline(always)]
+    fn known(&self, index: usize) -> Claim {
+        claim_with(index, self.range(index))
     }
 
     #[inline(always)]
@@ -140,6 +149,10 @@ impl Claims for SegmentClaims<'_, '_> {
 
     ghost claim_of = { λ claims. segment_claim claims.file.now };
 
+    ghost known_of = { λ claims i. claim_with i (segment_range_at claims.file.now i) };
+
+    ghost knows = { λ claims i claim is. range_known i (segment_range_at claims.file.now i) claim is };
+
     ghost within = { λ claims i claim is. range_within segment_range (byte_count claims.file.now)
         (segment_parts claims.file.now) i claim is };
 
@@ -158,6 +171,11 @@ impl Claims for SegmentClaims<'_, '_> {
     #[inline(always)]
     fn claim(&self, index: usize) -> Option<Claim> {
         range_claim(index, self.range(index))
+    }
+
+    #[inline(always)]
+    fn known(&self, index: usize) -> Claim {
+        claim_with(index, self.range(index))
     }
 
     #[inline(always)]
@@ -194,17 +212,25 @@ pub(crate) fn cut_range(file: &ElfFile<'_>, range: (u64, u64)) -> (u64, u64)
 fn range_claim(index: usize, range: (u64, u64)) -> Option<Claim>
     ensures { result ≡ range_claim index range }
 {
-    let (begin, size) = range;
-    if size == 0 {
+    if range.1 == 0 {
         return None;
     }
-    Some(Claim {
+    Some(claim_with(index, range))
+}
+
+// The claim of a range.
+#[inline(always)]
+fn claim_with(index: usize, range: (u64, u64)) -> Claim
+    ensures { result ≡ claim_with index range }
+{
+    let (begin, size) = range;
+    Claim {
         begin,
         size,
         extent: size,
         rank: 0,
         index,
-    })
+    }
 }
 
 // The offset and the size of the bytes of a section.

@@ -1,44 +1,62 @@
-//! Words that an iterator holds, with an index that is built in them.
+//! Words and numbers that an iterator holds, with an index that is built in them.
 
 ghost use Rattle.std.specs.Prelude.{◌≡◌, ◌≤◌, ◌<◌, ◌^◌, length};
-ghost use Rattle.elf_addresses.specs.Held.{InBlocks, IsHeld};
-ghost use Rattle.elf_addresses.specs.Index.{IsBuilt, word_count};
+ghost use Rattle.elf_addresses.specs.Held.{InBlocks, InRanges, IsHeld};
+ghost use Rattle.elf_addresses.specs.Index.{IsBuilt, number_count, word_count};
 
 use crate::claims::Claims;
-use crate::index::{build_index, fill_lasting, parts};
+use crate::index::{build_index, fill_lasting, fill_ranges, index_size, number_parts, word_parts};
 
-// The parts of an index in words.
+// The parts of an index in words and numbers.
 #[derive(Clone, Copy, Debug)]
 pub(crate) struct IndexWords<'w> {
     pub(crate) sized: &'w [u32],
+    pub(crate) begins: &'w [u64],
+    pub(crate) sizes: &'w [u64],
     pub(crate) lasting: &'w [u32],
     pub(crate) starts: &'w [u32],
 }
 
-// Builds an index in words that are enough for it, and returns its parts.
-pub(crate) fn built<'w, C: Claims>(claims: &C, words: &'w mut [u32]) -> IndexWords<'w>
+// Builds an index in words and numbers that are enough for it, and returns its parts.
+pub(crate) fn built<'w, C: Claims>(
+    claims: &C,
+    words: &'w mut [u32],
+    numbers: &'w mut [u64],
+) -> IndexWords<'w>
     requires few { C.count claims.now < 2 ^ 32 }
     requires room { word_count (C.claim_of claims.now) (C.count claims.now) ≤ length words.old }
+    requires numbers_room { number_count (C.claim_of claims.now) (C.count claims.now)
+        ≤ length numbers.old }
     ensures { IsHeld (C.claim_of claims.now) (C.range_of claims.now) (C.count claims.now)
-        result.sized.now result.lasting.now result.starts.now }
+        result.sized.now result.begins.now result.sizes.now result.lasting.now
+        result.starts.now }
 {
-    match build_index(claims, &mut *words) {
+    match build_index(claims, &mut *words, &mut *numbers) {
         Ok(()) => {}
         Err(_) => unreachable!(),
     }
-    words_of(claims, words)
+    words_of(claims, words, numbers)
 }
 
-// The parts of an index that is built in words.
-pub(crate) fn words_of<'w, C: Claims>(claims: &C, words: &'w [u32]) -> IndexWords<'w>
+// The parts of an index that is built in words and numbers.
+pub(crate) fn words_of<'w, C: Claims>(
+    claims: &C,
+    words: &'w [u32],
+    numbers: &'w [u64],
+) -> IndexWords<'w>
     requires { IsBuilt (C.claim_of claims.now) (C.range_of claims.now) (C.count claims.now)
-        words.now }
+        words.now numbers.now }
     ensures { IsHeld (C.claim_of claims.now) (C.range_of claims.now) (C.count claims.now)
-        result.sized.now result.lasting.now result.starts.now }
+        result.sized.now result.begins.now result.sizes.now result.lasting.now
+        result.starts.now }
 {
-    let (sized, lasting, starts) = parts(claims, words);
+    let size = index_size(claims);
+    let (sized, lasting, starts) = word_parts(size, words);
+    let (begins, sizes) = number_parts(size, numbers);
     IndexWords {
         sized,
+        begins,
+        sizes,
         lasting,
         starts,
     }
@@ -56,4 +74,19 @@ pub(crate) fn lasting_of<'w, C: Claims>(
 {
     fill_lasting(claims, words, &mut *lasting);
     lasting
+}
+
+// The first addresses and the sizes of the ranges of these words, in numbers of the same count.
+pub(crate) fn ranges_of<'w, C: Claims>(
+    claims: &C,
+    words: &[u32],
+    begins: &'w mut [u64],
+    sizes: &'w mut [u64],
+) -> (&'w [u64], &'w [u64])
+    requires begins_room { length begins.old ≡ length words.now }
+    requires sizes_room { length sizes.old ≡ length words.now }
+    ensures { InRanges (C.range_of claims.now) words.now result.0.now result.1.now }
+{
+    fill_ranges(claims, words, &mut *begins, &mut *sizes);
+    (begins, sizes)
 }

@@ -1,24 +1,31 @@
-//! An index of the claims of a table, in words of the caller.
+//! An index of the claims of a table, in words and numbers of the caller.
 
-ghost use Rattle.std.specs.Prelude.{◌≡◌, ◌≤◌, ◌↔◌, ℕ, false, true, length, take, drop, IfSome, IsTrue};
-ghost use Rattle.elf_addresses.specs.Claims.{Among, Covers, FindsOpenBelow, IsInnermost};
-ghost use Rattle.elf_addresses.specs.Index.{IsWellBuilt, listed};
+ghost use Rattle.std.specs.Prelude.{◌≡◌, ◌≤◌, ◌↔◌, false, ◌⊎◌, length, take, drop, IfSome, IsTrue, MatchOption, Some};
+ghost use Rattle.elf_addresses.specs.Claims.{Among, Covers, FindsOpenBelow, IsForemost, IsInnermost, comes_before};
+ghost use Rattle.elf_addresses.specs.Index.{IsKind, IsKnownIn, IsWellBuilt, StandsOver};
+ghost use Rattle.elf_addresses.specs.declared.claim.Claim.{Claim};
 
 mod ask;
 mod build;
 mod lasting;
+mod near;
 mod order;
+mod ranges;
+mod search;
 
 use crate::claim::{Claim, nearer};
 use crate::claims::Claims;
-use crate::index::ask::{last_begun, over};
+use crate::index::ask::{index_at, last_begun, over};
 pub(crate) use crate::index::ask::{count_begun, reach};
-pub(crate) use crate::index::build::parts;
-pub use crate::index::build::{build_index, index_words};
+pub(crate) use crate::index::build::{number_parts, word_parts};
+pub use crate::index::build::{IndexSize, build_index, index_size};
 use crate::index::lasting::are_lasting;
 pub(crate) use crate::index::lasting::fill_lasting;
+use crate::index::near::reach_place;
 pub(crate) use crate::index::order::is_in_order_at;
 use crate::index::order::is_worst_first;
+use crate::index::ranges::are_ranges;
+pub(crate) use crate::index::ranges::fill_ranges;
 
 /// An index of the claims of a table, for questions that read few of them.
 #[derive(Drop)]
@@ -27,6 +34,10 @@ pub struct ClaimIndex<'c, 'w, C: Claims> {
     pub claims: &'c C,
     /// The indices of the sized claims: the one that is further in is later.
     pub sized: &'w [u32],
+    /// The first addresses at these indices.
+    pub begins: &'w [u64],
+    /// The sizes at these indices.
+    pub sizes: &'w [u64],
     /// For each place `k - 1` of `sized`, a place of the block of places that ends before `k`,
     /// whose range no range in the block outlasts. The block begins at `k & (k - 1)`.
     pub lasting: &'w [u32],
@@ -35,24 +46,30 @@ pub struct ClaimIndex<'c, 'w, C: Claims> {
 }
 
 impl<'c, 'w, C: Claims> ClaimIndex<'c, 'w, C> {
-    /// The index in words: in the first of them, if there are more than it takes. The words may be
-    /// any; `check` returns whether they are those of `build_index`, or as good. One pass over the
-    /// claims.
-    pub fn lend(claims: &'c C, words: &'w [u32]) -> ClaimIndex<'c, 'w, C>
+    /// The index of a size in words and numbers: in the first of them, if there are more than it
+    /// takes. They may be any, and so may the size; `check` returns whether they are those of
+    /// `build_index`, or as good.
+    pub fn lend(
+        claims: &'c C,
+        size: IndexSize,
+        words: &'w [u32],
+        numbers: &'w [u64],
+    ) -> ClaimIndex<'c, 'w, C>
         ensures claims { result.claims.now ≡ claims.now }
-        ensures sized { let sized = length (listed (C.claim_of claims.now) false
-            (C.count claims.now)) in result.sized.now ≡ take sized words.now }
-        ensures lasting { let sized = length (listed (C.claim_of claims.now) false
-            (C.count claims.now)) in result.lasting.now ≡ take sized (drop sized words.now) }
-        ensures starts { let sized = length (listed (C.claim_of claims.now) false
-            (C.count claims.now)) in result.starts.now
-            ≡ take (length (listed (C.claim_of claims.now) true (C.count claims.now)))
-            (drop sized (drop sized words.now)) }
+        ensures sized { result.sized.now ≡ take size.sized words.now }
+        ensures begins { result.begins.now ≡ take size.sized numbers.now }
+        ensures sizes { result.sizes.now ≡ take size.sized (drop size.sized numbers.now) }
+        ensures lasting { result.lasting.now ≡ take size.sized (drop size.sized words.now) }
+        ensures starts { result.starts.now
+            ≡ take size.open (drop size.sized (drop size.sized words.now)) }
     {
-        let (sized, lasting, starts) = parts(claims, words);
+        let (sized, lasting, starts) = word_parts(size, words);
+        let (begins, sizes) = number_parts(size, numbers);
         ClaimIndex {
             claims,
             sized,
+            begins,
+            sizes,
             lasting,
             starts,
         }
@@ -63,7 +80,8 @@ impl<'c, 'w, C: Claims> ClaimIndex<'c, 'w, C> {
     /// linear in the number of claims.
     pub fn check(&self) -> bool
         ensures { IsTrue result ↔ IsWellBuilt (C.claim_of self.now.claims.now)
-            (C.range_of self.now.claims.now) self.now.sized.now self.now.lasting.now
+            (C.range_of self.now.claims.now) self.now.sized.now self.now.begins.now
+            self.now.sizes.now self.now.lasting.now
             self.now.starts.now }
     {
         if !is_worst_first(self.claims, self.sized, false) {
@@ -72,34 +90,73 @@ impl<'c, 'w, C: Claims> ClaimIndex<'c, 'w, C> {
         if !is_worst_first(self.claims, self.starts, true) {
             return false;
         }
+        if !are_ranges(self.claims, self.sized, self.begins, self.sizes) {
+            return false;
+        }
         are_lasting(self.claims, self.sized, self.lasting)
     }
 
-    /// The innermost claim that covers an address, if the index is well built. With other words a
-    /// claim that covers the address, or none.
+    /// The innermost claim that covers an address, if the index is well built. Otherwise a claim that
+    /// `known` returns at a word of `sized` or `starts`, and that covers the address, or none.
     pub fn innermost(&self, address: u64) -> Option<Claim>
-        ensures covers { IfSome result
-            (Among (C.claim_of self.now.claims.now) (λ claim. Covers claim address)) }
+        ensures covers { IfSome result (λ claim. Covers claim address) }
+        ensures listed { IfSome result (λ claim.
+            IsKnownIn (C.known_of self.now.claims.now) self.now.sized.now claim
+            ⊎ IsKnownIn (C.known_of self.now.claims.now) self.now.starts.now claim) }
         ensures innermost { IsWellBuilt (C.claim_of self.now.claims.now)
-            (C.range_of self.now.claims.now) self.now.sized.now self.now.lasting.now
+            (C.range_of self.now.claims.now) self.now.sized.now self.now.begins.now
+            self.now.sizes.now self.now.lasting.now
             self.now.starts.now
             → IsInnermost (C.claim_of self.now.claims.now) address result }
     {
         self.innermost_counted(address).0
     }
 
+    /// The index of the innermost of the sized claims that cover an address, if the index is well
+    /// built, without a look at the claims. Otherwise an index in `sized` at whose place the range in
+    /// `begins` and `sizes` covers the address, or none.
+    pub fn innermost_index(&self, address: u64) -> Option<usize>
+        ensures listed { IfSome result (StandsOver self.now.sized.now self.now.begins.now
+            self.now.sizes.now address) }
+        ensures innermost { IsWellBuilt (C.claim_of self.now.claims.now)
+            (C.range_of self.now.claims.now) self.now.sized.now self.now.begins.now
+            self.now.sizes.now self.now.lasting.now self.now.starts.now
+            → MatchOption result
+            ((claim : Claim) → Among (C.claim_of self.now.claims.now)
+            (λ other. IsKind false other × Covers other address) claim → ⊥)
+            (λ index. (claim : Claim) × (C.claim_of self.now.claims.now index ≡ Some claim)
+            × IsForemost comes_before (C.claim_of self.now.claims.now)
+            (λ other. IsKind false other × Covers other address) (Some claim)) }
+    {
+        let (place, _steps) = reach_place(self.begins, self.sizes, self.lasting, address);
+        match place {
+            Some(place) => index_at(self.sized, place),
+            None => None,
+        }
+    }
+
     /// The result of `innermost`, and how many claims of `sized` were looked at after a binary
     /// search: at most all of them, whatever the words are.
     pub fn innermost_counted(&self, address: u64) -> (Option<Claim>, usize)
-        ensures covers { IfSome result.0
-            (Among (C.claim_of self.now.claims.now) (λ claim. Covers claim address)) }
+        ensures covers { IfSome result.0 (λ claim. Covers claim address) }
+        ensures listed { IfSome result.0 (λ claim.
+            IsKnownIn (C.known_of self.now.claims.now) self.now.sized.now claim
+            ⊎ IsKnownIn (C.known_of self.now.claims.now) self.now.starts.now claim) }
         ensures innermost { IsWellBuilt (C.claim_of self.now.claims.now)
-            (C.range_of self.now.claims.now) self.now.sized.now self.now.lasting.now
+            (C.range_of self.now.claims.now) self.now.sized.now self.now.begins.now
+            self.now.sizes.now self.now.lasting.now
             self.now.starts.now
             → IsInnermost (C.claim_of self.now.claims.now) address result.0 }
-        ensures few { result.1 ≤ length self.now.sized.now }
+        ensures few { result.1 ≤ length self.now.begins.now }
     {
-        let (found, steps) = reach(self.claims, self.sized, self.lasting, address);
+        let (found, steps) = reach(
+            self.claims,
+            self.sized,
+            self.begins,
+            self.sizes,
+            self.lasting,
+            address,
+        );
         if found.is_some() {
             return (found, steps);
         }
@@ -113,7 +170,8 @@ impl<'c, 'w, C: Claims> ClaimIndex<'c, 'w, C> {
         ensures begins { IfSome result (Among (C.claim_of self.now.claims.now)
             (λ claim. (claim.size ≡ 0) × (claim.begin ≤ address))) }
         ensures open_below { IsWellBuilt (C.claim_of self.now.claims.now)
-            (C.range_of self.now.claims.now) self.now.sized.now self.now.lasting.now
+            (C.range_of self.now.claims.now) self.now.sized.now self.now.begins.now
+            self.now.sizes.now self.now.lasting.now
             self.now.starts.now
             → FindsOpenBelow (C.claim_of self.now.claims.now) address result }
     {

@@ -3,7 +3,7 @@
 //! `symbol_at` returns the symbol of a table that covers an address, and the offset in it.
 //! `open_below` returns the symbol without a size that an address is after, and `section_at` the
 //! section that an address is in. A `SymbolIndex` returns the same symbols for many addresses, by an
-//! index in words of the caller. They take no memory. `innermost`, `nearest` and
+//! index in words and numbers of the caller. They take no memory. `innermost`, `nearest` and
 //! `ClaimIndex` are the same for ranges of another kind, which implement `Claims`.
 //!
 //! `owner_of` returns the part of a file that a byte belongs to, and `Pieces` all runs of bytes that
@@ -13,6 +13,7 @@
 
 mod claim;
 mod claims;
+mod difference;
 pub mod dladdr;
 mod error;
 mod file_claims;
@@ -32,11 +33,12 @@ mod symtab;
 
 pub use crate::claim::Claim;
 pub use crate::claims::{Claims, innermost, nearest};
+pub use crate::difference::{Change, SizedPart, differences};
 pub use crate::error::IndexError;
 pub use crate::file_claims::{SectionClaims, SegmentClaims};
 pub use crate::file_symbols::AnyAddressSymbols;
 pub use crate::find::{At, open_below, symbol_at};
-pub use crate::index::{ClaimIndex, build_index, index_words};
+pub use crate::index::{ClaimIndex, IndexSize, build_index, index_size};
 pub use crate::owner::{Owner, owner_of};
 pub use crate::pieces::{Piece, Pieces};
 pub use crate::section_counts::SectionCounts;

@@ -6,13 +6,13 @@ ghost use Rattle.elf_addresses.specs.FileClaims.{section_parts, segment_claim, s
 ghost use Rattle.elf_addresses.specs.FileClaims.{segment_range_at};
 ghost use Rattle.elf_addresses.specs.Held.{IsHeld};
 ghost use Rattle.elf_addresses.specs.declared.owner.Owner.TheVariants.{Behind, Between};
-ghost use Rattle.elf_addresses.specs.Index.{IsWellBuilt, word_count};
+ghost use Rattle.elf_addresses.specs.Index.{IsWellBuilt, number_count, word_count};
 
 use crate::claim::Claim;
 use crate::error::IndexError;
 use crate::file_claims::{SectionClaims, SegmentClaims};
 use crate::held::{IndexWords, built};
-use crate::index::{ClaimIndex, index_words};
+use crate::index::{ClaimIndex, index_size};
 use crate::next::{limit_of, next_claim};
 use crate::owner::{Headers, Owner};
 use xmas_elf::ElfFile;
@@ -46,16 +46,18 @@ pub struct Pieces<'b, 'a, 'w> {
     ghost within: { place ≤ byte_count sections.file.now },
     ghost sections_held: { IsHeld (section_claim sections.file.now)
         (section_range_at sections.file.now) (length (section_parts sections.file.now))
-        section_words.sized.now section_words.lasting.now section_words.starts.now },
+        section_words.sized.now section_words.begins.now section_words.sizes.now
+        section_words.lasting.now section_words.starts.now },
     ghost segments_held: { IsHeld (segment_claim sections.file.now)
         (segment_range_at sections.file.now) (length (segment_parts sections.file.now))
-        segment_words.sized.now segment_words.lasting.now segment_words.starts.now },
+        segment_words.sized.now segment_words.begins.now segment_words.sizes.now
+        segment_words.lasting.now segment_words.starts.now },
 }
 
 impl<'b, 'a, 'w> Pieces<'b, 'a, 'w> {
     ghost use Rattle.std.specs.Prelude.{Err, IfOk, IsOk, MatchOption, None, Some};
     ghost use Rattle.elf_addresses.specs.Claims.{IsInnermost};
-    ghost use Rattle.elf_addresses.specs.FileClaims.{piece_words};
+    ghost use Rattle.elf_addresses.specs.FileClaims.{piece_numbers, piece_words};
     ghost use Rattle.elf_addresses.specs.Owner.{OutsideHeaders, PartBegins, SectionBegins};
     ghost use Rattle.elf_addresses.specs.Pieces.{bytes_left, pieces_file, pieces_place};
     ghost use Rattle.elf_addresses.specs.Runs.{IsNext, IsRun};
@@ -69,32 +71,46 @@ impl<'b, 'a, 'w> Pieces<'b, 'a, 'w> {
         section_words(file) + segment_words(file)
     }
 
-    /// The pieces of a file. It builds an index of the sections and one of the segments in the words,
-    /// which may hold anything before.
+    /// The number of numbers of 64 bits that `new` takes: two for each section, and for each segment,
+    /// that has bytes in the file. It is that of the words.
+    pub fn numbers(file: &ElfFile<'_>) -> usize
+        ensures { result ≡ piece_numbers file.now }
+    {
+        section_numbers(file) + segment_numbers(file)
+    }
+
+    /// The pieces of a file. It builds an index of the sections and one of the segments in the words
+    /// and the numbers, which may hold anything before.
     ///
     /// Passes over the sections and the segments, and sorts of the words. It takes no memory. The
-    /// error is `FewWords`, if there are fewer words than `words` returns.
+    /// error is `FewWords`, if there are fewer words than `words` returns, or fewer numbers than
+    /// `numbers` does.
     pub fn new(
         file: &'b ElfFile<'a>,
         words: &'w mut [u32],
+        numbers: &'w mut [u64],
     ) -> Result<Pieces<'b, 'a, 'w>, IndexError>
         ensures few { length words.old < piece_words file.now → result ≡ Err FewWords }
-        ensures fits { piece_words file.now ≤ length words.old → IsOk result }
+        ensures few_numbers { length numbers.old < piece_numbers file.now
+            → result ≡ Err FewWords }
+        ensures fits { piece_words file.now ≤ length words.old
+            → piece_numbers file.now ≤ length numbers.old → IsOk result }
         ensures file { IfOk result (λ pieces. pieces_file pieces ≡ file.now) }
         ensures first { IfOk result (λ pieces. pieces_place pieces ≡ 0) }
     {
-        if words.len() < Self::words(file) {
+        if words.len() < Self::words(file) || numbers.len() < Self::numbers(file) {
             return Err(IndexError::FewWords);
         }
         let sections = SectionClaims::new(file);
         let segments = SegmentClaims::new(file);
         let (first, rest) = words.split_at_mut(section_words(file));
+        let (first_numbers, rest_numbers) = numbers.split_at_mut(section_numbers(file));
         Ok(Pieces {
             headers: Headers::new(file),
             sections,
             segments,
-            section_words: built(&sections, first),
-            segment_words: built(&segments, rest),
+            section_words: built(&sections, first, first_numbers),
+            segment_words: built(&segments, rest, rest_numbers),
             place: 0,
         })
     }
@@ -238,12 +254,14 @@ impl<'b, 'a, 'w> Pieces<'b, 'a, 'w> {
     fn section_index(&self) -> ClaimIndex<'_, 'w, SectionClaims<'b, 'a>>
         ensures file { result.claims.now.file.now ≡ pieces_file self.now }
         ensures built { IsWellBuilt (section_claim result.claims.now.file.now)
-            (section_range_at result.claims.now.file.now) result.sized.now result.lasting.now
-            result.starts.now }
+            (section_range_at result.claims.now.file.now) result.sized.now result.begins.now
+            result.sizes.now result.lasting.now result.starts.now }
     {
         ClaimIndex {
             claims: &self.sections,
             sized: self.section_words.sized,
+            begins: self.section_words.begins,
+            sizes: self.section_words.sizes,
             lasting: self.section_words.lasting,
             starts: self.section_words.starts,
         }
@@ -254,12 +272,14 @@ impl<'b, 'a, 'w> Pieces<'b, 'a, 'w> {
     fn segment_index(&self) -> ClaimIndex<'_, 'w, SegmentClaims<'b, 'a>>
         ensures file { result.claims.now.file.now ≡ pieces_file self.now }
         ensures built { IsWellBuilt (segment_claim result.claims.now.file.now)
-            (segment_range_at result.claims.now.file.now) result.sized.now result.lasting.now
-            result.starts.now }
+            (segment_range_at result.claims.now.file.now) result.sized.now result.begins.now
+            result.sizes.now result.lasting.now result.starts.now }
     {
         ClaimIndex {
             claims: &self.segments,
             sized: self.segment_words.sized,
+            begins: self.segment_words.begins,
+            sizes: self.segment_words.sizes,
             lasting: self.segment_words.lasting,
             starts: self.segment_words.starts,
         }
@@ -296,7 +316,25 @@ fn section_words(file: &ElfFile<'_>) -> usize
         ≡ word_count (section_claim file.now) (length (section_parts file.now)) }
     ensures few { result ≤ 0x300000000 }
 {
-    index_words(&SectionClaims::new(file))
+    index_size(&SectionClaims::new(file)).words()
+}
+
+// The number of numbers for the index of the sections.
+fn section_numbers(file: &ElfFile<'_>) -> usize
+    ensures count { result
+        ≡ number_count (section_claim file.now) (length (section_parts file.now)) }
+    ensures few { result ≤ 0x300000000 }
+{
+    index_size(&SectionClaims::new(file)).numbers()
+}
+
+// The number of numbers for the index of the segments.
+fn segment_numbers(file: &ElfFile<'_>) -> usize
+    ensures count { result
+        ≡ number_count (segment_claim file.now) (length (segment_parts file.now)) }
+    ensures few { result ≤ 0x300000000 }
+{
+    index_size(&SegmentClaims::new(file)).numbers()
 }
 
 // The number of words for the index of the segments.
@@ -305,7 +343,7 @@ fn segment_words(file: &ElfFile<'_>) -> usize
         ≡ word_count (segment_claim file.now) (length (segment_parts file.now)) }
     ensures few { result ≤ 0x300000000 }
 {
-    index_words(&SegmentClaims::new(file))
+    index_size(&SegmentClaims::new(file)).words()
 }
 
 // The owner of a byte in no part, by the next begin of a part.

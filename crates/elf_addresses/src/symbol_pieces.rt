@@ -1,13 +1,13 @@
 //! The pieces of a section: the longest runs of addresses in one symbol.
 
-ghost use Rattle.std.specs.Prelude.{◌≡◌, ◌≤◌, ◌<◌, ◌^◌, ◌↔◌, false, length, max};
-ghost use Rattle.elf_addresses.specs.Held.{InBlocks, InOrder};
+ghost use Rattle.std.specs.Prelude.{◌≡◌, ◌≤◌, ◌<◌, ◌+◌, ◌^◌, ◌↔◌, false, length, max};
+ghost use Rattle.elf_addresses.specs.Held.{InBlocks, InOrder, InRanges};
 ghost use Rattle.elf_addresses.specs.SymbolClaims.{claim_of_symbols, range_of_symbols};
 ghost use Rattle.elf_addresses.specs.SymbolClaims.{symbol_count};
 
 use crate::claim::Claim;
 use crate::error::IndexError;
-use crate::held::{lasting_of, words_of};
+use crate::held::{lasting_of, ranges_of, words_of};
 use crate::index::{build_index, reach};
 use crate::next::{limit_of, next_claim};
 use crate::section_counts::SectionCounts;
@@ -35,12 +35,16 @@ pub struct SymbolPiece {
 pub struct SymbolPieces<'s, 'a, 'w, E: Entry + Record> {
     pub(crate) claims: SymbolClaims<'s, 'a, E>,
     sized: &'w [u32],
+    begins: &'w [u64],
+    sizes: &'w [u64],
     lasting: &'w [u32],
     pub(crate) place: u64,
     pub(crate) end: u64,
     ghost left: { place ≤ end },
     ghost ordered: { InOrder (claim_of_symbols E.fields claims.symbols.now claims.within) false
         (symbol_count claims.symbols.now) sized.now },
+    ghost ranges: { InRanges (range_of_symbols E.fields claims.symbols.now) sized.now begins.now
+        sizes.now },
     ghost blocks: { InBlocks (range_of_symbols E.fields claims.symbols.now) sized.now lasting.now },
 }
 
@@ -48,7 +52,7 @@ impl<'s, 'a, 'w, E: Entry + Record> SymbolPieces<'s, 'a, 'w, E> {
     ghost use Rattle.std.specs.Prelude.{Err, IfOk, IfSome, IsOk, IsSome, None, Some};
     ghost use Rattle.elf_addresses.specs.Owner.{ClaimBegins};
     ghost use Rattle.elf_addresses.specs.Runs.{IsNext};
-    ghost use Rattle.elf_addresses.specs.Index.{word_count};
+    ghost use Rattle.elf_addresses.specs.Index.{number_count, word_count};
     ghost use Rattle.elf_addresses.specs.SymbolPieces.{IsSizedInnermost, IsSizedRun, piece_claims};
     ghost use Rattle.elf_addresses.specs.SymbolPieces.{symbol_limit, symbol_place};
     ghost use Rattle.elf_addresses.specs.declared.error.IndexError.TheVariants.{FewWords};
@@ -58,8 +62,8 @@ impl<'s, 'a, 'w, E: Entry + Record> SymbolPieces<'s, 'a, 'w, E> {
     /// `begin`. For a section these are its address and the address after it, and `within` is its
     /// index. In an object file they are 0 and its size.
     ///
-    /// It builds an index of the symbols in the words, of which it takes as many as
-    /// `SymbolIndex::words` returns. The errors are those of `SymbolIndex::build`: `ManySymbols`, then
+    /// It builds an index of the symbols in the words and the numbers, of which it takes as many as
+    /// `SymbolIndex::size` returns. The errors are those of `SymbolIndex::build`: `ManySymbols`, then
     /// `FewWords`.
     pub fn new(
         symbols: &'s AddressSymbols<'a, E>,
@@ -67,15 +71,22 @@ impl<'s, 'a, 'w, E: Entry + Record> SymbolPieces<'s, 'a, 'w, E> {
         begin: u64,
         end: u64,
         words: &'w mut [u32],
+        numbers: &'w mut [u64],
     ) -> Result<SymbolPieces<'s, 'a, 'w, E>, IndexError>
         ensures many { 2 ^ 32 ≤ symbol_count symbols.now → result ≡ Err ManySymbols }
         ensures few { symbol_count symbols.now < 2 ^ 32
             → length words.old < word_count (claim_of_symbols E.fields symbols.now within)
             (symbol_count symbols.now)
             → result ≡ Err FewWords }
+        ensures few_numbers { symbol_count symbols.now < 2 ^ 32
+            → length numbers.old < number_count (claim_of_symbols E.fields symbols.now within)
+            (symbol_count symbols.now)
+            → result ≡ Err FewWords }
         ensures fits { symbol_count symbols.now < 2 ^ 32
             → word_count (claim_of_symbols E.fields symbols.now within) (symbol_count symbols.now)
             ≤ length words.old
+            → number_count (claim_of_symbols E.fields symbols.now within)
+            (symbol_count symbols.now) ≤ length numbers.old
             → IsOk result }
         ensures claims { IfOk result (λ pieces. piece_claims E.fields pieces
             ≡ claim_of_symbols E.fields symbols.now within) }
@@ -83,11 +94,13 @@ impl<'s, 'a, 'w, E: Entry + Record> SymbolPieces<'s, 'a, 'w, E> {
         ensures last { IfOk result (λ pieces. symbol_limit pieces ≡ max begin end) }
     {
         let claims = SymbolClaims { symbols, within };
-        build_index(&claims, &mut *words)?;
-        let parts = words_of(&claims, words);
+        build_index(&claims, &mut *words, &mut *numbers)?;
+        let parts = words_of(&claims, words, numbers);
         Ok(SymbolPieces {
             claims,
             sized: parts.sized,
+            begins: parts.begins,
+            sizes: parts.sizes,
             lasting: parts.lasting,
             place: begin,
             end: begin.max(end),
@@ -99,7 +112,8 @@ impl<'s, 'a, 'w, E: Entry + Record> SymbolPieces<'s, 'a, 'w, E> {
     /// symbols alone, so it is for files with many sections.
     ///
     /// It returns `None` if the words are not these indices, if there are not as many words in
-    /// `lasting`, in which it builds the index, or if the section has no count.
+    /// `lasting` and twice as many in `numbers`, in which it builds the index, or if the section has no
+    /// count.
     pub fn in_order(
         counts: &SectionCounts<'s, 'a, '_, E>,
         section: u32,
@@ -107,8 +121,10 @@ impl<'s, 'a, 'w, E: Entry + Record> SymbolPieces<'s, 'a, 'w, E> {
         end: u64,
         sized: &'w [u32],
         lasting: &'w mut [u32],
+        numbers: &'w mut [u64],
     ) -> Option<SymbolPieces<'s, 'a, 'w, E>>
         ensures exact { IsSome result ↔ ((length lasting.old ≡ length sized.now)
+            × (length numbers.old ≡ length sized.now + length sized.now)
             × (section < length counts.now.counts.now)
             × InOrder (claim_of_symbols E.fields counts.now.symbols.now (Some section)) false
             (symbol_count counts.now.symbols.now) sized.now) }
@@ -117,7 +133,7 @@ impl<'s, 'a, 'w, E: Entry + Record> SymbolPieces<'s, 'a, 'w, E> {
         ensures first { IfSome result (λ pieces. symbol_place pieces ≡ begin) }
         ensures last { IfSome result (λ pieces. symbol_limit pieces ≡ max begin end) }
     {
-        if lasting.len() != sized.len() {
+        if lasting.len() != sized.len() || numbers.len() != sized.len() + sized.len() {
             return None;
         }
         if !counts.are_all(section, sized) {
@@ -128,9 +144,13 @@ impl<'s, 'a, 'w, E: Entry + Record> SymbolPieces<'s, 'a, 'w, E> {
             within: Some(section),
         };
         let lasting = lasting_of(&claims, sized, lasting);
+        let (begins, sizes) = numbers.split_at_mut(sized.len());
+        let (begins, sizes) = ranges_of(&claims, sized, begins, sizes);
         Some(SymbolPieces {
             claims,
             sized,
+            begins,
+            sizes,
             lasting,
             place: begin,
             end: begin.max(end),
@@ -179,7 +199,15 @@ impl<'s, 'a, 'w, E: Entry + Record> SymbolPieces<'s, 'a, 'w, E> {
     fn innermost(&self) -> Option<Claim>
         ensures { IsSizedInnermost (piece_claims E.fields self.now) (symbol_place self.now) result }
     {
-        reach(&self.claims, self.sized, self.lasting, self.place).0
+        reach(
+            &self.claims,
+            self.sized,
+            self.begins,
+            self.sizes,
+            self.lasting,
+            self.place,
+        )
+        .0
     }
 
     // The next begin of a symbol with a size after the place, or the limit.

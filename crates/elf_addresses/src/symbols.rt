@@ -1,15 +1,15 @@
 //! The symbols of a table that name addresses (gABI, "Symbol Table").
 
-ghost use Rattle.std.specs.Prelude.{◌≡◌, ◌≤◌, ◌==◌, ◌&&◌, not, slice_get, slice_index};
+ghost use Rattle.std.specs.Prelude.{◌≡◌, ◌≤◌, ◌+◌, ◌==◌, ◌&&◌, not, slice_get, slice_index};
 ghost use Rattle.std.proofs.lemmas.Option.{option_and_then_some, slice_get_within};
 ghost use Rattle.elf_addresses.specs.Candidates.{binding_rank, has_address, is_mapping};
 ghost use Rattle.elf_addresses.specs.Candidates.{is_mapping_letter, is_named, is_within};
 ghost use Rattle.elf_addresses.specs.Candidates.{section_index, symbol_rank, type_rank};
 ghost use Rattle.elf_addresses.specs.SymbolClaims.{claim_if, claim_of_symbols, has_claim};
-ghost use Rattle.elf_addresses.specs.SymbolClaims.{range_of_symbols, symbol_count, symbol_items};
-ghost use Rattle.elf_addresses.specs.SymbolRanges.{own_index, own_range};
+ghost use Rattle.elf_addresses.specs.SymbolClaims.{known_of_symbols, range_of_symbols, symbol_claim, symbol_count, symbol_items};
+ghost use Rattle.elf_addresses.specs.SymbolRanges.{own_index, own_known, own_range};
 
-use crate::claim::Claim;
+use crate::claim::{Claim, no_claim};
 use crate::claims::Claims;
 use xmas_elf::bytes::{Record, Table};
 use xmas_elf::sections::{SHN_LORESERVE, SHN_XINDEX};
@@ -18,8 +18,9 @@ use xmas_elf::symbol_table::Entry;
 /// The symbols of a table, and what says which of them name addresses.
 ///
 /// A symbol names addresses if it is in a section, has no type or is an object, a function or an
-/// indirect function (`STT_GNU_IFUNC`), and has a name that is not empty. Left out are local symbols
-/// without a type whose names begin with `.L` or are those of mapping symbols of Arm, Arm 64-bit,
+/// indirect function (`STT_GNU_IFUNC`), and has a name: `st_name` isn't 0. Its text may be empty or past
+/// the end of the string table, as for `nm` and `addr2line`. Left out are local symbols without a type
+/// whose names begin with `.L` or are those of mapping symbols of Arm, Arm 64-bit,
 /// RISC-V and C-SKY.
 #[derive(Drop)]
 pub struct AddressSymbols<'a, E: Entry + Record> {
@@ -69,20 +70,38 @@ impl<E: Entry + Record> AddressSymbols<'_, E> {
         self.has_name(symbol)
     }
 
-    // Whether a symbol has a name that is not that of a mapping symbol or of a label.
+    // Whether a symbol has a name that is not that of a mapping symbol or of a label. The bytes of the
+    // name are read only if the symbol is local and has no type.
     #[tactic(auto, unfolding(crate::specs::Candidates::is_named))]
     #[inline(always)]
     fn has_name(&self, symbol: &E) -> bool
         ensures { result ≡ is_named self.now.machine self.now.strings.now (E.fields symbol.now) }
     {
-        let start = symbol.name() as usize;
+        let name = symbol.name();
+        is_name(name, self.is_label(symbol.info(), name))
+    }
+
+    // Whether a symbol is local and has no type, and has the name of a mapping symbol or of a label.
+    #[inline(always)]
+    fn is_label(&self, info: u8, name: u32) -> bool
+        ensures { result ≡ (info == 0 && is_mapping self.now.machine
+            (slice_index self.now.strings.now name) (slice_index self.now.strings.now (name + 1))
+            (slice_index self.now.strings.now (name + 2))) }
+    {
+        info == 0 && self.is_mapping_name(name)
+    }
+
+    // Whether the name that begins at an offset is that of a mapping symbol or of a label.
+    fn is_mapping_name(&self, name: u32) -> bool
+        ensures { result ≡ is_mapping self.now.machine (slice_index self.now.strings.now name)
+            (slice_index self.now.strings.now (name + 1))
+            (slice_index self.now.strings.now (name + 2)) }
+    {
+        let start = name as usize;
         let first = byte_or_zero(self.strings, start);
         let second = byte_or_zero(self.strings, start + 1);
         let third = byte_or_zero(self.strings, start + 2);
-        is_name(
-            first,
-            is_label(symbol.info(), self.machine, first, second, third),
-        )
+        is_mapping(self.machine, first, second, third)
     }
 }
 
@@ -104,6 +123,11 @@ impl<E: Entry + Record> Claims for SymbolClaims<'_, '_, E> {
     ghost count = { λ claims. symbol_count claims.symbols.now };
 
     ghost claim_of = { λ claims. claim_of_symbols E.fields claims.symbols.now claims.within };
+
+    ghost known_of = { λ claims. known_of_symbols E.fields claims.symbols.now };
+
+    ghost knows = { λ claims i claim is.
+        own_known E.fields claims.symbols.now claims.within i claim is };
 
     ghost within = { λ claims i claim is. option_and_then_some
         (claim_if E.fields claims.symbols.now claims.within i)
@@ -129,13 +153,15 @@ impl<E: Entry + Record> Claims for SymbolClaims<'_, '_, E> {
         if !self.symbols.is_candidate(&symbol, index, self.within) {
             return None;
         }
-        Some(Claim {
-            begin: symbol.value(),
-            size: symbol.size(),
-            extent: symbol.size(),
-            rank: u32::from(rank_of(symbol.info())),
-            index,
-        })
+        Some(claim_of(&symbol, index))
+    }
+
+    #[inline(always)]
+    fn known(&self, index: usize) -> Claim {
+        match self.symbols.table.get(index) {
+            Some(symbol) => claim_of(&symbol, index),
+            None => no_claim(index),
+        }
     }
 
     #[inline(always)]
@@ -144,6 +170,20 @@ impl<E: Entry + Record> Claims for SymbolClaims<'_, '_, E> {
             Some(symbol) => (symbol.value(), symbol.size()),
             None => (0, 0),
         }
+    }
+}
+
+// The claim of a symbol.
+#[inline(always)]
+fn claim_of<E: Entry>(symbol: &E, index: usize) -> Claim
+    ensures { result ≡ symbol_claim index (E.fields symbol.now) }
+{
+    Claim {
+        begin: symbol.value(),
+        size: symbol.size(),
+        extent: symbol.size(),
+        rank: u32::from(rank_of(symbol.info())),
+        index,
     }
 }
 
@@ -177,20 +217,12 @@ fn has_address(kind: u8) -> bool
     kind <= 2 || kind == 10
 }
 
-// Whether a name with this first byte is one: it is not empty, and not that of a label.
+// Whether a name is one, and not that of a label.
 #[inline(always)]
-fn is_name(first: u8, label: bool) -> bool
-    ensures { result ≡ (not (first == 0) && not label) }
+fn is_name(name: u32, label: bool) -> bool
+    ensures { result ≡ (not (name == 0) && not label) }
 {
-    first != 0 && !label
-}
-
-// Whether a symbol is local and has no type, and has the name of a mapping symbol or of a label.
-#[inline(always)]
-fn is_label(info: u8, machine: u16, first: u8, second: u8, third: u8) -> bool
-    ensures { result ≡ (info == 0 && is_mapping machine first second third) }
-{
-    info == 0 && is_mapping(machine, first, second, third)
+    name != 0 && !label
 }
 
 // Whether a name is that of a mapping symbol, or begins as one that assemblers give to labels, by

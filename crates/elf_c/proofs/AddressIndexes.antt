@@ -70,27 +70,27 @@ told_is fields symbols address (Some at) tells =
     ap (λ n. numbers n at.open) offset ∙ ap (λ b. numbers (address - symbol.value) b) tells.is_open ∙ ap (symbol_at_address address at.index) (sym there)
 
 -- sizes, indexes and answers by the library's table are those by its symbols
-pub same_sizes : {E : Type 0} {r : _} (fields : E → SymbolFields) (symbols : AddressSymbols E r) (within : Option ℕ) (words : List ℕ) → sizes_with (claim_of_symbols fields symbols within) (symbol_count symbols) words ≡ index_sizes_of (addresses_of_table fields symbols) within words
-same_sizes fields symbols within words =
-    ap (λ c. sizes_with c (symbol_count symbols) words) (same_claims fields symbols within)
-    ∙ ap (λ n. sizes_with (claim_in_section (addresses_of_table fields symbols) within) n words) (same_count fields symbols)
+pub same_sizes : {E : Type 0} {r : _} (fields : E → SymbolFields) (symbols : AddressSymbols E r) (within : Option ℕ) (words numbers : List ℕ) → sizes_with (claim_of_symbols fields symbols within) (symbol_count symbols) words numbers ≡ index_sizes_of (addresses_of_table fields symbols) within words numbers
+same_sizes fields symbols within words numbers =
+    ap (λ c. sizes_with c (symbol_count symbols) words numbers) (same_claims fields symbols within)
+    ∙ ap (λ n. sizes_with (claim_in_section (addresses_of_table fields symbols) within) n words numbers) (same_count fields symbols)
 
-pub same_index : {E : Type 0} {r : _} (fields : E → SymbolFields) (symbols : AddressSymbols E r) (within : Option ℕ) (sized opens : ℕ) (words : List ℕ) → IsIndexWith (claim_of_symbols fields symbols within) (range_of_symbols fields symbols) sized opens words → IsIndexIn (addresses_of_table fields symbols) within sized opens words
-same_index fields symbols within sized opens words is =
-    subst (λ c. IsIndexWith c (range_in (addresses_of_table fields symbols)) sized opens words) (same_claims fields symbols within)
-    (subst (λ r. IsIndexWith (claim_of_symbols fields symbols within) r sized opens words) (same_ranges fields symbols) is)
+pub same_index : {E : Type 0} {r : _} (fields : E → SymbolFields) (symbols : AddressSymbols E r) (within : Option ℕ) (sized opens : ℕ) (words numbers : List ℕ) → IsIndexWith (claim_of_symbols fields symbols within) (range_of_symbols fields symbols) sized opens words numbers → IsIndexIn (addresses_of_table fields symbols) within sized opens words numbers
+same_index fields symbols within sized opens words numbers is =
+    subst (λ c. IsIndexWith c (range_in (addresses_of_table fields symbols)) sized opens words numbers) (same_claims fields symbols within)
+    (subst (λ r. IsIndexWith (claim_of_symbols fields symbols within) r sized opens words numbers) (same_ranges fields symbols) is)
 
-pub same_built : {E : Type 0} {r : _} (fields : E → SymbolFields) (symbols : AddressSymbols E r) (within : Option ℕ) (size : ℕ) (words : List ℕ) (answer : Result Sizes Refusal) → IfOk answer (λ s. s.words ≤ size → IsIndexWith (claim_of_symbols fields symbols within) (range_of_symbols fields symbols) s.sized_count s.open_count words) → IfOk answer (λ s. s.words ≤ size → IsIndexIn (addresses_of_table fields symbols) within s.sized_count s.open_count words)
-same_built fields symbols within size words (Ok s) built = λ fits. same_index fields symbols within s.sized_count s.open_count words (built fits)
-same_built fields symbols within size words (Err why) built = tt
+pub same_built : {E : Type 0} {r : _} (fields : E → SymbolFields) (symbols : AddressSymbols E r) (within : Option ℕ) (size : ℕ) (words numbers : List ℕ) (answer : Result Sizes Refusal) → IfOk answer (λ s. s.words ≤ size → IsIndexWith (claim_of_symbols fields symbols within) (range_of_symbols fields symbols) s.sized_count s.open_count words numbers) → IfOk answer (λ s. s.words ≤ size → IsIndexIn (addresses_of_table fields symbols) within s.sized_count s.open_count words numbers)
+same_built fields symbols within size words numbers (Ok s) built = λ fits. same_index fields symbols within s.sized_count s.open_count words numbers (built fits)
+same_built fields symbols within size words numbers (Err why) built = tt
 
-pub same_answers : {E : Type 0} {r : _} (fields : E → SymbolFields) (symbols : AddressSymbols E r) (index : AddressIndex) (words addresses : List ℕ) (old new : List SymbolAt)
-    → AreStored (IsAnswer (claim_of_symbols fields symbols (within_of index.within)) (map fields (symbol_items symbols)) (IsIndexWith (claim_of_symbols fields symbols (within_of index.within)) (range_of_symbols fields symbols) index.sized_count index.open_count words)) addresses old new
-    → AreStored (IsAnswerIn (addresses_of_table fields symbols) index words) addresses old new
-same_answers fields symbols index words addresses old new are =
+pub same_answers : {E : Type 0} {r : _} (fields : E → SymbolFields) (symbols : AddressSymbols E r) (index : AddressIndex) (words numbers addresses : List ℕ) (old new : List SymbolAt)
+    → AreStored (IsAnswer (claim_of_symbols fields symbols (within_of index.within)) (map fields (symbol_items symbols)) (IsIndexWith (claim_of_symbols fields symbols (within_of index.within)) (range_of_symbols fields symbols) index.sized_count index.open_count words numbers)) addresses old new
+    → AreStored (IsAnswerIn (addresses_of_table fields symbols) index words numbers) addresses old new
+same_answers fields symbols index words numbers addresses old new are =
     let items = map fields (symbol_items symbols) in
     let P : (ℕ → Option Claim) → (ℕ → ℕ × ℕ) → Type 0 =
-    λ c r. AreStored (IsAnswer c items (IsIndexWith c r index.sized_count index.open_count words)) addresses old new in
+    λ c r. AreStored (IsAnswer c items (IsIndexWith c r index.sized_count index.open_count words numbers)) addresses old new in
     subst (λ c. P c (range_in (addresses_of_table fields symbols))) (same_claims fields symbols (within_of index.within))
     (subst (λ r. P (claim_of_symbols fields symbols (within_of index.within)) r) (same_ranges fields symbols) are)
 
@@ -201,10 +201,10 @@ answer_has all input table address (Some claim) said is numbers one = by_item (s
 abbrev pub AreThere : List ℕ → AddressIndex → List ℕ → List SymbolAt → Type 0
 AreThere input index addresses new = (k : ℕ) (one : SymbolAt) → k < length addresses → slice_get new k ≡ Some one → one.found ≡ 1 → symbol_by symbol_record input index.table one.index ≡ Ok one.symbol
 
-pub symbols_found : (input : List ℕ) (index : AddressIndex) (words addresses : List ℕ) (old new : List SymbolAt) (answer : Result (Unit {0}) Refusal) → AreAnswered input index words addresses old answer new → IfOk answer (λ done. AreThere input index addresses new)
-symbols_found input index words addresses old new answer are = by_all (addresses_by input index.table index.indices index.machine) refl are
+pub symbols_found : (input : List ℕ) (index : AddressIndex) (words numbers addresses : List ℕ) (old new : List SymbolAt) (answer : Result (Unit {0}) Refusal) → AreAnswered input index words numbers addresses old answer new → IfOk answer (λ done. AreThere input index addresses new)
+symbols_found input index words numbers addresses old new answer are = by_all (addresses_by input index.table index.indices index.machine) refl are
   where
-    each : (all : Addresses) → addresses_by input index.table index.indices index.machine ≡ Ok all → AreStored (IsAnswerIn all index words) addresses old new → AreThere input index addresses new
+    each : (all : Addresses) → addresses_by input index.table index.indices index.machine ≡ Ok all → AreStored (IsAnswerIn all index words numbers) addresses old new → AreThere input index addresses new
     each all is stored k one below there found =
         let inside = slice_get_within new k one there in
         let long = stored.long in
@@ -216,36 +216,10 @@ symbols_found input index words addresses old new answer are = by_all (addresses
         (items_of (symbols_by input index.table) (range_of input index.table.strings.offset index.table.strings.size) (words_by input index.indices (order_of index.table.encoding)) index.machine all is)
         answered.numbers (ap (λ (s : SymbolAt). s.found) same ∙ found))
 
-    by_all : (found : Result Addresses Refusal) → addresses_by input index.table index.indices index.machine ≡ found → MatchResult found (λ all. (answer ≡ Ok tt) × AreStored (IsAnswerIn all index words) addresses old new) (λ why. (answer ≡ Err why) × (new ≡ old)) → IfOk answer (λ done. AreThere input index addresses new)
+    by_all : (found : Result Addresses Refusal) → addresses_by input index.table index.indices index.machine ≡ found → MatchResult found (λ all. (answer ≡ Ok tt) × AreStored (IsAnswerIn all index words numbers) addresses old new) (λ why. (answer ≡ Err why) × (new ≡ old)) → IfOk answer (λ done. AreThere input index addresses new)
     by_all (Ok all) is here = subst (λ (r : Result (Unit {0}) Refusal). IfOk r (λ done. AreThere input index addresses new)) (sym here.0) (each all is here.1)
     by_all (Err why) is here = subst (λ (r : Result (Unit {0}) Refusal). IfOk r (λ done. AreThere input index addresses new)) (sym here.0) tt
 
--- an index that was built has room for its words
-pub built_fits : (count total size : ℕ) (answer : Result (Unit {0}) IndexError) → IsOk answer → (2 ^ 32 ≤ count → answer ≡ Err ManySymbols) → (count < 2 ^ 32 → size < total → answer ≡ Err FewWords) → total ≤ size
-built_fits count total size (Err error) is many few = absurd (let never : false ≡ true = is in cc)
-built_fits count total size (Ok done) is many few = by_count (cases_order count (2 ^ 32))
-  where
-    refused : (error : IndexError) → ◌≡◌ {A = Result (Unit {0}) IndexError} (Ok done) (Err error) → ⊥
-    refused error same = cc
-
-    by_size : count < 2 ^ 32 → (size ≡ total) ⊎ ((size < total) ⊎ (total < size)) → total ≤ size
-    by_size below (inl same) = omega (arith, same)
-    by_size below (inr (inl short)) = absurd (refused FewWords (few below short))
-    by_size below (inr (inr long)) = omega (arith, long)
-
-    by_count : (count ≡ 2 ^ 32) ⊎ ((count < 2 ^ 32) ⊎ (2 ^ 32 < count)) → total ≤ size
-    by_count (inl same) = absurd (refused ManySymbols (many (omega (arith, same))))
-    by_count (inr (inl below)) = by_size below (cases_order size total)
-    by_count (inr (inr above)) = absurd (refused ManySymbols (many (omega (arith, above))))
-
--- the numbers of words that were lent are those of the symbols
-pub built_index : (claim_of : ℕ → Option Claim) (range_of : ℕ → ℕ × ℕ) (count sized opens : ℕ) (words : List ℕ) → word_count claim_of count ≤ length words → sized ≡ length (take (length (listed claim_of false count)) words) → opens ≡ length (take (length (listed claim_of true count)) (drop (length (listed claim_of false count)) (drop (length (listed claim_of false count)) words))) → IsBuilt claim_of range_of count words → IsIndexWith claim_of range_of sized opens words
-built_index claim_of range_of count sized opens words fits is also built =
-    let n = length (listed claim_of false count) in
-    let m = length (listed claim_of true count) in
-    let sum : n + n + m ≤ length words = fits in
-    let front : length (take n words) ≡ n = length-take-le n words (omega (arith, sum)) in
-    let rest : length (drop n (drop n words)) ≡ length words - n - n = length-drop n (drop n words) ∙ ap (λ k. k - n) (length-drop n words) in
-    let back : length (take m (drop n (drop n words))) ≡ m = length-take-le m (drop n (drop n words)) (omega (arith, sum, rest)) in
-    subst (λ k. IsIndexWith claim_of range_of k opens words) (sym (is ∙ front))
-    (subst (λ k. IsIndexWith claim_of range_of n k words) (sym (also ∙ back)) built)
+-- the words and numbers of an index of this size begin with it
+pub built_index : (claim_of : ℕ → Option Claim) (range_of : ℕ → ℕ × ℕ) (count sized opens : ℕ) (words numbers : List ℕ) → sized ≡ length (listed claim_of false count) → opens ≡ length (listed claim_of true count) → IsBuilt claim_of range_of count words numbers → IsIndexWith claim_of range_of sized opens words numbers
+built_index claim_of range_of count sized opens words numbers is also built = rw (is, also) built

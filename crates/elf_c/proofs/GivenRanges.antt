@@ -4,7 +4,7 @@ use Rattle.std.proofs.lemmas.Bool.{eqb-true}
 use Rattle.elf_base.specs.Refusal.{and_then}
 use Rattle.elf_base.specs.declared.error.ElfError.{ElfError}
 use Rattle.elf_linking.specs.Loaded.{segment_at_of}
-use Rattle.elf_linking.proofs.LoadedBytes.{first_segment_at}
+use Rattle.elf_linking.proofs.LoadedBytes.{last_segment_at}
 use Rattle.elf_records.specs.ProgramNumbers.{is_ph_type}
 use Rattle.elf_records.specs.declared.program.Type.TheVariants.{Null}
 use Rattle.xmas_elf.specs.ProgramHeader.{program_fields, program_of, segment_data_of, segment_type}
@@ -99,7 +99,7 @@ address_lies file address count = by_segment (segment_at_of file address count) 
         → IfOk (and_so r (λ part. Ok (range_at (part.offset + (address - segment.address)) count))) (LiesIn file.input.now)
     by_part segment (Err error) is ranged = tt
     by_part segment (Ok part) is ranged =
-        let holds = (first_segment_at file address count segment is).holds in
+        let holds = (last_segment_at file address count segment is).holds in
         let begins = holds.begins in
         let ends = holds.ends in
         let (lies, long) = bytes_lie file segment part ranged in

@@ -20,5 +20,6 @@ pub mod LoadPlans
 pub mod ListedPieces
 pub mod LoadObjects
 pub mod LoadImages
+pub mod LoadAll
 pub mod DynamicRelocations
 pub mod OpenedFiles

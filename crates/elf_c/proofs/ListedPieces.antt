@@ -21,7 +21,7 @@ use Rattle.elf_base.specs.Refusal.{unless}
 use Rattle.xmas_elf.specs.Symbol.{SymbolFields}
 use Rattle.xmas_elf.specs.Types.{ElfFile}
 use Rattle.elf_c.specs.AddressIndex.{addresses_of_table, claim_in_section}
-use Rattle.elf_c.specs.Pieces.{AreListedIn, AreRuns, IsRows, IsWhole, Lists, few_words, put_from, run_record, runs_refused}
+use Rattle.elf_c.specs.Pieces.{AreListedIn, AreRuns, IsRows, IsWhole, Lists, put_from, run_record, runs_refused}
 use Rattle.elf_c.specs.declared.pieces.Piece.{Piece}
 use Rattle.elf_c.specs.declared.status.Refusal.{Refusal}
 use Rattle.elf_c.specs.declared.status.Refusal.TheVariants.{Index}
@@ -156,34 +156,36 @@ module _ {E : Type 0} {r s : _} (fields : E → SymbolFields) where
 no_error : {T E : Type 0} (value : T) (error : E) → ◌≡◌ {A = Result T E} (Ok value) (Err error) → ⊥
 no_error value error same = cc
 
-module _ {P S : Type 0} (AreAll : List P → Type 0) (numbers : P → Piece) (words : List ℕ) (needed first : ℕ) (old new : List Piece) (answer : Result S IndexError) where
-  -- the pieces of a file are listed, if there are as many words as needed
-  pub file_listed : (start : S) (count : ℕ) → answer ≡ Ok start → (length words < needed → answer ≡ Err FewWords) → (all : List P) × AreAll all × IsRows (map numbers all) first old new × (count ≡ length all) → Lists (few_words needed words) AreAll numbers first old (Ok count) new
-  file_listed start count is few (all, are, rows, counted) = by_size (nat_lt (length words) needed) refl
+module _ {P S : Type 0} (AreAll : List P → Type 0) (record_of : P → Piece) (words_short numbers_short : Bool) (first : ℕ) (old new : List Piece) (answer : Result S IndexError) where
+  -- the pieces of a file are listed, if there are as many words and numbers as needed
+  pub file_listed : (start : S) (count : ℕ) → answer ≡ Ok start → (words_short ≡ true → answer ≡ Err FewWords) → (numbers_short ≡ true → answer ≡ Err FewWords) → (all : List P) × AreAll all × IsRows (map record_of all) first old new × (count ≡ length all)
+      → Lists (unless ((words_short, Index FewWords) ∷ (numbers_short, Index FewWords) ∷ []) tt) AreAll record_of first old (Ok count) new
+  file_listed start count is few few_numbers (all, are, rows, counted) = by_words words_short refl
     where
-      by_size : (b : Bool) → nat_lt (length words) needed ≡ b → Lists (if b then Err (Index FewWords) else Ok tt) AreAll numbers first old (Ok count) new
-      by_size true short = absurd (no_error start FewWords (sym is ∙ few (ltb-true (length words) needed short)))
-      by_size false long = (all, are, ap Ok counted, rows)
+      by_numbers : (b : Bool) → numbers_short ≡ b → Lists (if b then Err (Index FewWords) else Ok tt) AreAll record_of first old (Ok count) new
+      by_numbers true here = absurd (no_error start FewWords (sym is ∙ few_numbers here))
+      by_numbers false here = (all, are, ap Ok counted, rows)
 
-module _ {P S : Type 0} (AreAll : List P → Type 0) (numbers : P → Piece) (words : List ℕ) (count needed first : ℕ) (old new : List Piece) (answer : Result S IndexError) where
+      by_words : (b : Bool) → words_short ≡ b → Lists (if b then Err (Index FewWords) else (if numbers_short then Err (Index FewWords) else Ok tt)) AreAll record_of first old (Ok count) new
+      by_words true here = absurd (no_error start FewWords (sym is ∙ few here))
+      by_words false here = by_numbers numbers_short refl
+
+module _ {P S : Type 0} (AreAll : List P → Type 0) (record_of : P → Piece) (words_short numbers_short : Bool) (count first : ℕ) (old new : List Piece) (answer : Result S IndexError) where
   -- the same for symbols, if there are not too many
-  pub symbols_listed : (start : S) (total : ℕ) → answer ≡ Ok start → (2 ^ 32 ≤ count → answer ≡ Err ManySymbols) → (count < 2 ^ 32 → length words < needed → answer ≡ Err FewWords) → (all : List P) × AreAll all × IsRows (map numbers all) first old new × (total ≡ length all)
-      → Lists (unless ((nat_le (2 ^ 32) count, Index ManySymbols) ∷ (nat_lt (length words) needed, Index FewWords) ∷ []) tt) AreAll numbers first old (Ok total) new
-  symbols_listed start total is many few (all, are, rows, counted) = by_count (nat_le (2 ^ 32) count) refl
+  pub symbols_listed : (start : S) (total : ℕ) → answer ≡ Ok start → (2 ^ 32 ≤ count → answer ≡ Err ManySymbols) → (count < 2 ^ 32 → words_short ≡ true → answer ≡ Err FewWords) → (count < 2 ^ 32 → numbers_short ≡ true → answer ≡ Err FewWords) → (all : List P) × AreAll all × IsRows (map record_of all) first old new × (total ≡ length all)
+      → Lists (unless ((nat_le (2 ^ 32) count, Index ManySymbols) ∷ (words_short, Index FewWords) ∷ (numbers_short, Index FewWords) ∷ []) tt) AreAll record_of first old (Ok total) new
+  symbols_listed start total is many few few_numbers listed = by_count (nat_le (2 ^ 32) count) refl
     where
-      by_size : (b : Bool) → count < 2 ^ 32 → nat_lt (length words) needed ≡ b → Lists (if b then Err (Index FewWords) else Ok tt) AreAll numbers first old (Ok total) new
-      by_size true below short = absurd (no_error start FewWords (sym is ∙ few below (ltb-true (length words) needed short)))
-      by_size false below long = (all, are, ap Ok counted, rows)
-
-      by_count : (b : Bool) → nat_le (2 ^ 32) count ≡ b → Lists (if b then Err (Index ManySymbols) else (if nat_lt (length words) needed then Err (Index FewWords) else Ok tt)) AreAll numbers first old (Ok total) new
+      by_count : (b : Bool) → nat_le (2 ^ 32) count ≡ b → Lists (if b then Err (Index ManySymbols) else unless ((words_short, Index FewWords) ∷ (numbers_short, Index FewWords) ∷ []) tt) AreAll record_of first old (Ok total) new
       by_count true above = absurd (no_error start ManySymbols (sym is ∙ many (leb-true (2 ^ 32) count above)))
-      by_count false below = by_size (nat_lt (length words) needed) (leb-false (2 ^ 32) count below) refl
+      by_count false above = let below = leb-false (2 ^ 32) count above in
+          file_listed AreAll record_of words_short numbers_short first old new answer start total is (few below) (few_numbers below) listed
 
 -- what is listed by the library's table is listed by its symbols
-pub same_listed : {E : Type 0} {r : _} (fields : E → SymbolFields) (symbols : AddressSymbols E r) (within : Option ℕ) (range : ℕ × ℕ) (first : ℕ) (words : List ℕ) (old new : List Piece) (answer : Result ℕ Refusal)
-    → Lists (runs_refused (claim_of_symbols fields symbols within) (symbol_count symbols) words) (AreRuns (claim_of_symbols fields symbols within) (max range.0 range.1) range.0) run_record first old answer new
-    → AreListedIn (addresses_of_table fields symbols) within range first words old answer new
-same_listed fields symbols within range first words old new answer listed =
+pub same_listed : {E : Type 0} {r : _} (fields : E → SymbolFields) (symbols : AddressSymbols E r) (within : Option ℕ) (range : ℕ × ℕ) (first : ℕ) (words numbers : List ℕ) (old new : List Piece) (answer : Result ℕ Refusal)
+    → Lists (runs_refused (claim_of_symbols fields symbols within) (symbol_count symbols) words numbers) (AreRuns (claim_of_symbols fields symbols within) (max range.0 range.1) range.0) run_record first old answer new
+    → AreListedIn (addresses_of_table fields symbols) within range first words numbers old answer new
+same_listed fields symbols within range first words numbers old new answer listed =
     let claims = claim_in_section (addresses_of_table fields symbols) within in
-    subst (λ n. Lists (runs_refused claims n words) (AreRuns claims (max range.0 range.1) range.0) run_record first old answer new) (same_count fields symbols)
-    (subst (λ c. Lists (runs_refused c (symbol_count symbols) words) (AreRuns c (max range.0 range.1) range.0) run_record first old answer new) (same_claims fields symbols within) listed)
+    subst (λ n. Lists (runs_refused claims n words numbers) (AreRuns claims (max range.0 range.1) range.0) run_record first old answer new) (same_count fields symbols)
+    (subst (λ c. Lists (runs_refused c (symbol_count symbols) words numbers) (AreRuns c (max range.0 range.1) range.0) run_record first old answer new) (same_claims fields symbols within) listed)

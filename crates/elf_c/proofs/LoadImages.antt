@@ -1,10 +1,10 @@
 -- The images of objects, by what the library's calls say of them.
 use Rattle.std.proofs.Common.{◌≡◌, ℕ, List, Result, refl, subst, sym}
 use Rattle.std.specs.Borrow.{Bor}
-use Rattle.std.specs.Prelude.{IfOk}
+use Rattle.std.specs.Prelude.{IfErr, IfOk}
 use Rattle.elf_linking.specs.declared.object.DynamicObject.{DynamicObject}
 use Rattle.elf_loading.specs.ImageWords.{IsImageCheck}
-use Rattle.elf_loading.specs.OneWord.{IsByOneWordIn}
+use Rattle.elf_loading.specs.OneWord.{HasErrorLeft, IsByOneWordIn}
 use Rattle.elf_loading.specs.Relocate.{IsRelocationIn}
 use Rattle.elf_loading.specs.declared.error.LoadError.{LoadError}
 use Rattle.elf_loading.specs.declared.plan.LoadPlan.{LoadPlan}
@@ -28,6 +28,7 @@ module _ {E : Type 0} {r : _} (class size : ℕ) (fields : E → SymbolFields) (
   pub relocated_by : (when : Binding) (before after : List ℕ) (answer : Result ℕ LoadError) (places : Bor (List Place)) (images : Bor (List (Bor (List ℕ))))
       → IsRelocationIn fields objects plans of when places images before after answer
       → IfOk answer (λ count. IsByOneWordIn fields objects plans of when places images before after)
+      → IfErr answer (HasErrorLeft fields objects.now plans.now of when)
       → ArePlacesOf loads places.now → AreImagesOf loads images.now → RelocatesAs r class size fields loads of when page limit before after (as_refusal answer)
-  relocated_by when before after answer places images relocation once at shown =
-      relocated objects plans places images answer own own_plans at shown relocation once refl
+  relocated_by when before after answer places images relocation once errors at shown =
+      relocated objects plans places images answer own own_plans at shown relocation once errors refl

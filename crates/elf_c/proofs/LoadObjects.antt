@@ -10,10 +10,11 @@ use Rattle.elf_base.specs.FileHeader.{header_of}
 use Rattle.elf_linking.specs.DynamicObject.{IsReachedObject, IsReachedRefused}
 use Rattle.elf_linking.specs.declared.error.LinkError.{LinkError}
 use Rattle.elf_linking.specs.declared.object.DynamicObject.{DynamicObject}
+use Rattle.elf_loading.specs.declared.error.LoadError.{LoadError}
 use Rattle.elf_loading.specs.declared.relocate.Place.{Place}
 use Rattle.xmas_elf.specs.declared.ElfFile.{ElfFile}
 use Rattle.elf_c.proofs.Batches.{put_elsewhere, put_there}
-use Rattle.elf_c.specs.LoadObjects.{AreFirstMade, AreImagesOf, AreMade, ArePadded, ArePlacesOf, IsFirstUnmade, IsObjectOfBytes, IsRefusedAsObject, no_object, load_place}
+use Rattle.elf_c.specs.LoadObjects.{AreFirstMade, AreImagesOf, AreMade, ArePadded, ArePlacesOf, IsFirstRefused, IsFirstUnmade, IsFirstUnmadeAt, IsFirstUnplanned, IsObjectOfBytes, IsRefusedAsObject, IsRefusedAt, IsUnplannedAt, no_object, load_place}
 use Rattle.elf_c.specs.declared.load_objects.LoadObject.{LoadObject}
 use Rattle.elf_c.specs.declared.load_objects.TheConstants.{MOST_OBJECTS}
 
@@ -35,13 +36,13 @@ pub some_is : {T : Type 0} (found : Option T) (x : T) → IsSomeAnd found (λ y.
 some_is None x is = absurd is
 some_is (Some y) x is = ap (λ z. Some z) is
 
-take_get : {T : Type 0} (xs : List T) (n i : ℕ) → i < n → slice_get (take n xs) i ≡ slice_get xs i
+pub take_get : {T : Type 0} (xs : List T) (n i : ℕ) → i < n → slice_get (take n xs) i ≡ slice_get xs i
 take_get xs zero i below = absurd (omega (arith, below))
 take_get [] (suc n) i below = refl
 take_get (x ∷ xs) (suc n) zero below = refl
 take_get (x ∷ xs) (suc n) (suc i) below = take_get xs n i (omega (arith, below))
 
-repeated : {T : Type 0} (n i : ℕ) (x y : T) → slice_get (replicate n x) i ≡ Some y → x ≡ y
+pub repeated : {T : Type 0} (n i : ℕ) (x y : T) → slice_get (replicate n x) i ≡ Some y → x ≡ y
 repeated zero i x y is = absurd (cc)
 repeated (suc n) zero x y is = some_same x y is
 repeated (suc n) (suc i) x y is = repeated n i x y is
@@ -88,6 +89,19 @@ module _ {A B : Type 0} (Is : A → B → Type 0) (from : List A) where
   pub unmade_at : {C : Type 0} (Refuses : A → C → Type 0) (index : ℕ) (item : A) (made : List B) (error : C) → slice_get from index ≡ Some item → AreFirstMade Is from index made
       → Refuses item error → IsFirstUnmade Is Refuses from error
   unmade_at Refuses index item made error is before why = record { index = index; item = item; item_is = is; made = made; before = before; why = why }
+
+-- the first of which none is made, with its index
+pub unmade_first : {A B C : Type 0} (Is : A → B → Type 0) (from : List A) (Refuses : A → C → Type 0) (index : ℕ) (item : A) (made : List B) (error : C) → slice_get from index ≡ Some item → AreFirstMade Is from index made
+    → Refuses item error → IsFirstUnmadeAt Is Refuses from index error
+unfolding unmade_at
+unmade_first Is from Refuses index item made error is before why = record { first = unmade_at Is from Refuses index item made error is before why; index_is = refl }
+
+-- the same without it
+pub refused_first : {E : Type 0} {r : _} {class size : ℕ} {loads : List LoadObject} {index : ℕ} {error : LinkError} → IsRefusedAt {E = E} r class size loads index error → IsFirstRefused {E = E} r class size loads error
+refused_first at = record { first = at.refused.first }
+
+pub unplanned_first : {E : Type 0} {r : _} (page limit : ℕ) (objects : List (DynamicObject E r)) (index : ℕ) (error : LoadError) → IsUnplannedAt page limit objects index error → IsFirstUnplanned page limit objects error
+unplanned_first page limit objects index error at = at.first
 
 -- one of them in each place
 pub padded_none : (loads : List LoadObject) (spare : LoadObject) → (place : ℕ) × (slice_get loads place ≡ Some spare) → ArePadded loads (replicate MOST_OBJECTS spare) 0

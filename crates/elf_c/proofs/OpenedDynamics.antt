@@ -10,7 +10,7 @@ use Rattle.elf_base.specs.Table.{records}
 use Rattle.elf_base.specs.declared.bytes.Order.{Order}
 use Rattle.elf_base.specs.declared.error.ElfError.{ElfError}
 use Rattle.elf_base.specs.declared.error.ElfError.TheVariants.{DataRange, NotMultiple}
-use Rattle.elf_linking.proofs.LoadedBytes.{first_segment_at, part_by}
+use Rattle.elf_linking.proofs.LoadedBytes.{last_segment_at, part_by}
 use Rattle.elf_linking.proofs.SymbolCounts.{symbol_count_once}
 use Rattle.elf_linking.specs.DynamicView.{AreSymbols, IsSymbolCount, as_link_error, dynamic_entries_of, number_with}
 use Rattle.elf_linking.specs.Loaded.{bytes_at_of, bytes_of_segment, segment_at_of}
@@ -70,13 +70,13 @@ are_at file address count range is = by_segment (segment_at_of file address coun
     by_size : (segment : Segment) (kept : List ℕ) (empty : Bool) → segment_at_of file address count ≡ Some segment → segment_bytes file segment ≡ Ok kept → (segment.file_size == 0) ≡ empty → take count (drop ((if empty then 0 else segment.offset) + (address - segment.address)) file.input.now) ≡ take count (drop (address - segment.address) kept)
     by_size segment kept true at kept_are test =
         let start = address - segment.address in
-        let holds = (first_segment_at file address count segment at).holds in
+        let holds = (last_segment_at file address count segment at).holds in
         let size : segment.file_size ≡ 0 = eqb-true _ _ test in
         let none : count ≡ 0 = (let begins = holds.begins in let ends = holds.ends in omega (arith, begins, ends, size)) in
         ap (λ n. take n (drop (0 + start) file.input.now)) none ∙ sym (ap (λ n. take n (drop start kept)) none)
     by_size segment kept false at kept_are test =
         let start = address - segment.address in
-        let holds = (first_segment_at file address count segment at).holds in
+        let holds = (last_segment_at file address count segment at).holds in
         let within : start + count ≤ segment.file_size = (let begins = holds.begins in let ends = holds.ends in omega (arith, begins, ends)) in
         sym (part_by file.input.now kept segment.offset segment.file_size start count (data_kept file segment kept kept_are) within)
 

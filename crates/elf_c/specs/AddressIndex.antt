@@ -1,10 +1,10 @@
--- The symbols of many addresses, by an index in words of the caller: the record of a first call, and what later calls
+-- The symbols of many addresses, by an index in words and numbers of the caller: the record of a first call, and what later calls
 -- read by it (gABI, "Symbol Table"; the index is this project's own).
 use Rattle.std.specs.Prelude.{◌≡◌, ◌<◌, ◌≤◌, ◌^◌, ℕ, ◌-◌, ◌%◌, ◌==◌, ◌&&◌, nat_le, nat_lt, min, Bool, true, false, List, [], ◌∷◌, length, map, drop, take, slice_get, Option, None, Some, IfSome, Result, Ok, Err, IsOkAnd, MatchResult, if◌then◌else◌}
 use Rattle.std.specs.Option.{option_and_then}
 use Rattle.elf_addresses.specs.Candidates.{is_candidate}
-use Rattle.elf_addresses.specs.Claims.{Among, Covers, IsInnermost}
-use Rattle.elf_addresses.specs.Index.{IsWellBuilt, listed, word_count}
+use Rattle.elf_addresses.specs.Claims.{Covers, IsInnermost}
+use Rattle.elf_addresses.specs.Index.{IsWellBuilt, listed, number_count, word_count}
 use Rattle.elf_addresses.specs.SymbolClaims.{symbol_claim, symbol_items, symbol_range}
 use Rattle.elf_addresses.specs.declared.claim.Claim.{Claim}
 use Rattle.elf_addresses.specs.declared.error.IndexError.TheVariants.{FewWords, ManySymbols}
@@ -94,25 +94,31 @@ words_with claim_of count = min (word_count claim_of count) (2 ^ 64 - 1)
 abbrev pub asks_size : (ℕ → Option Claim) → ℕ → List ℕ → Bool
 asks_size claim_of count words = length words == 0 && nat_lt 0 (words_with claim_of count)
 
--- why an index can't be built in words
-abbrev pub index_rows : (ℕ → Option Claim) → ℕ → List ℕ → List (Bool × Refusal)
-index_rows claim_of count words = (nat_le (2 ^ 32) count, Index ManySymbols)
+-- the number of numbers that an index of so many claims takes
+abbrev pub numbers_with : (ℕ → Option Claim) → ℕ → ℕ
+numbers_with claim_of count = min (number_count claim_of count) (2 ^ 64 - 1)
+
+-- why an index can't be built in words and numbers
+abbrev pub index_rows : (ℕ → Option Claim) → ℕ → List ℕ → List ℕ → List (Bool × Refusal)
+index_rows claim_of count words numbers = (nat_le (2 ^ 32) count, Index ManySymbols)
     ∷ (nat_lt (length words) (word_count claim_of count), Index FewWords)
+    ∷ (nat_lt (length numbers) (number_count claim_of count), Index FewWords)
     ∷ []
 
--- the sizes of an index, or why it can't be built in words
-abbrev pub sizes_with : (ℕ → Option Claim) → ℕ → List ℕ → Result Sizes Refusal
-sizes_with claim_of count words = if asks_size claim_of count words
-    then Ok (record { words = words_with claim_of count; sized_count = 0; open_count = 0 })
-    else unless (index_rows claim_of count words) (record {
+-- the sizes of an index, or why it can't be built in words and numbers
+abbrev pub sizes_with : (ℕ → Option Claim) → ℕ → List ℕ → List ℕ → Result Sizes Refusal
+sizes_with claim_of count words numbers = if asks_size claim_of count words
+    then Ok (record { words = words_with claim_of count; numbers = numbers_with claim_of count; sized_count = 0; open_count = 0 })
+    else unless (index_rows claim_of count words numbers) (record {
       words = words_with claim_of count;
+      numbers = numbers_with claim_of count;
       sized_count = length (listed claim_of false count);
       open_count = length (listed claim_of true count);
     })
 
 -- the same for the symbols of a table
-abbrev pub index_sizes_of : Addresses → Option ℕ → List ℕ → Result Sizes Refusal
-index_sizes_of all within words = sizes_with (claim_in_section all within) (length all.items) words
+abbrev pub index_sizes_of : Addresses → Option ℕ → List ℕ → List ℕ → Result Sizes Refusal
+index_sizes_of all within words numbers = sizes_with (claim_in_section all within) (length all.items) words numbers
 
 -- the record of an index with these sizes
 abbrev pub index_with : SymbolTable → Range → ℕ → ℕ → Sizes → AddressIndex
@@ -120,6 +126,7 @@ index_with table indices machine within sizes = record {
   table = table;
   indices = indices;
   words = sizes.words;
+  numbers = sizes.numbers;
   sized_count = sizes.sized_count;
   open_count = sizes.open_count;
   within = within;
@@ -127,25 +134,26 @@ index_with table indices machine within sizes = record {
 }
 
 -- the record of an index of the symbols of a record, or why there is none
-abbrev pub index_of : List ℕ → SymbolTable → Range → ℕ → ℕ → List ℕ → Result AddressIndex Refusal
-index_of input table indices machine within words =
+abbrev pub index_of : List ℕ → SymbolTable → Range → ℕ → ℕ → List ℕ → List ℕ → Result AddressIndex Refusal
+index_of input table indices machine within words numbers =
     and_then (addresses_by input table indices machine) (λ all.
-    and_then (index_sizes_of all (within_of within) words) (λ sizes.
+    and_then (index_sizes_of all (within_of within) words numbers) (λ sizes.
     Ok (index_with table indices machine within sizes)))
 
--- words begin with a well built index of claims, so many of them with a size and so many of size 0
-abbrev pub IsIndexWith : (ℕ → Option Claim) → (ℕ → ℕ × ℕ) → ℕ → ℕ → List ℕ → Type 0
-IsIndexWith claim_of range_of sized opens words = IsWellBuilt claim_of range_of (take sized words)
-    (take sized (drop sized words)) (take opens (drop sized (drop sized words)))
+-- words and numbers begin with a well built index of claims, so many of them with a size and so many of size 0
+abbrev pub IsIndexWith : (ℕ → Option Claim) → (ℕ → ℕ × ℕ) → ℕ → ℕ → List ℕ → List ℕ → Type 0
+IsIndexWith claim_of range_of sized opens words numbers = IsWellBuilt claim_of range_of (take sized words)
+    (take sized numbers) (take sized (drop sized numbers)) (take sized (drop sized words)) (take opens (drop sized (drop sized words)))
 
 -- the same for the symbols of a table
-abbrev pub IsIndexIn : Addresses → Option ℕ → ℕ → ℕ → List ℕ → Type 0
-IsIndexIn all within sized opens words = IsIndexWith (claim_in_section all within) (range_in all) sized opens words
+abbrev pub IsIndexIn : Addresses → Option ℕ → ℕ → ℕ → List ℕ → List ℕ → Type 0
+IsIndexIn all within sized opens words numbers =
+    IsIndexWith (claim_in_section all within) (range_in all) sized opens words numbers
 
--- words begin with a well built index of the symbols of a record
-abbrev pub IsIndexOf : List ℕ → AddressIndex → List ℕ → Type 0
-IsIndexOf input index words = IsOkAnd (addresses_by input index.table index.indices index.machine)
-    (λ all. IsIndexIn all (within_of index.within) index.sized_count index.open_count words)
+-- words and numbers begin with a well built index of the symbols of a record
+abbrev pub IsIndexOf : List ℕ → AddressIndex → List ℕ → List ℕ → Type 0
+IsIndexOf input index words numbers = IsOkAnd (addresses_by input index.table index.indices index.machine)
+    (λ all. IsIndexIn all (within_of index.within) index.sized_count index.open_count words numbers)
 
 -- the numbers of no symbol
 abbrev pub no_symbol_at : SymbolAt
@@ -167,18 +175,18 @@ abbrev pub claimed_at : List SymbolFields → ℕ → Option Claim → SymbolAt
 claimed_at items address None = no_symbol_at
 claimed_at items address (Some claim) = symbol_at_address address claim.index (slice_get items claim.index)
 
--- the numbers are those of a symbol with a claim that covers the address, or of none; of the innermost, if the index is
--- well built
+-- the numbers are those of a symbol that covers the address, or of none; of the innermost that names addresses, if the
+-- index is well built
 pub record IsAnswer (claim_of : ℕ → Option Claim) (items : List SymbolFields) (IsBuilt : Type 0) (address : ℕ) (said : SymbolAt) : Type 0 where
   pub found : Option Claim
-  pub covers : IfSome found (Among claim_of (λ claim. Covers claim address))
+  pub covers : IfSome found (λ claim. Covers claim address)
   pub innermost : IsBuilt → IsInnermost claim_of address found
   pub numbers : said ≡ claimed_at items address found
 
--- the same for the symbols of a table, and the words of an index
-abbrev pub IsAnswerIn : Addresses → AddressIndex → List ℕ → ℕ → SymbolAt → Type 0
-IsAnswerIn all index words = let within = within_of index.within in
-    IsAnswer (claim_in_section all within) all.items (IsIndexIn all within index.sized_count index.open_count words)
+-- the same for the symbols of a table, and the words and the numbers of an index
+abbrev pub IsAnswerIn : Addresses → AddressIndex → List ℕ → List ℕ → ℕ → SymbolAt → Type 0
+IsAnswerIn all index words numbers = let within = within_of index.within in
+    IsAnswer (claim_in_section all within) all.items (IsIndexIn all within index.sized_count index.open_count words numbers)
 
 -- each item of the slice that has an address satisfies P for it; the other items are unchanged
 pub record AreStored {T : Type 0} (P : ℕ → T → Type 0) (addresses : List ℕ) (old new : List T) : Type 0 where
@@ -187,12 +195,12 @@ pub record AreStored {T : Type 0} (P : ℕ → T → Type 0) (addresses : List �
       → (said : T) × P address said × (slice_get new k ≡ Some said)
   pub rest : (k : ℕ) → length addresses ≤ k → slice_get new k ≡ slice_get old k
 
--- the result of a call for many addresses by the words of an index: the numbers of their symbols, or an error, and
--- nothing is stored
-abbrev pub AreAnswered : List ℕ → AddressIndex → List ℕ → List ℕ → List SymbolAt → Result (Unit {0}) Refusal → List SymbolAt → Type 0
-AreAnswered input index words addresses old answer new =
+-- the result of a call for many addresses by the words and the numbers of an index: the numbers of their symbols, or an
+-- error, and nothing is stored
+abbrev pub AreAnswered : List ℕ → AddressIndex → List ℕ → List ℕ → List ℕ → List SymbolAt → Result (Unit {0}) Refusal → List SymbolAt → Type 0
+AreAnswered input index words numbers addresses old answer new =
     MatchResult (addresses_by input index.table index.indices index.machine)
-    (λ all. (answer ≡ Ok tt) × AreStored (IsAnswerIn all index words) addresses old new)
+    (λ all. (answer ≡ Ok tt) × AreStored (IsAnswerIn all index words numbers) addresses old new)
     (λ why. (answer ≡ Err why) × (new ≡ old))
 
 -- the symbols that a table of the library has, as such

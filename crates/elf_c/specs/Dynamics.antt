@@ -1,19 +1,16 @@
 -- The dynamic entries of a section and of the dynamic segment, as numbers (gABI, "Dynamic Section").
-use Rattle.std.specs.Prelude.{ℕ, ◌==◌, List, Option, None, Some, Result, Err, if◌then◌else◌}
+use Rattle.std.specs.Prelude.{ℕ, ◌==◌, List, Result, Ok, Err, if◌then◌else◌}
 use Rattle.elf_base.specs.FileHeader.{file_class, file_order}
 use Rattle.elf_base.specs.Table.{records}
 use Rattle.elf_base.specs.declared.bytes.Order.{Order}
 use Rattle.elf_base.specs.declared.error.ElfError.TheVariants.{UnknownClass}
-use Rattle.elf_linking.specs.DynamicView.{dynamic_segment_of}
-use Rattle.elf_linking.specs.Segments.{segment_bytes}
-use Rattle.elf_linking.specs.declared.error.LinkError.TheVariants.{NoDynamic}
-use Rattle.elf_linking.specs.declared.segments.Segment.{Segment}
+use Rattle.elf_linking.specs.DynamicView.{dynamic_bytes_of}
+use Rattle.elf_linking.specs.declared.error.LinkError.{LinkError}
 use Rattle.elf_records.specs.Dynamic as entry
 use Rattle.elf_records.specs.declared.dynamic.Dynamic.{Dynamic}
 use Rattle.xmas_elf.specs.Content.{Content, dynamic_32, dynamic_64, table_of}
 use Rattle.xmas_elf.specs.declared.ElfFile.{ElfFile}
 use Rattle.elf_c.specs.Records.{record_in, record_among}
-use Rattle.elf_c.specs.Status.{and_so}
 use Rattle.elf_c.specs.declared.dynamic.DynamicEntry.{DynamicEntry}
 use Rattle.elf_c.specs.declared.status.Refusal.{Refusal}
 use Rattle.elf_c.specs.declared.status.Refusal.TheVariants.{Elf, Link, OtherData}
@@ -37,12 +34,11 @@ entry_among class order bytes index =
     else (if class == 2 then record_among dynamic_record 16 (entry.dynamic_64 order) bytes index
     else Err (Elf UnknownClass))
 
--- the dynamic entry at an index of a segment, if there is one
-abbrev pub segment_entry : ElfFile → ℕ → Option Segment → Result DynamicEntry Refusal
-segment_entry file index None = Err (Link NoDynamic)
-segment_entry file index (Some segment) = and_so (segment_bytes file segment)
-    (λ bytes. entry_among (file_class file.header) (file_order file.header) bytes index)
+-- the dynamic entry at an index of the bytes of the dynamic segment, if there are any
+abbrev pub segment_entry : ElfFile → ℕ → Result (List ℕ) LinkError → Result DynamicEntry Refusal
+segment_entry file index (Err error) = Err (Link error)
+segment_entry file index (Ok bytes) = entry_among (file_class file.header) (file_order file.header) bytes index
 
 -- the dynamic entry at an index of the dynamic segment, or why there is none
 abbrev pub dynamic_entry_at : ElfFile → ℕ → Result DynamicEntry Refusal
-dynamic_entry_at file index = segment_entry file index (dynamic_segment_of file)
+dynamic_entry_at file index = segment_entry file index (dynamic_bytes_of file)

@@ -21,3 +21,4 @@ pub mod LoadPlans
 pub mod Pieces
 pub mod LoadObjects
 pub mod LoadImages
+pub mod LoadAll

@@ -1,5 +1,5 @@
 -- The images of objects, and their relocation, by the files of the objects (this project's own).
-use Rattle.std.specs.Prelude.{◌≡◌, ℕ, ◌+◌, ◌-◌, ◌==◌, ◌<◌, ◌≤◌, true, false, List, length, IfOk, Result, Ok, Err, if◌then◌else◌}
+use Rattle.std.specs.Prelude.{◌≡◌, ℕ, ◌+◌, ◌-◌, ◌==◌, ◌<◌, ◌≤◌, true, false, List, length, IfErr, IfOk, Result, Ok, Err, if◌then◌else◌}
 use Rattle.std.specs.Borrow.{Bor}
 use Rattle.elf_linking.specs.declared.error.LinkError.{LinkError}
 use Rattle.elf_linking.specs.declared.error.LinkError.TheVariants.{ObjectIndex}
@@ -7,7 +7,7 @@ use Rattle.elf_linking.specs.declared.object.DynamicObject.{DynamicObject}
 use Rattle.elf_loading.specs.Bytes.{byte_number, byte_of}
 use Rattle.elf_loading.specs.FileCheck.{check_file}
 use Rattle.elf_loading.specs.ImageWords.{IsImageCheck}
-use Rattle.elf_loading.specs.OneWord.{IsByOneWordIn}
+use Rattle.elf_loading.specs.OneWord.{HasErrorLeft, IsByOneWordIn}
 use Rattle.elf_loading.specs.Relocate.{IsRelocationIn}
 use Rattle.elf_loading.specs.Segments.{loads_of}
 use Rattle.elf_loading.specs.Spans.{span_of}
@@ -24,7 +24,7 @@ use Rattle.elf_c.specs.LoadPlans.{if_checked}
 use Rattle.elf_c.specs.declared.load_objects.LoadObject.{LoadObject}
 use Rattle.elf_c.specs.declared.load_objects.TheConstants.{MOST_OBJECTS}
 use Rattle.elf_c.specs.declared.status.Refusal.{Refusal}
-use Rattle.elf_c.specs.declared.status.Refusal.TheVariants.{Link, Load}
+use Rattle.elf_c.specs.declared.status.Refusal.TheVariants.{Link, Load, ManyObjects}
 
 -- whether an image of `len` bytes can hold the span of a file, or why not
 abbrev pub image_answer : ElfFile → ℕ → ℕ → ℕ → Result (Unit {0}) Refusal
@@ -55,7 +55,7 @@ pub data ChecksAs {E : Type 0} (r : _) (class size : ℕ) (fields : E → Symbol
 pub data Checks (narrow_record wide_record : _) (loads : List LoadObject) (of page limit bits : ℕ) (result : Result (Unit {0}) Refusal) : Type 0 where
   checks_none : length loads ≡ 0 → result ≡ Err (Link ObjectIndex)
       → Checks narrow_record wide_record loads of page limit bits result
-  checks_many : MOST_OBJECTS < length loads → result ≡ Err (Load ImageSize)
+  checks_many : MOST_OBJECTS < length loads → result ≡ Err ManyObjects
       → Checks narrow_record wide_record loads of page limit bits result
   checks_narrow : length loads ≤ MOST_OBJECTS → is_first_narrow loads ≡ true
       → ChecksAs {E = DynEntry32} narrow_record 1 16 dyn_entry_32_fields loads of page limit bits result
@@ -73,6 +73,7 @@ pub data RelocatesAs {E : Type 0} (r : _) (class size : ℕ) (fields : E → Sym
       → ArePlansOf page limit objects.now plans.now → ArePlacesOf loads places.now → AreImagesOf loads images.now
       → IsRelocationIn fields objects plans of when places images before after answer
       → IfOk answer (λ count. IsByOneWordIn fields objects plans of when places images before after)
+      → IfErr answer (HasErrorLeft fields objects.now plans.now of when)
       → result ≡ as_refusal answer → RelocatesAs r class size fields loads of when page limit before after result
   unrelocated : (error : LinkError) → IsFirstRefused {E = E} r class size loads error → result ≡ Err (Link error) → after ≡ before
       → RelocatesAs r class size fields loads of when page limit before after result
@@ -84,7 +85,7 @@ pub data RelocatesAs {E : Type 0} (r : _) (class size : ℕ) (fields : E → Sym
 pub data Relocates (narrow_record wide_record : _) (loads : List LoadObject) (of : ℕ) (when : Binding) (page limit : ℕ) (before after : List ℕ) (result : Result ℕ Refusal) : Type 0 where
   relocates_none : length loads ≡ 0 → result ≡ Err (Link ObjectIndex) → after ≡ before
       → Relocates narrow_record wide_record loads of when page limit before after result
-  relocates_many : MOST_OBJECTS < length loads → result ≡ Err (Load ImageSize) → after ≡ before
+  relocates_many : MOST_OBJECTS < length loads → result ≡ Err ManyObjects → after ≡ before
       → Relocates narrow_record wide_record loads of when page limit before after result
   relocates_narrow : length loads ≤ MOST_OBJECTS → is_first_narrow loads ≡ true
       → RelocatesAs {E = DynEntry32} narrow_record 1 16 dyn_entry_32_fields loads of when page limit before after result

@@ -75,6 +75,11 @@ pub record IsFirstUnmade {A B C : Type 0} (Is : A → B → Type 0) (Refuses : A
   pub before : AreFirstMade Is from index made
   pub why : Refuses item error
 
+-- the same with its index
+pub record IsFirstUnmadeAt {A B C : Type 0} (Is : A → B → Type 0) (Refuses : A → C → Type 0) (from : List A) (index : ℕ) (error : C) : Type 0 where
+  pub first : IsFirstUnmade Is Refuses from error
+  pub index_is : first.index ≡ index
+
 -- the object is that of the file of another
 abbrev pub IsObjectOf : {E : Type 0} → {r : _} → ℕ → ℕ → LoadObject → DynamicObject E r → Type 0
 IsObjectOf class size load object = IsObjectOfBytes class size load.file.now object
@@ -87,6 +92,11 @@ AreObjectsOf class size loads objects = AreMade (IsObjectOf class size) loads ob
 pub record IsFirstRefused {E : Type 0} (r : _) (class size : ℕ) (loads : List LoadObject) (error : LinkError) : Type 0 where
   pub first : IsFirstUnmade {B = DynamicObject E r} (IsObjectOf class size) (λ load. IsRefusedAsObject class size load.file.now)
       loads error
+
+-- the file at an index is the first that is none of an object of this class, and why
+pub record IsRefusedAt {E : Type 0} (r : _) (class size : ℕ) (loads : List LoadObject) (index : ℕ) (error : LinkError) : Type 0 where
+  pub refused : IsFirstUnmadeAt {B = DynamicObject E r} (IsObjectOf class size) (λ load. IsRefusedAsObject class size load.file.now)
+      loads index error
 
 -- the plan is that of the file of an object, with pages of a size and addresses up to a limit
 abbrev pub IsPlanFor : {E : Type 0} → {r : _} → ℕ → ℕ → DynamicObject E r → LoadPlan → Type 0
@@ -103,6 +113,11 @@ LacksPlan page limit object error = let file = object_file object in check_file 
 -- the first object whose file has no plan, and why
 abbrev pub IsFirstUnplanned : {E : Type 0} → {r : _} → ℕ → ℕ → List (DynamicObject E r) → LoadError → Type 0
 IsFirstUnplanned page limit objects error = IsFirstUnmade {B = LoadPlan} (IsPlanFor page limit) (LacksPlan page limit) objects error
+
+-- the object at an index is the first whose file has no plan, and why
+abbrev pub IsUnplannedAt : {E : Type 0} → {r : _} → ℕ → ℕ → List (DynamicObject E r) → ℕ → LoadError → Type 0
+IsUnplannedAt page limit objects index error =
+    IsFirstUnmadeAt {B = LoadPlan} (IsPlanFor page limit) (LacksPlan page limit) objects index error
 
 -- where an object is loaded
 abbrev pub load_place : LoadObject → Place

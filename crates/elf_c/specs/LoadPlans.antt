@@ -3,6 +3,7 @@ use Rattle.std.specs.Prelude.{ℕ, ◌==◌, Bool, List, length, map, Option, No
 use Rattle.elf_base.specs.FileHeader.{file_class, header_fields}
 use Rattle.elf_base.specs.Text.{bytes_up_to_zero_of}
 use Rattle.elf_base.specs.declared.error.ElfError.{ElfError}
+use Rattle.elf_linking.specs.References.{file_machine}
 use Rattle.elf_loading.specs.FileCheck.{check_file}
 use Rattle.elf_loading.specs.Mappings.{mappings_of}
 use Rattle.elf_loading.specs.Segments.{interpreter_of, loads_of, relro_of, stack_of, tls_of}
@@ -30,11 +31,15 @@ use Rattle.elf_c.specs.declared.status.Refusal.TheVariants.{Load}
 abbrev pub page_of : ℕ → ℕ
 page_of page = if page == 0 then 4096 else page
 
--- the end of the addresses that a loader may use; 0 means that of Linux, for 386 if the file is of class 32, and
--- otherwise for x86-64
+-- the end of the addresses that Linux gives a program of a class and a machine: of 386 for class 32; of AArch64 (183), with
+-- 48 bits of addresses; otherwise of x86-64
+abbrev pub linux_limit : ℕ → ℕ → ℕ
+linux_limit class machine = if class == 1 then 0xffffe000
+    else (if machine == 183 then 0x1000000000000 else 0x7ffffffff000)
+
+-- the end of the addresses that a loader may use; 0 means that of Linux
 abbrev pub default_limit : ElfFile → ℕ → ℕ
-default_limit file limit = if limit == 0
-    then (if file_class file.header == 1 then 0xffffe000 else 0x7ffffffff000) else limit
+default_limit file limit = if limit == 0 then linux_limit (file_class file.header) (file_machine file) else limit
 
 -- the loader of a number: 1 for glibc, any other number for Linux
 abbrev pub loader_of : ℕ → Loader

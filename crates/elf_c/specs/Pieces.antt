@@ -1,7 +1,7 @@
 -- The pieces of a file and those of its symbols, as numbers: which bytes belong to what (this project's own).
 use Rattle.std.specs.Prelude.{◌≡◌, ◌<◌, ◌≤◌, ◌+◌, ◌-◌, ℕ, ◌==◌, ◌&&◌, nat_le, nat_lt, max, Bool, List, [], ◌∷◌, length, map, slice_get, slice_set, Option, None, Some, Result, Ok, Err, MatchResult, if◌then◌else◌}
 use Rattle.std.specs.Bool.{MatchBool}
-use Rattle.elf_addresses.specs.FileClaims.{byte_count, piece_words}
+use Rattle.elf_addresses.specs.FileClaims.{byte_count, piece_numbers, piece_words}
 use Rattle.elf_addresses.specs.Pieces.{ArePieces, IsInPiece, piece_sizes}
 use Rattle.elf_addresses.specs.SymbolPieces.{IsSizedRun}
 use Rattle.elf_addresses.specs.declared.claim.Claim.{Claim}
@@ -62,9 +62,10 @@ Lists {P} refused AreAll numbers first old answer new = MatchResult refused
     (λ _. (all : List P) × AreAll all × (answer ≡ Ok (length all)) × IsRows (map numbers all) first old new)
     (λ why. (answer ≡ Err why) × (new ≡ old))
 
--- there are fewer words than a call takes
-abbrev pub few_words : ℕ → List ℕ → Result (Unit {0}) Refusal
-few_words needed words = unless ((nat_lt (length words) needed, Index FewWords) ∷ []) tt
+-- there are fewer words or numbers than a call takes
+abbrev pub few_words : ℕ → ℕ → List ℕ → List ℕ → Result (Unit {0}) Refusal
+few_words words_needed numbers_needed words numbers =
+    unless ((nat_lt (length words) words_needed, Index FewWords) ∷ (nat_lt (length numbers) numbers_needed, Index FewWords) ∷ []) tt
 
 -- all pieces of a file: each is a longest run of bytes with one owner, they follow each other from its first byte to its
 -- end, each byte is in exactly one, and their sizes sum to the size of the file
@@ -80,13 +81,13 @@ asks_words file words = length words == 0 && nat_lt 0 (piece_words file)
 
 -- the sizes of the pieces of a file
 abbrev pub piece_sizes_of : ElfFile → ℕ → PieceSizes
-piece_sizes_of file count = record { words = piece_words file; count = count }
+piece_sizes_of file count = record { words = piece_words file; numbers = piece_numbers file; count = count }
 
--- the result of a call for the pieces of a file: their number and that of the words, or an error
-abbrev pub AreCounted : ElfFile → ℕ → List ℕ → List Piece → Result PieceSizes Refusal → List Piece → Type 0
-AreCounted file first words old answer new = MatchBool (asks_words file words)
+-- the result of a call for the pieces of a file: their number and those of the words and the numbers, or an error
+abbrev pub AreCounted : ElfFile → ℕ → List ℕ → List ℕ → List Piece → Result PieceSizes Refusal → List Piece → Type 0
+AreCounted file first words numbers old answer new = MatchBool (asks_words file words)
     ((answer ≡ Ok (piece_sizes_of file 0)) × (new ≡ old))
-    ((counted : Result ℕ Refusal) × Lists (few_words (piece_words file) words) (IsWhole file) piece_record first old counted new
+    ((counted : Result ℕ Refusal) × Lists (few_words (piece_words file) (piece_numbers file) words numbers) (IsWhole file) piece_record first old counted new
     × (answer ≡ and_then counted (λ count. Ok (piece_sizes_of file count))))
 
 -- pieces that follow each other, from an address up to a limit, each a longest run of addresses in one symbol or in none
@@ -95,18 +96,18 @@ AreRuns claim_of limit begin [] = begin ≡ limit
 AreRuns claim_of limit begin (piece ∷ pieces) =
     (piece.begin ≡ begin) × IsSizedRun claim_of limit piece.begin piece.end piece.symbol × AreRuns claim_of limit piece.end pieces
 
--- why an index of symbols can't be built in words
-abbrev pub runs_refused : (ℕ → Option Claim) → ℕ → List ℕ → Result (Unit {0}) Refusal
-runs_refused claim_of count words = unless (index_rows claim_of count words) tt
+-- why an index of symbols can't be built in words and numbers
+abbrev pub runs_refused : (ℕ → Option Claim) → ℕ → List ℕ → List ℕ → Result (Unit {0}) Refusal
+runs_refused claim_of count words numbers = unless (index_rows claim_of count words numbers) tt
 
 -- the result of a call for the pieces of a range of addresses by symbols
-abbrev pub AreListedIn : Addresses → Option ℕ → ℕ × ℕ → ℕ → List ℕ → List Piece → Result ℕ Refusal → List Piece → Type 0
-AreListedIn all within range first words old answer new = let claim_of = claim_in_section all within in
-    Lists (runs_refused claim_of (length all.items) words) (AreRuns claim_of (max range.0 range.1) range.0) run_record first old answer new
+abbrev pub AreListedIn : Addresses → Option ℕ → ℕ × ℕ → ℕ → List ℕ → List ℕ → List Piece → Result ℕ Refusal → List Piece → Type 0
+AreListedIn all within range first words numbers old answer new = let claim_of = claim_in_section all within in
+    Lists (runs_refused claim_of (length all.items) words numbers) (AreRuns claim_of (max range.0 range.1) range.0) run_record first old answer new
 
 -- the same by the symbols of a record
-abbrev pub AreListed : List ℕ → AddressIndex → ℕ × ℕ → ℕ → List ℕ → List Piece → Result ℕ Refusal → List Piece → Type 0
-AreListed input index range first words old answer new =
+abbrev pub AreListed : List ℕ → AddressIndex → ℕ × ℕ → ℕ → List ℕ → List ℕ → List Piece → Result ℕ Refusal → List Piece → Type 0
+AreListed input index range first words numbers old answer new =
     MatchResult (addresses_by input index.table index.indices index.machine)
-    (λ all. AreListedIn all (within_of index.within) range first words old answer new)
+    (λ all. AreListedIn all (within_of index.within) range first words numbers old answer new)
     (λ why. (answer ≡ Err why) × (new ≡ old))

@@ -7,7 +7,7 @@ use Rattle.elf_addresses.specs.Message.{index_row}
 use Rattle.elf_linking.specs.Message.{link_row}
 use Rattle.elf_loading.specs.Message.{load_row}
 use Rattle.elf_c.specs.declared.status.Refusal.{Refusal}
-use Rattle.elf_c.specs.declared.status.Refusal.TheVariants.{Elf, Index, Link, Load, OtherData, NoRecord, NotFound}
+use Rattle.elf_c.specs.declared.status.Refusal.TheVariants.{Elf, Index, Link, Load, ManyObjects, OtherData, NoRecord, NotFound}
 
 -- the number and the text of an error of an export
 abbrev pub refusal_row : Refusal → ℕ × List ℕ
@@ -18,6 +18,7 @@ refusal_row (Index error) = index_row error
 refusal_row OtherData = (201, codes "A section holds other data than what is asked for")
 refusal_row NoRecord = (202, codes "A table has no record with this index")
 refusal_row NotFound = (203, codes "Nothing has this name")
+refusal_row ManyObjects = (204, codes "There are more than 64 objects")
 
 -- the number of an error of an export
 abbrev pub refusal_number : Refusal → ℕ

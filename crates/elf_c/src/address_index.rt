@@ -1,8 +1,8 @@
-//! The symbols of many addresses, by an index in words of the caller (gABI, "Symbol Table"; the
+//! The symbols of many addresses, by an index in words and numbers of the caller (gABI, "Symbol Table"; the
 //! index is this project's own).
 
 ghost use Rattle.std.specs.Prelude.{◌≡◌, ◌≤◌, ◌<◌, ℕ, Err, IfOk, MatchResult, OnErr, Ok, Result};
-ghost use Rattle.std.specs.Prelude.{Some, drop, length, map, slice_get, take};
+ghost use Rattle.std.specs.Prelude.{Some, length, map, slice_get};
 ghost use Rattle.elf_addresses.specs.Index.{IsWellBuilt};
 ghost use Rattle.elf_addresses.specs.SymbolClaims.{claim_of_symbols, range_of_symbols};
 ghost use Rattle.elf_addresses.specs.SymbolClaims.{symbol_count, symbol_items};
@@ -22,7 +22,7 @@ use crate::names::{Range, bytes_in};
 use crate::status::{Refusal, give};
 use crate::symbol_tables::{AnySymbols, SymbolTable, order_of, symbols_by};
 use crate::symbols::{NO_SYMBOL, Symbol};
-use elf_addresses::{AddressSymbols, At, SymbolClaims, SymbolIndex};
+use elf_addresses::{AddressSymbols, At, IndexSize, SymbolIndex};
 use elf_base::bytes::Order;
 use xmas_elf::bytes::{Record, Table};
 use xmas_elf::symbol_table::{DynEntry32, DynEntry64, Entry};
@@ -38,6 +38,8 @@ pub struct AddressIndex {
     pub indices: Range,
     /// The number of words that the index takes.
     pub words: u64,
+    /// The number of numbers of 64 bits that the index takes.
+    pub numbers: u64,
     /// The number of symbols with a size in the index; 0 if it was not built.
     pub sized_count: u64,
     /// The number of symbols of size 0 in the index; 0 if it was not built.
@@ -68,6 +70,7 @@ pub struct SymbolAt {
 #[derive(Clone, Copy, Debug)]
 pub(crate) struct Sizes {
     words: u64,
+    numbers: u64,
     sized_count: u64,
     open_count: u64,
 }
@@ -129,35 +132,39 @@ pub(crate) fn addresses_by<'a>(
     }
 }
 
-// Builds an index in words, and returns its sizes; without words, the number that it takes.
+// Builds an index in words and numbers, and returns its sizes; without words, how many it takes.
 fn build<E: Entry + Record>(
     symbols: &AddressSymbols<'_, E>,
     within: Option<u32>,
     words: &mut [u32],
+    numbers: &mut [u64],
 ) -> Result<Sizes, Refusal>
     ensures exact { result ≡ sizes_with (claim_of_symbols E.fields symbols.now within)
-        (symbol_count symbols.now) words.old }
+        (symbol_count symbols.now) words.old numbers.old }
     ensures built { IfOk result (λ sizes. sizes.words ≤ length words.old
         → IsIndexWith (claim_of_symbols E.fields symbols.now within)
-        (range_of_symbols E.fields symbols.now) sizes.sized_count sizes.open_count words.new) }
+        (range_of_symbols E.fields symbols.now) sizes.sized_count sizes.open_count words.new
+        numbers.new) }
     ensures unchanged { IfOk result (λ sizes. length words.old < sizes.words
-        → words.new ≡ words.old) }
-    ensures refused { OnErr result (words.new ≡ words.old) }
+        → (words.new ≡ words.old) × (numbers.new ≡ numbers.old)) }
+    ensures refused { OnErr result ((words.new ≡ words.old) × (numbers.new ≡ numbers.old)) }
 {
-    let count = SymbolIndex::words(symbols, within);
+    let size = SymbolIndex::size(symbols, within);
+    let count = size.words();
     if words.is_empty() && count > 0 {
         return Ok(Sizes {
             words: count as u64,
+            numbers: size.numbers() as u64,
             sized_count: 0,
             open_count: 0,
         });
     }
-    SymbolIndex::build(symbols, within, words)?;
-    let index = SymbolIndex::lend(symbols, within, words);
+    SymbolIndex::build(symbols, within, words, numbers)?;
     Ok(Sizes {
         words: count as u64,
-        sized_count: index.sized.len() as u64,
-        open_count: index.starts.len() as u64,
+        numbers: size.numbers() as u64,
+        sized_count: size.sized as u64,
+        open_count: size.open as u64,
     })
 }
 
@@ -166,17 +173,20 @@ fn build_in(
     all: &AnyAddresses<'_>,
     within: Option<u32>,
     words: &mut [u32],
+    numbers: &mut [u64],
 ) -> Result<Sizes, Refusal>
-    ensures exact { result ≡ index_sizes_of (addresses_in_table all.now) within words.old }
+    ensures exact { result
+        ≡ index_sizes_of (addresses_in_table all.now) within words.old numbers.old }
     ensures built { IfOk result (λ sizes. sizes.words ≤ length words.old
-        → IsIndexIn (addresses_in_table all.now) within sizes.sized_count sizes.open_count words.new) }
+        → IsIndexIn (addresses_in_table all.now) within sizes.sized_count sizes.open_count words.new
+        numbers.new) }
     ensures unchanged { IfOk result (λ sizes. length words.old < sizes.words
-        → words.new ≡ words.old) }
-    ensures refused { OnErr result (words.new ≡ words.old) }
+        → (words.new ≡ words.old) × (numbers.new ≡ numbers.old)) }
+    ensures refused { OnErr result ((words.new ≡ words.old) × (numbers.new ≡ numbers.old)) }
 {
     match all {
-        AnyAddresses::Narrow(symbols) => build(symbols, within, words),
-        AnyAddresses::Wide(symbols) => build(symbols, within, words),
+        AnyAddresses::Narrow(symbols) => build(symbols, within, words, numbers),
+        AnyAddresses::Wide(symbols) => build(symbols, within, words, numbers),
     }
 }
 
@@ -188,21 +198,23 @@ fn build_by(
     machine: u16,
     within: u32,
     words: &mut [u32],
+    numbers: &mut [u64],
 ) -> Result<AddressIndex, Refusal>
     ensures exact { result
-        ≡ index_of input.now table.now indices.now machine within words.old }
+        ≡ index_of input.now table.now indices.now machine within words.old numbers.old }
     ensures built { IfOk result (λ index. index.words ≤ length words.old
-        → IsIndexOf input.now index words.new) }
+        → IsIndexOf input.now index words.new numbers.new) }
     ensures unchanged { IfOk result (λ index. length words.old < index.words
-        → words.new ≡ words.old) }
-    ensures refused { OnErr result (words.new ≡ words.old) }
+        → (words.new ≡ words.old) × (numbers.new ≡ numbers.old)) }
+    ensures refused { OnErr result ((words.new ≡ words.old) × (numbers.new ≡ numbers.old)) }
 {
     let all = addresses_by(input, table, indices, machine)?;
-    let sizes = build_in(&all, within_of(within), words)?;
+    let sizes = build_in(&all, within_of(within), words, numbers)?;
     Ok(AddressIndex {
         table: *table,
         indices: *indices,
         words: sizes.words,
+        numbers: sizes.numbers,
         sized_count: sizes.sized_count,
         open_count: sizes.open_count,
         within,
@@ -211,8 +223,8 @@ fn build_by(
 }
 
 /// Builds an index of the symbols of a table that name addresses (`elf_addresses::AddressSymbols`),
-/// in the first of `words`, for `xmas_elf_symbols_at`. If `words` is empty, only the number of words
-/// that the index takes is found: `out.words`.
+/// in the first of `words` and of `numbers`, for `xmas_elf_symbols_at`. If `words` is empty, only how
+/// many of both the index takes is found: `out.words` and `out.numbers`.
 ///
 /// `table` is the record of `xmas_elf_symbols_open` or `xmas_elf_dynamic_symbols_open` for the same
 /// bytes. `indices` is the range of the section of type SHT_SYMTAB_SHNDX that belongs to the symbols,
@@ -223,7 +235,8 @@ fn build_by(
 /// a whole number of them; `DataRange` if the string table extends past the end of the input;
 /// `DataRange` if the range of indices does; `NotMultiple` if it is not a whole number of words;
 /// `ManySymbols` if there are 2 to the 32 symbols or more; `FewWords` if there are words, and too few
-/// of them. After an error, and if only their number is asked for, `words` is as it was.
+/// of them, or too few numbers. After an error, and if only their number is asked for, `words` and
+/// `numbers` are as they were.
 #[unsafe(no_mangle)]
 pub extern "C" fn xmas_elf_address_index(
     input: &[u8],
@@ -232,18 +245,27 @@ pub extern "C" fn xmas_elf_address_index(
     indices: &Range,
     within: u32,
     words: &mut [u32],
+    numbers: &mut [u64],
     out: &mut AddressIndex,
 ) -> u32
     ensures exact { GivesHere
-        (index_of input.now table.now indices.now header.now.machine within words.old)
+        (index_of input.now table.now indices.now header.now.machine within words.old numbers.old)
         out.old result out.new }
     ensures built { result ≡ 0 → out.new.words ≤ length words.old
-        → IsIndexOf input.now out.new words.new }
+        → IsIndexOf input.now out.new words.new numbers.new }
     ensures unchanged { (result ≡ 0 → length words.old < out.new.words)
-        → words.new ≡ words.old }
+        → (words.new ≡ words.old) × (numbers.new ≡ numbers.old) }
 {
     give(
-        build_by(input, table, indices, header.machine, within, words),
+        build_by(
+            input,
+            table,
+            indices,
+            header.machine,
+            within,
+            words,
+            numbers,
+        ),
         out,
     )
 }
@@ -279,7 +301,8 @@ fn find_one<E: Entry + Record>(index: &SymbolIndex<'_, '_, '_, E>, address: u64)
         let claim_of = claim_of_symbols E.fields claims.symbols.now claims.within in
         IsAnswer claim_of (map E.fields (symbol_items claims.symbols.now))
         (IsWellBuilt claim_of (range_of_symbols E.fields claims.symbols.now)
-        index.now.sized.now index.now.lasting.now index.now.starts.now) address result }
+        index.now.sized.now index.now.begins.now index.now.sizes.now index.now.lasting.now
+        index.now.starts.now) address result }
 {
     SymbolAt::of(index.symbol_at(address))
 }
@@ -294,7 +317,8 @@ fn find_each<E: Entry + Record>(
         let claim_of = claim_of_symbols E.fields claims.symbols.now claims.within in
         AreStored (IsAnswer claim_of (map E.fields (symbol_items claims.symbols.now))
         (IsWellBuilt claim_of (range_of_symbols E.fields claims.symbols.now)
-        index.now.sized.now index.now.lasting.now index.now.starts.now))
+        index.now.sized.now index.now.begins.now index.now.sizes.now index.now.lasting.now
+        index.now.starts.now))
         addresses.now out.old out.new }
 {
     let count = addresses.len().min(out.len());
@@ -303,24 +327,12 @@ fn find_each<E: Entry + Record>(
     }
 }
 
-// The first words, and the rest; all words if there are no more.
-#[inline(always)]
-fn split(words: &[u32], count: u64) -> (&[u32], &[u32])
-    ensures front { result.0.now ≡ take count words.now }
-    ensures back { result.1.now ≡ drop count words.now }
-{
-    if count <= words.len() as u64 {
-        words.split_at(count as usize)
-    } else {
-        (words, &[])
-    }
-}
-
-// Stores the symbol of each address by the index in words.
+// Stores the symbol of each address by the index in words and numbers.
 fn find_all<E: Entry + Record>(
     symbols: &AddressSymbols<'_, E>,
     index: &AddressIndex,
     words: &[u32],
+    numbers: &[u64],
     addresses: &[u64],
     out: &mut [SymbolAt],
 )
@@ -328,18 +340,14 @@ fn find_all<E: Entry + Record>(
         (within_of index.now.within) in
         AreStored (IsAnswer claim_of (map E.fields (symbol_items symbols.now))
         (IsIndexWith claim_of (range_of_symbols E.fields symbols.now) index.now.sized_count
-        index.now.open_count words.now)) addresses.now out.old out.new }
+        index.now.open_count words.now numbers.now)) addresses.now out.old out.new }
 {
-    let (sized, rest) = split(words, index.sized_count);
-    let (lasting, rest) = split(rest, index.sized_count);
-    let (starts, _rest) = split(rest, index.open_count);
     let within = within_of(index.within);
-    let index = SymbolIndex {
-        claims: SymbolClaims { symbols, within },
-        sized,
-        lasting,
-        starts,
+    let size = IndexSize {
+        sized: index.sized_count as usize,
+        open: index.open_count as usize,
     };
+    let index = SymbolIndex::lend(symbols, within, size, words, numbers);
     find_each(&index, addresses, out);
 }
 
@@ -348,15 +356,16 @@ fn find_in(
     all: &AnyAddresses<'_>,
     index: &AddressIndex,
     words: &[u32],
+    numbers: &[u64],
     addresses: &[u64],
     out: &mut [SymbolAt],
 )
-    ensures { AreStored (IsAnswerIn (addresses_in_table all.now) index.now words.now)
+    ensures { AreStored (IsAnswerIn (addresses_in_table all.now) index.now words.now numbers.now)
         addresses.now out.old out.new }
 {
     match all {
-        AnyAddresses::Narrow(symbols) => find_all(symbols, index, words, addresses, out),
-        AnyAddresses::Wide(symbols) => find_all(symbols, index, words, addresses, out),
+        AnyAddresses::Narrow(symbols) => find_all(symbols, index, words, numbers, addresses, out),
+        AnyAddresses::Wide(symbols) => find_all(symbols, index, words, numbers, addresses, out),
     }
 }
 
@@ -365,22 +374,25 @@ fn find_by(
     input: &[u8],
     index: &AddressIndex,
     words: &[u32],
+    numbers: &[u64],
     addresses: &[u64],
     out: &mut [SymbolAt],
 ) -> Result<(), Refusal>
-    ensures { AreAnswered input.now index.now words.now addresses.now out.old result out.new }
+    ensures { AreAnswered input.now index.now words.now numbers.now addresses.now out.old result
+        out.new }
 {
     let all = addresses_by(input, &index.table, &index.indices, index.machine)?;
-    find_in(&all, index, words, addresses, out);
+    find_in(&all, index, words, numbers, addresses, out);
     Ok(())
 }
 
 /// The symbols of many addresses: for each the innermost of those that name addresses and cover it
 /// (`elf_addresses::SymbolIndex::symbol_at`), as many as there are addresses, and as fit in `out`.
 ///
-/// `index` and `words` are those of `xmas_elf_address_index` for the same bytes. Any others may be
-/// given, as the ranges are compared with the input in each call, and each word is tested: a symbol
-/// that is found then covers the address too, but may not be the innermost, and one may be missed.
+/// `index`, `words` and `numbers` are those of `xmas_elf_address_index` for the same bytes. Any others
+/// may be given, as the ranges are compared with the input in each call, and the symbol that is found
+/// with the address: it then covers the address too, but may be another than the innermost, or one
+/// that names no address, and one may be missed.
 ///
 /// Errors: those of `xmas_elf_address_index` for the ranges; `out` is then unchanged.
 #[unsafe(no_mangle)]
@@ -388,15 +400,20 @@ pub extern "C" fn xmas_elf_symbols_at(
     input: &[u8],
     index: &AddressIndex,
     words: &[u32],
+    numbers: &[u64],
     addresses: &[u64],
     out: &mut [SymbolAt],
 ) -> u32
     ensures exact { (answer : Result (Unit {0}) Refusal)
-        × AreAnswered input.now index.now words.now addresses.now out.old answer out.new
+        × AreAnswered input.now index.now words.now numbers.now addresses.now out.old answer
+        out.new
         × GivesHere answer tt result tt }
     ensures symbols { result ≡ 0 → (k : ℕ) (one : SymbolAt) → k < length addresses.now
         → slice_get out.new k ≡ Some one → one.found ≡ 1
         → symbol_by symbol_record input.now index.now.table one.index ≡ Ok one.symbol }
 {
-    give(find_by(input, index, words, addresses, out), &mut ())
+    give(
+        find_by(input, index, words, numbers, addresses, out),
+        &mut (),
+    )
 }

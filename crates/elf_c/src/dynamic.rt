@@ -17,8 +17,7 @@ use crate::file::Parsed;
 use crate::status::{Refusal, give};
 use elf_base::bytes::Order;
 use elf_base::{ElfError, P32, P64};
-use elf_linking::LinkError;
-use elf_linking::view::dynamic_segment;
+use elf_linking::view::dynamic_bytes;
 use xmas_elf::ElfFile;
 use xmas_elf::bytes::Table;
 use xmas_elf::dynamic::Dynamic;
@@ -143,19 +142,16 @@ fn fill_from_segment(
 ) -> Result<u64, Refusal>
     ensures { Fills (dynamic_entry_at file.now) first out.old result out.new }
 {
-    let Some(segment) = dynamic_segment(file) else {
-        return Err(Refusal::Link(LinkError::NoDynamic));
-    };
-    let bytes = segment.bytes(file)?;
+    let bytes = dynamic_bytes(file)?;
     let class = file.header.pt1.class.raw();
     fill_by_class(class, file.byte_order(), bytes, first, out)
 }
 
-/// The dynamic entries of the first segment of type Dynamic from index `first` on, whatever their
+/// The dynamic entries of the last segment of type Dynamic from index `first` on, whatever their
 /// tags, also those after the entry with tag 0 (DT_NULL): as many as fit in `out`, or all. `count` is
 /// set to their number; the rest of `out` is unchanged. It needs no section headers.
 ///
-/// Errors: `NoDynamic` if there is no such segment; those of `Segment::bytes`; `UnknownClass` if the
+/// Errors: those of `elf_linking::view::dynamic_bytes`; `UnknownClass` if the
 /// class is neither 1 nor 2; `NotMultiple` if the segment is not a whole number of entries; `NoRecord`
 /// if it has no more than `first`; `out` and `count` are then unchanged.
 #[unsafe(no_mangle)]

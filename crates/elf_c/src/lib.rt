@@ -16,6 +16,7 @@ pub mod dynamic_texts;
 pub mod file;
 pub mod found_symbols;
 pub mod hash_tables;
+pub mod load_all;
 pub mod load_images;
 pub mod load_objects;
 pub mod load_plans;

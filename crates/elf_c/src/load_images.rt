@@ -20,7 +20,7 @@ use elf_base::bytes::Record;
 use elf_linking::LinkError;
 use elf_linking::scope::Scope;
 use elf_linking::view::LinkedSymbol;
-use elf_loading::{Binding, LoadError, LoadPlan, LoadScope, Loader};
+use elf_loading::{Binding, LoadPlan, LoadScope, Loader};
 use xmas_elf::ElfFile;
 use xmas_elf::symbol_table::{DynEntry32, DynEntry64};
 
@@ -91,12 +91,12 @@ fn check_objects<E: LinkedSymbol>(
 {
     let objects = match objects_of::<E>(loads) {
         Ok(objects) => objects,
-        Err(error) => return Err(Refusal::Link(error)),
+        Err(failed) => return Err(Refusal::Link(failed.1)),
     };
     let own = &objects.all[..loads.len()];
     let plans = match plans_of(own, page, limit) {
         Ok(plans) => plans,
-        Err(error) => return Err(Refusal::Load(error)),
+        Err(failed) => return Err(Refusal::Load(failed.1)),
     };
     let scope = Scope::new(own);
     let planned = LoadScope::new(scope, &plans.all[..loads.len()]);
@@ -122,7 +122,7 @@ fn check(
         return Err(Refusal::Link(LinkError::ObjectIndex));
     }
     if loads.len() > MOST_OBJECTS {
-        return Err(Refusal::Load(LoadError::ImageSize));
+        return Err(Refusal::ManyObjects);
     }
     if is_first_narrow(loads) {
         check_objects::<DynEntry32>(loads, of, page, limit, marks)
@@ -138,7 +138,7 @@ fn check(
 /// `page` and `limit` are as in `xmas_elf_load_plan`. `marks` has a bit for each byte of the span of
 /// the object's plan, so a byte for each eight, and one more; what it holds is overwritten.
 ///
-/// Errors: `ImageSize` if there are more than 64 objects; those of `DynamicObject::read_reached`, of
+/// Errors: `ManyObjects` if there are more than 64 objects; those of `DynamicObject::read_reached`, of
 /// the first file that has one; those of `xmas_elf_load_plan`, of the first file that has one; those
 /// of the check.
 #[unsafe(no_mangle)]
@@ -177,13 +177,13 @@ fn relocate_objects<E: LinkedSymbol>(
 {
     let objects = match objects_of::<E>(loads) {
         Ok(objects) => objects,
-        Err(error) => return Err(Refusal::Link(error)),
+        Err(failed) => return Err(Refusal::Link(failed.1)),
     };
     let count = loads.len();
     let own = &objects.all[..count];
     let plans = match plans_of(own, page, limit) {
         Ok(plans) => plans,
-        Err(error) => return Err(Refusal::Load(error)),
+        Err(failed) => return Err(Refusal::Load(failed.1)),
     };
     let (places, images) = (places_of(loads), images_of(loads));
     let scope = Scope::new(own);
@@ -212,7 +212,7 @@ fn relocate(
         return Err(Refusal::Link(LinkError::ObjectIndex));
     }
     if loads.len() > MOST_OBJECTS {
-        return Err(Refusal::Load(LoadError::ImageSize));
+        return Err(Refusal::ManyObjects);
     }
     if is_first_narrow(loads) {
         relocate_objects::<DynEntry32>(loads, of, when, page, limit, image)
@@ -230,7 +230,7 @@ fn relocate(
 /// `xmas_elf_load_image` writes, and is no part of the `image` of an object. `lazy` is 1 if jump slots
 /// get their symbols when a function is called first, and any other number if they get them now.
 ///
-/// Errors: `ImageSize` if there are more than 64 objects; those of `DynamicObject::read_reached`, of
+/// Errors: `ManyObjects` if there are more than 64 objects; those of `DynamicObject::read_reached`, of
 /// the first file that has one; those of `xmas_elf_load_plan`, of the first file that has one; those
 /// of the library's call. `count` is then unchanged, and the words before the first that can't be
 /// written are written.

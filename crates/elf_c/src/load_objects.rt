@@ -3,7 +3,7 @@
 ghost use Rattle.std.specs.Prelude.{◌≡◌, ◌<◌, ◌≤◌, MatchResult, Some, ℕ, length, slice_get, take};
 ghost use Rattle.elf_base.specs.FileHeader.{header_of};
 ghost use Rattle.elf_c.specs.LoadObjects.{AreImagesOf, AreObjectsOf, ArePadded, ArePlacesOf};
-ghost use Rattle.elf_c.specs.LoadObjects.{ArePlansOf, IsFirstRefused, IsFirstUnplanned};
+ghost use Rattle.elf_c.specs.LoadObjects.{ArePlansOf, IsRefusedAt, IsUnplannedAt};
 ghost use Rattle.elf_c.specs.LoadObjects.{IsObjectOfBytes, IsPlanFor, IsRefusedAsObject, LacksPlan};
 ghost use Rattle.elf_c.specs.LoadObjects.{is_first_narrow, is_narrow_header, load_place, when_of};
 
@@ -95,25 +95,26 @@ pub(crate) struct Objects<'a, E: Record> {
     pub(crate) all: [DynamicObject<'a, E>; MOST_OBJECTS],
 }
 
-// The objects of the files in their order; after them the first again.
+// The objects of the files in their order; after them the first again. The error is that of the file at an
+// index.
 pub(crate) fn objects_of<'a, E: LinkedSymbol>(
     loads: &[LoadObject<'a>],
-) -> Result<Objects<'a, E>, LinkError>
+) -> Result<Objects<'a, E>, (usize, LinkError)>
     requires some { 0 < length loads.now }
     requires fit { length loads.now ≤ MOST_OBJECTS }
     ensures { MatchResult result
         (λ objects. AreObjectsOf E.CLASS E.SIZE loads.now (take (length loads.now) objects.all))
-        (IsFirstRefused {E = E} E.Record E.CLASS E.SIZE loads.now) }
+        (λ failed. IsRefusedAt {E = E} E.Record E.CLASS E.SIZE loads.now failed.0 failed.1) }
 {
     let first = match read_object::<E>(loads[0].file) {
         Ok(first) => first,
-        Err(error) => return Err(error),
+        Err(error) => return Err((0, error)),
     };
     let mut objects = [first; MOST_OBJECTS];
     for index in 1..loads.len() {
         match read_object(loads[index].file) {
             Ok(object) => objects[index] = object,
-            Err(error) => return Err(error),
+            Err(error) => return Err((index, error)),
         }
     }
     Ok(Objects { all: objects })
@@ -138,28 +139,29 @@ pub(crate) struct Plans<'a> {
     pub(crate) all: [LoadPlan<'a>; MOST_OBJECTS],
 }
 
-// The plans of the objects in their order; after them that of the first again.
+// The plans of the objects in their order; after them that of the first again. The error is that of the
+// object at an index.
 pub(crate) fn plans_of<'a, E: LinkedSymbol>(
     objects: &[DynamicObject<'a, E>],
     page: u64,
     limit: u64,
-) -> Result<Plans<'a>, LoadError>
+) -> Result<Plans<'a>, (usize, LoadError)>
     requires paged { 0 < page }
     requires some { 0 < length objects.now }
     requires fit { length objects.now ≤ MOST_OBJECTS }
     ensures { MatchResult result
         (λ plans. ArePlansOf page limit objects.now (take (length objects.now) plans.all))
-        (IsFirstUnplanned page limit objects.now) }
+        (λ failed. IsUnplannedAt page limit objects.now failed.0 failed.1) }
 {
     let first = match read_plan(&objects[0], page, limit) {
         Ok(first) => first,
-        Err(error) => return Err(error),
+        Err(error) => return Err((0, error)),
     };
     let mut plans = [first; MOST_OBJECTS];
     for index in 1..objects.len() {
         match read_plan(&objects[index], page, limit) {
             Ok(plan) => plans[index] = plan,
-            Err(error) => return Err(error),
+            Err(error) => return Err((index, error)),
         }
     }
     Ok(Plans { all: plans })

@@ -96,6 +96,9 @@ pub struct LoadMapping {
     pub contents: u32,
 }
 
+// The machine of AArch64 (EM_AARCH64).
+const AARCH64: u16 = 183;
+
 // The size of a page; 0 means 4096.
 #[inline(always)]
 pub(crate) fn page_of(page: u64) -> u64
@@ -114,10 +117,12 @@ pub(crate) fn limit_of(file: &ElfFile<'_>, limit: u64) -> u64
         return limit;
     }
     if file.header.pt1.class.raw() == 1 {
-        0xffff_e000
-    } else {
-        0x7fff_ffff_f000
+        return 0xffff_e000;
     }
+    if file.header.pt2.machine().raw() == AARCH64 {
+        return 0x1_0000_0000_0000;
+    }
+    0x7fff_ffff_f000
 }
 
 // The loader of a number.
@@ -235,8 +240,9 @@ fn plan_of(file: &ElfFile<'_>, page: u64, limit: u64) -> Result<Plan, Refusal>
 ///
 /// `page` is the size of a page, a power of two; 0 means 4096. `limit` is the end of the
 /// addresses that a loader may use; 0 means that of Linux on 386 for a file of class 32,
-/// 0xffffe000, and otherwise on x86-64, 0x7ffffffff000. The range of the interpreter's path lies in
-/// the input. The errors are those of `elf_loading::LoadPlan::check_load`.
+/// 0xffffe000, on AArch64 for another one for it, 0x1000000000000, and otherwise on x86-64,
+/// 0x7ffffffff000. The range of the interpreter's path lies in the input. The errors are those of
+/// `elf_loading::LoadPlan::check_load`.
 #[unsafe(no_mangle)]
 pub extern "C" fn xmas_elf_load_plan(
     input: &[u8],

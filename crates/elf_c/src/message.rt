@@ -107,6 +107,7 @@ fn refusal_with(number: u32) -> Option<Refusal>
         201 => Some(Refusal::OtherData),
         202 => Some(Refusal::NoRecord),
         203 => Some(Refusal::NotFound),
+        204 => Some(Refusal::ManyObjects),
         _ => library_refusal(number),
     }
 }
@@ -124,6 +125,7 @@ impl Refusal {
             Refusal::OtherData => "A section holds other data than what is asked for",
             Refusal::NoRecord => "A table has no record with this index",
             Refusal::NotFound => "Nothing has this name",
+            Refusal::ManyObjects => "There are more than 64 objects",
         }
     }
 }

@@ -3,7 +3,7 @@
 ghost use Rattle.std.specs.Prelude.{◌≡◌, ◌<◌, ◌^◌, ℕ, List, Ok, Result, length, map};
 ghost use Rattle.std.specs.Prelude.{max};
 ghost use Rattle.std.specs.Iterator.{Drains, IsFinite, size};
-ghost use Rattle.elf_addresses.specs.FileClaims.{piece_words};
+ghost use Rattle.elf_addresses.specs.FileClaims.{piece_numbers, piece_words};
 ghost use Rattle.elf_addresses.specs.SymbolClaims.{claim_of_symbols, symbol_count};
 ghost use Rattle.elf_c.specs.AddressIndex.{addresses_in_table, within_of};
 ghost use Rattle.elf_c.specs.Parsed.{file_of};
@@ -62,6 +62,8 @@ pub struct Piece {
 pub struct PieceSizes {
     /// The number of words that the call takes.
     pub words: u64,
+    /// The number of numbers of 64 bits that the call takes.
+    pub numbers: u64,
     /// The number of all pieces of the file; 0 if only the number of words was asked for.
     pub count: u64,
 }
@@ -163,34 +165,38 @@ fn store_file(
     file: &ElfFile<'_>,
     first: u64,
     words: &mut [u32],
+    numbers: &mut [u64],
     out: &mut [Piece],
 ) -> Result<u64, Refusal>
-    ensures { Lists (few_words (piece_words file.now) words.old) (IsWhole file.now) piece_record
-        first out.old result out.new }
+    ensures { Lists (few_words (piece_words file.now) (piece_numbers file.now) words.old numbers.old)
+        (IsWhole file.now) piece_record first out.old result out.new }
 {
-    let pieces = Pieces::new(file, words)?;
+    let pieces = Pieces::new(file, words, numbers)?;
     Ok(store(pieces, first, out))
 }
 
-// The same, with the number of words; without words, only that number.
+// The same, with how many words and numbers it takes; without words, only that.
 fn list_pieces(
     file: &ElfFile<'_>,
     first: u64,
     words: &mut [u32],
+    numbers: &mut [u64],
     out: &mut [Piece],
 ) -> Result<PieceSizes, Refusal>
-    ensures { AreCounted file.now first words.old out.old result out.new }
+    ensures { AreCounted file.now first words.old numbers.old out.old result out.new }
 {
     let needed = Pieces::words(file) as u64;
     if words.is_empty() && needed > 0 {
         return Ok(PieceSizes {
             words: needed,
+            numbers: Pieces::numbers(file) as u64,
             count: 0,
         });
     }
-    let count = store_file(file, first, words, out)?;
+    let count = store_file(file, first, words, numbers, out)?;
     Ok(PieceSizes {
         words: needed,
+        numbers: Pieces::numbers(file) as u64,
         count,
     })
 }
@@ -199,24 +205,28 @@ fn list_pieces(
 /// A piece is a longest run of bytes that belong to one part (`elf_addresses::Pieces`). Every byte of
 /// the file is in exactly one piece, and the sizes of the pieces sum to the size of the file.
 ///
-/// `sizes` is set to the number of words that the call takes, and to the number of all pieces. If
-/// `words` is empty, and the call takes some, only the number of words is found. The error is
-/// `FewWords` if there are words, and too few of them; `out` and `sizes` are then unchanged.
-/// `words` may hold anything before and after the call.
+/// `sizes` is set to how many words and numbers the call takes, and to the number of all pieces. If
+/// `words` is empty, and the call takes some, only how many it takes is found. The error is `FewWords`
+/// if there are words, and too few of them or of the numbers; `out` and `sizes` are then unchanged.
+/// `words` and `numbers` may hold anything before and after the call.
 #[unsafe(no_mangle)]
 pub extern "C" fn xmas_elf_pieces(
     input: &[u8],
     header: &Parsed,
     first: u64,
     words: &mut [u32],
+    numbers: &mut [u64],
     out: &mut [Piece],
     sizes: &mut PieceSizes,
 ) -> u32
     ensures { (answer : Result PieceSizes Refusal)
-        × AreCounted (file_of input.entry header.now) first words.old out.old answer out.new
+        × AreCounted (file_of input.entry header.now) first words.old numbers.old out.old answer out.new
         × GivesHere answer sizes.old result sizes.new }
 {
-    give(list_pieces(&header.file(input), first, words, out), sizes)
+    give(
+        list_pieces(&header.file(input), first, words, numbers, out),
+        sizes,
+    )
 }
 
 // Stores the pieces of a range of addresses by symbols, and returns the number of all.
@@ -226,14 +236,15 @@ fn store_symbols<E: Entry + Record>(
     range: (u64, u64),
     first: u64,
     words: &mut [u32],
+    numbers: &mut [u64],
     out: &mut [Piece],
 ) -> Result<u64, Refusal>
     ensures { let claim_of = claim_of_symbols E.fields symbols.now within in
-        Lists (runs_refused claim_of (symbol_count symbols.now) words.old)
+        Lists (runs_refused claim_of (symbol_count symbols.now) words.old numbers.old)
         (AreRuns claim_of (max range.0 range.1) range.0) run_record first out.old result out.new }
 {
     let (begin, end) = range;
-    let pieces = SymbolPieces::new(symbols, within, begin, end, words)?;
+    let pieces = SymbolPieces::new(symbols, within, begin, end, words, numbers)?;
     Ok(store(pieces, first, out))
 }
 
@@ -244,13 +255,19 @@ fn store_any(
     range: (u64, u64),
     first: u64,
     words: &mut [u32],
+    numbers: &mut [u64],
     out: &mut [Piece],
 ) -> Result<u64, Refusal>
-    ensures { AreListedIn (addresses_in_table all.now) within range first words.old out.old result out.new }
+    ensures { AreListedIn (addresses_in_table all.now) within range first words.old numbers.old
+        out.old result out.new }
 {
     match all {
-        AnyAddresses::Narrow(symbols) => store_symbols(symbols, within, range, first, words, out),
-        AnyAddresses::Wide(symbols) => store_symbols(symbols, within, range, first, words, out),
+        AnyAddresses::Narrow(symbols) => store_symbols(
+            symbols, within, range, first, words, numbers, out,
+        ),
+        AnyAddresses::Wide(symbols) => store_symbols(
+            symbols, within, range, first, words, numbers, out,
+        ),
     }
 }
 
@@ -261,12 +278,21 @@ fn list_symbols(
     range: (u64, u64),
     first: u64,
     words: &mut [u32],
+    numbers: &mut [u64],
     out: &mut [Piece],
 ) -> Result<u64, Refusal>
-    ensures { AreListed input.now index.now range first words.old out.old result out.new }
+    ensures { AreListed input.now index.now range first words.old numbers.old out.old result out.new }
 {
     let all = addresses_by(input, &index.table, &index.indices, index.machine)?;
-    store_any(&all, within_of(index.within), range, first, words, out)
+    store_any(
+        &all,
+        within_of(index.within),
+        range,
+        first,
+        words,
+        numbers,
+        out,
+    )
 }
 
 /// The pieces of the addresses from `begin` up to `end`, from index `first` on, in their order: as many
@@ -274,9 +300,9 @@ fn list_symbols(
 /// (`elf_addresses::SymbolPieces`). Every address is in exactly one piece. `count` is set to the number
 /// of all pieces; there are none if `end` is not above `begin`.
 ///
-/// `index` is the record of `xmas_elf_address_index` for the same bytes, of which the symbols, `within`
-/// and `words`, the number of words that the call takes, are used. The words may hold anything before
-/// and after the call. For a section the addresses are its own, in an object file the offsets in it,
+/// `index` is the record of `xmas_elf_address_index` for the same bytes, of which the symbols and
+/// `within` are used. The call takes `index.words` words and `index.numbers` numbers, which may hold
+/// anything before and after the call. For a section the addresses are its own, in an object file the offsets in it,
 /// and `within` is its index.
 ///
 /// Errors: those of `xmas_elf_address_index`; `out` and `count` are then unchanged.
@@ -288,15 +314,16 @@ pub extern "C" fn xmas_elf_symbol_pieces(
     end: u64,
     first: u64,
     words: &mut [u32],
+    numbers: &mut [u64],
     out: &mut [Piece],
     count: &mut u64,
 ) -> u32
     ensures { (answer : Result ℕ Refusal)
-        × AreListed input.now index.now (begin, end) first words.old out.old answer out.new
+        × AreListed input.now index.now (begin, end) first words.old numbers.old out.old answer out.new
         × GivesHere answer count.old result count.new }
 {
     give(
-        list_symbols(input, index, (begin, end), first, words, out),
+        list_symbols(input, index, (begin, end), first, words, numbers, out),
         count,
     )
 }

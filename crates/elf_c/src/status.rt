@@ -33,6 +33,8 @@ pub enum Refusal {
     NoRecord,
     /// Nothing has this name.
     NotFound,
+    /// There are more objects than a call takes.
+    ManyObjects,
 }
 
 impl From<ElfError> for Refusal {
@@ -128,6 +130,7 @@ impl Numbered for Refusal {
             Refusal::OtherData => 201,
             Refusal::NoRecord => 202,
             Refusal::NotFound => 203,
+            Refusal::ManyObjects => 204,
         }
     }
 }

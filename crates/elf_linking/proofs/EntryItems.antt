@@ -1,9 +1,7 @@
 -- The remaining entries of an iterator, one by one.
 use Rattle.std.proofs.Common.{◌≡◌, ◌≢◌, ℕ, ◌==◌, ◌<◌, ◌≤◌, suc, length, arith, Bool, true, false, List, [], ◌∷◌, None, Some, if◌then◌else◌, refl, ap, ◌∙◌}
 use Rattle.std.proofs.lemmas.Bool.{eq-eqb, ne_eqb}
-use Rattle.std.specs.List.{find}
 use Rattle.elf_linking.specs.DynamicView.{entries_left, pairs_left, until_null}
-use Rattle.elf_linking.proofs.Firsts.{find_hit, find_none, find_other}
 use Rattle.elf_linking.specs.declared.view.entries.DynamicEntries.{DynamicEntries}
 use Rattle.elf_records.specs.Dynamic.{dynamic_tag}
 use Rattle.elf_records.specs.declared.dynamic.Dynamic.{Dynamic}
@@ -30,16 +28,6 @@ left_first iter entry others going is other = rw going (ap until_null is ∙ rw 
 
 pub left_going : (iter : DynamicEntries) → iter.ended ≡ false → entries_left iter ≡ until_null (pairs_left iter.rest)
 left_going iter going = rw going refl
-
--- a search for a tag, entry by entry
-pub number_none : (tag : ℕ) (entries : List (Dynamic ℕ)) → entries ≡ [] → find (λ (entry : Dynamic ℕ). dynamic_tag entry == tag) entries ≡ None
-number_none tag entries is = find_none (λ (entry : Dynamic ℕ). dynamic_tag entry == tag) entries is
-
-pub number_hit : (tag : ℕ) (entries others : List (Dynamic ℕ)) (entry : Dynamic ℕ) → entries ≡ entry ∷ others → dynamic_tag entry ≡ tag → find (λ (entry : Dynamic ℕ). dynamic_tag entry == tag) entries ≡ Some entry
-number_hit tag entries others entry is same = find_hit (λ (entry : Dynamic ℕ). dynamic_tag entry == tag) entries others entry is (eq-eqb (dynamic_tag entry) tag same)
-
-pub number_other : (tag : ℕ) (entries others : List (Dynamic ℕ)) (entry : Dynamic ℕ) → entries ≡ entry ∷ others → dynamic_tag entry ≢ tag → find (λ (entry : Dynamic ℕ). dynamic_tag entry == tag) entries ≡ find (λ (entry : Dynamic ℕ). dynamic_tag entry == tag) others
-number_other tag entries others entry is other = find_other (λ (entry : Dynamic ℕ). dynamic_tag entry == tag) entries others entry is (ne_eqb (dynamic_tag entry) tag other)
 
 -- the entries before the first with tag Null are no more than all entries
 few_by : (b : Bool) (entry : Dynamic ℕ) (before entries : List (Dynamic ℕ)) → length before ≤ length entries → length (if b then [] else entry ∷ before) ≤ suc (length entries)

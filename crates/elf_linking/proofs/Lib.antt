@@ -11,9 +11,10 @@ pub mod NoteItems
 pub mod SegmentRecords
 pub mod PortSegments
 pub mod Firsts
+pub mod Lasts
 pub mod LoadedBytes
 pub mod EntryItems
-pub mod FirstNumbers
+pub mod LastNumbers
 pub mod NeededItems
 pub mod NeededTexts
 pub mod ReferenceItems
@@ -40,6 +41,7 @@ mod Bindings
 pub mod DynamicObjects
 pub mod ObjectRefusals
 pub mod VersionChecks
+mod VersionCounts
 pub mod ExportSearch
 pub mod ExportChains
 mod ExportFinds

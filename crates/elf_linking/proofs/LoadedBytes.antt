@@ -1,11 +1,11 @@
--- The first loaded segment with the bytes at some addresses, in the list and by its index, and its bytes.
+-- The last loaded segment with the bytes at some addresses, in the list and by its index, and its bytes.
 use Rattle.std.proofs.Common.{◌≡◌, ◌≢◌, ℕ, zero, suc, ◌+◌, ◌-◌, ◌≤◌, ◌==◌, ◌&&◌, nat_le, true, false, List, length, take, drop, Option, Some, None, IfSome, IfNone, sym, ap, ◌∙◌, refl, subst, arith}
 use Rattle.std.proofs.lemmas.Bool.{and_from, and_parts, eq-eqb, eqb-true, le-leb, leb-true}
 use Rattle.std.proofs.lemmas.List.{drop-drop, drop-take, length-drop, length-take-le, take-take}
-use Rattle.elf_linking.specs.Loaded.{HasFileBytes, IsAt, IsFirstWithBytes, NoneHasFileBytes, has_file_bytes, segment_at_of}
+use Rattle.elf_linking.specs.Loaded.{HasFileBytes, IsAt, IsLastWithBytes, NoneHasFileBytes, has_file_bytes, segment_at_of}
 use Rattle.elf_linking.specs.Segments.{segments_of}
 use Rattle.elf_linking.specs.declared.segments.Segment.{Segment}
-use Rattle.elf_linking.proofs.Firsts.{NonePasses, found_in, none_in}
+use Rattle.elf_linking.proofs.Lasts.{NonePasses, found_in, none_in}
 use Rattle.xmas_elf.specs.Ranges.{IsRange}
 use Rattle.xmas_elf.specs.declared.ElfFile.{ElfFile}
 
@@ -26,31 +26,31 @@ not_by_test : (address count : ℕ) (segment : Segment) → has_file_bytes addre
 not_by_test address count segment fails holds =
     let passes = test_by_holds address count segment holds in cc
 
-none_below : (file : ElfFile) (address count high : ℕ) → NonePasses (has_file_bytes address count) (segments_of file) high → NoneHasFileBytes file address count high
-none_below file address count high none k d low below = not_by_test address count _ (none k d low below)
+none_from : (file : ElfFile) (address count low : ℕ) → NonePasses (has_file_bytes address count) (segments_of file) low → NoneHasFileBytes file address count low
+none_from file address count low none k d above below = not_by_test address count _ (none k d above below)
 
--- the computed segment is the first with the bytes; if there is none, no segment has them
-pub first_segment_at : (file : ElfFile) (address count : ℕ) (segment : Segment) → segment_at_of file address count ≡ Some segment → IsFirstWithBytes file address count segment
+-- the computed segment is the last with the bytes; if there is none, no segment has them
+pub last_segment_at : (file : ElfFile) (address count : ℕ) (segment : Segment) → segment_at_of file address count ≡ Some segment → IsLastWithBytes file address count segment
 unfolding segment_at_of
-first_segment_at file address count segment is =
+last_segment_at file address count segment is =
     let found = found_in (has_file_bytes address count) (segments_of file) segment is in record {
       index = found.position;
       below = found.below;
       stands = found.stands;
       holds = holds_by_test address count segment found.passes;
-      first = none_below file address count found.position found.first;
+      last = none_from file address count (found.position + 1) found.last;
     }
 
-pub no_segment_at : (file : ElfFile) (address count : ℕ) → segment_at_of file address count ≡ None → NoneHasFileBytes file address count (length (segments_of file))
+pub no_segment_at : (file : ElfFile) (address count : ℕ) → segment_at_of file address count ≡ None → NoneHasFileBytes file address count 0
 unfolding segment_at_of
-no_segment_at file address count is = none_below file address count (length (segments_of file)) (none_in (has_file_bytes address count) (segments_of file) is)
+no_segment_at file address count is = none_from file address count 0 (none_in (has_file_bytes address count) (segments_of file) is)
 
--- a result that equals the computed segment is the first with the bytes
-pub found_holds : (file : ElfFile) (address count : ℕ) (r : Option Segment) → r ≡ segment_at_of file address count → IfSome r (IsFirstWithBytes file address count)
+-- a result that equals the computed segment is the last with the bytes
+pub found_holds : (file : ElfFile) (address count : ℕ) (r : Option Segment) → r ≡ segment_at_of file address count → IfSome r (IsLastWithBytes file address count)
 found_holds file address count None is = tt
-found_holds file address count (Some segment) is = first_segment_at file address count segment (sym is)
+found_holds file address count (Some segment) is = last_segment_at file address count segment (sym is)
 
-pub missing_holds : (file : ElfFile) (address count : ℕ) (r : Option Segment) → r ≡ segment_at_of file address count → IfNone r (NoneHasFileBytes file address count (length (segments_of file)))
+pub missing_holds : (file : ElfFile) (address count : ℕ) (r : Option Segment) → r ≡ segment_at_of file address count → IfNone r (NoneHasFileBytes file address count 0)
 missing_holds file address count None is = no_segment_at file address count (sym is)
 missing_holds file address count (Some segment) is = tt
 
@@ -74,7 +74,7 @@ long_by kept size start count long within =
 
 pub is_at : (file : ElfFile) (address count start : ℕ) (segment : Segment) (kept : List ℕ) → segment_at_of file address count ≡ Some segment → length kept ≡ segment.file_size → (segment.file_size ≢ 0 → IsRange file.input.now segment.offset segment.file_size kept) → start ≡ address - segment.address → IsAt file address count (take (start + count - start) (drop start kept))
 is_at file address count start segment kept is long range begins =
-    let holder = first_segment_at file address count segment is in
+    let holder = last_segment_at file address count segment is in
     let within : start + count ≤ segment.file_size = omega (arith, begins, holder.holds.begins, holder.holds.ends) in
     let many : start + count - start ≡ count = omega arith in record {
       segment = segment;
@@ -85,7 +85,7 @@ is_at file address count start segment kept is long range begins =
     }
 
 -- if a segment has the bytes, it is not true that none has
-pub some_holds : (file : ElfFile) (address count : ℕ) (segment : Segment) → segment_at_of file address count ≡ Some segment → ¬ NoneHasFileBytes file address count (length (segments_of file))
+pub some_holds : (file : ElfFile) (address count : ℕ) (segment : Segment) → segment_at_of file address count ≡ Some segment → ¬ NoneHasFileBytes file address count 0
 some_holds file address count segment is none =
-    let holder = first_segment_at file address count segment is in
+    let holder = last_segment_at file address count segment is in
     none holder.index segment (omega arith) holder.below (subst (λ s. HasFileBytes address count s) (sym (holder.stands segment)) holder.holds)

@@ -118,8 +118,8 @@ mark_leads order bytes count n mark marks are is some =
 pub mark_whole : (order : Order) (bytes : List ℕ) (count n mark : ℕ) (marks : List ℕ) → AreMarks order bytes count marks → mark ≡ slice_index marks n → mark ≢ 0 → mark - 1 + 20 ≤ length bytes
 mark_whole order bytes count n mark marks are is some = leads_whole order bytes n 0 count (mark - 1) (mark_leads order bytes count n mark marks are is some)
 
-pub mark_first : (records : VersionRecords) (n mark : ℕ) (marks : List ℕ) → AreMarks records.order records.bytes records.count marks → mark ≡ slice_index marks n → mark ≢ 0 → Ok (Some (definition_at records (mark - 1))) ≡ first_item (defines_number n) (map (result_map (definition_at records)) (places_of records 16 0 records.count))
-mark_first records n mark marks are is some = sym (leads_first records n 0 records.count (mark - 1) (mark_leads records.order records.bytes records.count n mark marks are is some))
+pub mark_first : (records : VersionRecords) (n mark : ℕ) (marks : List ℕ) → AreMarks records.order records.bytes (length records.bytes) marks → mark ≡ slice_index marks n → mark ≢ 0 → Ok (Some (definition_at records (mark - 1))) ≡ first_item (defines_number n) (map (result_map (definition_at records)) (places_of records 16 0 (length records.bytes)))
+mark_first records n mark marks are is some = sym (leads_first records n 0 (length records.bytes) (mark - 1) (mark_leads records.order records.bytes (length records.bytes) n mark marks are is some))
 
 -- what holds of marks in these words
 abbrev pub AreLed : Order → List ℕ → ℕ → List ℕ → Type 0

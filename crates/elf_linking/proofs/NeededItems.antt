@@ -1,7 +1,7 @@
 -- The names of needed libraries, entry by entry.
 use Rattle.std.proofs.Common.{◌≡◌, ◌≢◌, ℕ, ◌==◌, ◌<◌, ◌≤◌, suc, length, arith, Bool, true, false, if◌then◌else◌, List, [], ◌∷◌, Some, Result, refl, ap, ◌∙◌}
 use Rattle.std.proofs.lemmas.Bool.{eq-eqb, ne_eqb}
-use Rattle.elf_linking.specs.DynamicView.{needed_by, number_with}
+use Rattle.elf_linking.specs.DynamicView.{needed_by, first_with}
 use Rattle.elf_linking.specs.declared.error.LinkError.{LinkError}
 use Rattle.elf_records.specs.Dynamic.{dynamic_tag, dynamic_value}
 use Rattle.elf_records.specs.declared.dynamic.Dynamic.{Dynamic}
@@ -17,11 +17,11 @@ pub needed_other : (name_at : ℕ → Result (List ℕ) LinkError) (entries othe
 needed_other name_at entries others entry is other = ap (needed_by name_at) is ∙ rw (ne_eqb (dynamic_tag entry) DT_NEEDED other) refl
 
 -- the number of the first such entry, entry by entry
-pub number_first : (entries others : List (Dynamic ℕ)) (entry : Dynamic ℕ) → entries ≡ entry ∷ others → dynamic_tag entry ≡ DT_NEEDED → number_with DT_NEEDED entries ≡ Some (dynamic_value entry)
-number_first entries others entry is tagged = ap (number_with DT_NEEDED) is ∙ rw (eq-eqb (dynamic_tag entry) DT_NEEDED tagged) refl
+pub number_first : (entries others : List (Dynamic ℕ)) (entry : Dynamic ℕ) → entries ≡ entry ∷ others → dynamic_tag entry ≡ DT_NEEDED → first_with DT_NEEDED entries ≡ Some (dynamic_value entry)
+number_first entries others entry is tagged = ap (first_with DT_NEEDED) is ∙ rw (eq-eqb (dynamic_tag entry) DT_NEEDED tagged) refl
 
-pub number_other : (entries others : List (Dynamic ℕ)) (entry : Dynamic ℕ) → entries ≡ entry ∷ others → dynamic_tag entry ≢ DT_NEEDED → number_with DT_NEEDED entries ≡ number_with DT_NEEDED others
-number_other entries others entry is other = ap (number_with DT_NEEDED) is ∙ rw (ne_eqb (dynamic_tag entry) DT_NEEDED other) refl
+pub number_other : (entries others : List (Dynamic ℕ)) (entry : Dynamic ℕ) → entries ≡ entry ∷ others → dynamic_tag entry ≢ DT_NEEDED → first_with DT_NEEDED entries ≡ first_with DT_NEEDED others
+number_other entries others entry is other = ap (first_with DT_NEEDED) is ∙ rw (ne_eqb (dynamic_tag entry) DT_NEEDED other) refl
 
 -- the names are no more than the entries
 few_by : {A : Type 0} (b : Bool) (name : A) (names : List A) (count : ℕ) → length names ≤ count → length (if b then name ∷ names else names) ≤ suc count

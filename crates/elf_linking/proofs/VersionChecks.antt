@@ -8,7 +8,7 @@ use Rattle.elf_base.specs.Refusal.{and_then}
 use Rattle.elf_base.specs.declared.bytes.Order.{Order}
 use Rattle.elf_linking.specs.VersionList.{Defined, Needed, VersionList, entry_of, named_in, versions_in}
 use Rattle.elf_linking.specs.VersionTables.{VersionTables, definitions_in, needs_in, result_map}
-use Rattle.elf_linking.specs.Versions.{CanBeRead, lacks_numbers, name_error, number_of, versions_error}
+use Rattle.elf_linking.specs.Versions.{CanBeRead, count_error, lacks_numbers, name_error, number_of, versions_error}
 use Rattle.elf_linking.specs.declared.error.LinkError.{LinkError}
 use Rattle.elf_linking.specs.declared.error.LinkError.TheVariants.{SymbolIndex}
 use Rattle.elf_linking.proofs.VersionSearch.{number_count, numbers}
@@ -75,12 +75,27 @@ names_listed tables list is =
     ∙ ap (λ first. and_then first (λ _. name_error (λ named. (entry_of named).name) (map (result_map Needed) (needs_in tables.needs)))) (names_made Defined (λ named. (entry_of named).name) (definitions_in tables.definitions))
     ∙ ap (λ rest. and_then (name_error (λ d. d.name) (definitions_in tables.definitions)) (λ _. rest)) (names_made Needed (λ named. (entry_of named).name) (needs_in tables.needs))
 
--- the result of the check of both
-pub error_listed : (tables : VersionTables) (list : VersionList) (count : ℕ) (one other : Result (Unit {0}) LinkError) → list ≡ versions_in tables → lacks_numbers list.numbers count ≡ false
-    → one ≡ name_error (λ d. d.name) (definitions_in tables.definitions) → and_then one (λ _. name_error (λ need. need.name) (needs_in tables.needs)) ≡ other → other ≡ versions_error list count
-error_listed tables list count one other listed enough first rest =
-    let reads : versions_error list count ≡ name_error (λ entry. entry.name) list.entries = rw enough refl in
-    sym rest ∙ ap (λ r. and_then r (λ _. name_error (λ need. need.name) (needs_in tables.needs))) first ∙ sym (names_listed tables list listed) ∙ sym reads
+-- the result of the check of the names of both
+pub names_checked : (tables : VersionTables) (list : VersionList) (one other : Result (Unit {0}) LinkError) → list ≡ versions_in tables
+    → one ≡ name_error (λ d. d.name) (definitions_in tables.definitions) → and_then one (λ _. name_error (λ need. need.name) (needs_in tables.needs)) ≡ other → other ≡ name_error (λ entry. entry.name) list.entries
+names_checked tables list one other listed first rest =
+    sym rest ∙ ap (λ r. and_then r (λ _. name_error (λ need. need.name) (needs_in tables.needs))) first ∙ sym (names_listed tables list listed)
+
+-- the result of the whole check, where there are enough numbers
+pub error_checked : (list : VersionList) (count : ℕ) (names other : Result (Unit {0}) LinkError) → lacks_numbers list.numbers count ≡ false
+    → names ≡ name_error (λ entry. entry.name) list.entries → and_then names (λ _. count_error list.counted) ≡ other → other ≡ versions_error list count
+error_checked list count names other enough first rest =
+    let reads : versions_error list count ≡ and_then (name_error (λ entry. entry.name) list.entries) (λ _. count_error list.counted) = rw enough refl in
+    sym rest ∙ ap (λ r. and_then r (λ _. count_error list.counted)) first ∙ sym reads
+
+-- there is no error of the count exactly if the list is counted
+counted_ok : (counted : Bool) → IsOk (count_error counted) → counted ≡ true
+counted_ok true ok = refl
+counted_ok false ok = absurd (cc)
+
+ok_counted : (counted : Bool) → counted ≡ true → IsOk (count_error counted)
+ok_counted true is = refl
+ok_counted false is = absurd (cc)
 
 -- each of some symbols has a number exactly if there are no fewer numbers than symbols
 enough : (numbers : Option (List ℕ)) (count : ℕ) → lacks_numbers numbers count ≡ false → (i : ℕ) → i < count → IsOk (number_of numbers i)
@@ -98,13 +113,16 @@ too_few (Some numbers) count is there =
     let bad : IsOk (result_map Some (ok_or {T = ℕ} None SymbolIndex)) = subst (λ o. IsOk (result_map Some (ok_or o SymbolIndex))) none ok in cc
 
 module _ (list : VersionList) where
-  to_read : (count : ℕ) (lacks : Bool) → lacks_numbers list.numbers count ≡ lacks → IsOk (if lacks then Err SymbolIndex else name_error (λ entry. entry.name) list.entries) → CanBeRead list count
+  to_read : (count : ℕ) (lacks : Bool) → lacks_numbers list.numbers count ≡ lacks → IsOk (if lacks then Err SymbolIndex else and_then (name_error (λ entry. entry.name) list.entries) (λ _. count_error list.counted)) → CanBeRead list count
   to_read count true is ok = absurd (cc)
-  to_read count false is ok = record { numbers = enough list.numbers count is; entries = names_all (λ entry. entry.name) list.entries ok }
+  to_read count false is ok =
+      let both = both_ok (name_error (λ entry. entry.name) list.entries) (count_error list.counted) ok in
+      record { numbers = enough list.numbers count is; entries = names_all (λ entry. entry.name) list.entries both.0; counted = counted_ok list.counted both.1 }
 
-  from_read : (count : ℕ) (lacks : Bool) → lacks_numbers list.numbers count ≡ lacks → CanBeRead list count → IsOk (if lacks then Err SymbolIndex else name_error (λ entry. entry.name) list.entries)
+  from_read : (count : ℕ) (lacks : Bool) → lacks_numbers list.numbers count ≡ lacks → CanBeRead list count → IsOk (if lacks then Err SymbolIndex else and_then (name_error (λ entry. entry.name) list.entries) (λ _. count_error list.counted))
   from_read count true is read = absurd (too_few list.numbers count is read.numbers)
-  from_read count false is read = all_names (λ entry. entry.name) list.entries read.entries
+  from_read count false is read =
+      ok_both (name_error (λ entry. entry.name) list.entries) (count_error list.counted) (all_names (λ entry. entry.name) list.entries read.entries) (ok_counted list.counted read.counted)
 
   pub error_read : (count : ℕ) (answer : Result (Unit {0}) LinkError) → answer ≡ versions_error list count → IsOk answer ↔ CanBeRead list count
   error_read count answer is = (

@@ -1,11 +1,9 @@
 -- The definitions and the needs, item by item: the computed items are those of the longest lists.
-use Rattle.std.proofs.Common.{◌≡◌, ℕ, suc, ◌+◌, ◌-◌, ◌^◌, ◌≤◌, ◌<◌, Bool, true, false, if◌then◌else◌, List, [], ◌∷◌, length, map, Result, Ok, Err, refl, ap, ◌∙◌, arith}
-use Rattle.std.specs.Prelude.{nat_le, nat_lt}
-use Rattle.std.proofs.lemmas.Bool.{lt-ltb, le-ltb, ltb-true, ltb-false, leb-true, leb-false}
+use Rattle.std.proofs.Common.{◌≡◌, ◌≢◌, ℕ, zero, suc, ◌-◌, ◌^◌, ◌≤◌, ◌<◌, List, [], ◌∷◌, length, map, Result, Ok, Err, refl, ap, ◌∙◌, arith}
 use Rattle.std.proofs.lemmas.List.{length-map}
 use Rattle.elf_linking.specs.declared.error.LinkError.{LinkError}
 use Rattle.elf_linking.specs.declared.error.LinkError.TheVariants.{VersionCount}
-use Rattle.elf_linking.specs.VersionTables.{AreDefinitions, AreNeeds, AreParts, ended, cut_off, too_many, enough, NeedParts, VersionRecords, definition_at, definitions_in, file_offset, first_part, result_map, joined, need_at, needs_in, part_count, parts_at, parts_within, places_of, room_of}
+use Rattle.elf_linking.specs.VersionTables.{AreDefinitions, AreNeeds, AreParts, ended, cut_off, begun, NeedParts, VersionRecords, definition_at, definitions_in, first_part, result_map, joined, need_at, needs_in, parts_at, parts_of, places_of, room_of, within_room}
 use Rattle.elf_linking.proofs.VersionPlaces.{places_are, places_fit}
 
 pub items_end : {A B : Type 0} (make : Result A LinkError → B) (items : List (Result A LinkError)) → items ≡ [] → map make items ≡ []
@@ -16,8 +14,8 @@ items_first make items others item is = ap (map make) is
 
 pub definitions_are : (records : VersionRecords) → AreDefinitions records (definitions_in records)
 definitions_are records = record {
-  places = places_of records 16 0 records.count;
-  are_places = places_are records 16 0 records.count;
+  places = places_of records 16 0 (length records.bytes);
+  are_places = places_are records 16 0 (length records.bytes);
   items_are = refl;
 }
 
@@ -27,29 +25,46 @@ items_few make records offset start count =
     let same = length-map (places_of records offset start count) (result_map make) in
     let few = places_fit records offset start count in omega (arith, same, few)
 
-pub definitions_fit : (records : VersionRecords) (bound : ℕ) → records.count < bound → length (definitions_in records) < bound
+pub definitions_fit : (records : VersionRecords) (bound : ℕ) → length records.bytes < bound → length (definitions_in records) < bound
 definitions_fit records bound fits =
-    let few = items_few (definition_at records) records 16 0 records.count in omega (arith, few, fits)
+    let few = items_few (definition_at records) records 16 0 (length records.bytes) in omega (arith, few, fits)
 
 -- the parts of needs, need by need
-pub within_end : (records : VersionRecords) (room : ℕ) (needs : List (Result ℕ LinkError)) → needs ≡ [] → parts_within records room needs ≡ []
-unfolding parts_within
-within_end records room needs is = rw is refl
+pub parts_end : (records : VersionRecords) (needs : List (Result ℕ LinkError)) → needs ≡ [] → parts_of records needs ≡ []
+unfolding parts_of
+parts_end records needs is = rw is refl
 
-pub within_cut : (records : VersionRecords) (room : ℕ) (needs others : List (Result ℕ LinkError)) (error : LinkError) → needs ≡ Err error ∷ others → parts_within records room needs ≡ Err error ∷ []
-unfolding parts_within
-within_cut records room needs others error is = rw is refl
+pub parts_cut : (records : VersionRecords) (needs others : List (Result ℕ LinkError)) (error : LinkError) → needs ≡ Err error ∷ others → parts_of records needs ≡ Err error ∷ []
+unfolding parts_of
+parts_cut records needs others error is = rw is refl
 
-within_many : (records : VersionRecords) (room place : ℕ) (needs others : List (Result ℕ LinkError)) → needs ≡ Ok place ∷ others → nat_le (part_count records place) room ≡ false → parts_within records room needs ≡ Err VersionCount ∷ []
-unfolding parts_within
-within_many records room place needs others is never =
-    let many : nat_lt room (part_count records place) ≡ true = lt-ltb _ _ (leb-false _ _ never) in rw is (rw many refl)
+pub parts_more : (records : VersionRecords) (place : ℕ) (needs others : List (Result ℕ LinkError)) → needs ≡ Ok place ∷ others
+    → parts_of records needs ≡ joined (parts_at records place) (parts_of records others)
+unfolding parts_of
+parts_more records place needs others is = rw is refl
 
-within_fits : (records : VersionRecords) (room place : ℕ) (needs others : List (Result ℕ LinkError)) → needs ≡ Ok place ∷ others → nat_le (part_count records place) room ≡ true
-    → parts_within records room needs ≡ joined (parts_at records place) (parts_within records (room - part_count records place) others)
-unfolding parts_within
-within_fits records room place needs others is fits =
-    let few : nat_lt room (part_count records place) ≡ false = le-ltb _ _ (leb-true _ _ fits) in rw is (rw few refl)
+-- the items for which there is room, item by item
+module _ {A : Type 0} (room : ℕ) (items others : List (Result A LinkError)) where
+  pub room_end : items ≡ [] → within_room room items ≡ []
+  room_end is = ap (within_room room) is
+
+  pub room_cut : (error : LinkError) → items ≡ Err error ∷ others → within_room room items ≡ Err error ∷ []
+  room_cut error is = ap (within_room room) is
+
+  pub room_full : (item : A) → room ≡ 0 → items ≡ Ok item ∷ others → within_room room items ≡ Err VersionCount ∷ []
+  room_full item none is = ap (within_room room) is ∙ ap (λ n. within_room n (Ok item ∷ others)) none
+
+  pub room_first : (item : A) → room ≢ 0 → items ≡ Ok item ∷ others → within_room room items ≡ Ok item ∷ within_room (room - 1) others
+  room_first item some is =
+      let one : room ≡ suc (room - 1) = omega (arith, some) in
+      ap (within_room room) is ∙ ap (λ n. within_room n (Ok item ∷ others)) one
+
+-- there are no more than that, but for an error at the end
+room_fits : {A : Type 0} (room : ℕ) (items : List (Result A LinkError)) → length (within_room room items) ≤ suc room
+room_fits room [] = omega arith
+room_fits room (Err error ∷ items) = omega arith
+room_fits zero (Ok item ∷ items) = omega arith
+room_fits (suc room) (Ok item ∷ items) = let few = room_fits room items in omega (arith, few)
 
 -- the parts of a need before the others
 pub joined_end : {A : Type 0} (items rest : List (Result A LinkError)) → items ≡ [] → joined items rest ≡ rest
@@ -61,76 +76,41 @@ joined_first items others rest item is = ap (λ front. joined front rest) is
 pub joined_cut : {A : Type 0} (items others rest : List (Result A LinkError)) (error : LinkError) → items ≡ Err error ∷ others → joined items rest ≡ Err error ∷ []
 joined_cut items others rest error is = ap (λ front. joined front rest) is
 
--- the items left behind the last part of a need, if there is no room for the next one's parts, and if there is
-pub left_many : (records : VersionRecords) (file room place : ℕ) (parts needs others : List (Result ℕ LinkError)) → parts ≡ [] → needs ≡ Ok place ∷ others → nat_le (part_count records place) room ≡ false
-    → joined (map (result_map (need_at records file)) parts) (parts_within records room needs) ≡ Err VersionCount ∷ []
-left_many records file room place parts needs others bare begins never =
-    joined_end (map (result_map (need_at records file)) parts) (parts_within records room needs) (items_end (result_map (need_at records file)) parts bare)
-    ∙ within_many records room place needs others begins never
-
-pub left_fits : (records : VersionRecords) (file room place : ℕ) (parts needs others : List (Result ℕ LinkError)) → parts ≡ [] → needs ≡ Ok place ∷ others → nat_le (part_count records place) room ≡ true
-    → joined (map (result_map (need_at records file)) parts) (parts_within records room needs) ≡ joined (parts_at records place) (parts_within records (room - part_count records place) others)
-left_fits records file room place parts needs others bare begins fits =
-    joined_end (map (result_map (need_at records file)) parts) (parts_within records room needs) (items_end (result_map (need_at records file)) parts bare)
-    ∙ within_fits records room place needs others begins fits
+-- the items left behind the last part of a need: those of the next one, and of the others
+pub left_entered : (records : VersionRecords) (file room place : ℕ) (parts needs others : List (Result ℕ LinkError)) → parts ≡ [] → needs ≡ Ok place ∷ others
+    → within_room room (joined (map (result_map (need_at records file)) parts) (parts_of records needs)) ≡ within_room room (joined (parts_at records place) (parts_of records others))
+left_entered records file room place parts needs others bare begins =
+    ap (within_room room) (joined_end (map (result_map (need_at records file)) parts) (parts_of records needs) (items_end (result_map (need_at records file)) parts bare)
+    ∙ parts_more records place needs others begins)
 
 -- no parts are left at the start
-pub needs_start : (records : VersionRecords) (make : ℕ → NeedParts) (rest : List (Result NeedParts LinkError)) → joined (map (result_map make) (places_of records 12 0 0)) rest ≡ rest
+pub needs_start : (records : VersionRecords) (make : ℕ → NeedParts) (start : ℕ) (rest : List (Result NeedParts LinkError)) → joined (map (result_map make) (places_of records 12 start 0)) rest ≡ rest
 unfolding places_of
-needs_start records make rest = refl
+needs_start records make start rest = refl
 
--- nothing is left behind a refusal
-pub needs_ended : (records : VersionRecords) (make : ℕ → NeedParts) (room place start : ℕ) → joined (map (result_map make) (places_of records 12 start 0)) (parts_within records room (places_of records 12 place 0)) ≡ []
-unfolding places_of parts_within
+-- nothing is left behind an error
+pub needs_ended : (records : VersionRecords) (make : ℕ → NeedParts) (room place start : ℕ) → within_room room (joined (map (result_map make) (places_of records 12 start 0)) (parts_of records (places_of records 12 place 0))) ≡ []
+unfolding places_of parts_of
 needs_ended records make room place start = refl
 
 -- the computed items are the parts of the needs
-parts_by : (records : VersionRecords) (room place : ℕ) (needs : List (Result ℕ LinkError)) (many : Bool) → nat_lt room (part_count records place) ≡ many
-    → AreParts records (room - part_count records place) needs (parts_within records (room - part_count records place) needs)
-    → AreParts records room (Ok place ∷ needs) (if many then Err VersionCount ∷ [] else joined (parts_at records place) (parts_within records (room - part_count records place) needs))
-parts_by records room place needs true is rest = too_many room place needs (ltb-true _ _ is)
-parts_by records room place needs false is rest =
-    let count = part_count records place in
-    enough room place needs (places_of records 12 (first_part records place) count) (parts_within records (room - count) needs)
-    (ltb-false _ _ is) (places_are records 12 (first_part records place) count) rest
-
-parts_are : (records : VersionRecords) (room : ℕ) (needs : List (Result ℕ LinkError)) → AreParts records room needs (parts_within records room needs)
-unfolding parts_within
-parts_are records room [] = ended room
-parts_are records room (Err error ∷ needs) = cut_off room error needs
-parts_are records room (Ok place ∷ needs) =
-    let count = part_count records place in
-    parts_by records room place needs (nat_lt room count) refl (parts_are records (room - count) needs)
+parts_are : (records : VersionRecords) (needs : List (Result ℕ LinkError)) → AreParts records needs (parts_of records needs)
+unfolding parts_of
+parts_are records [] = ended
+parts_are records (Err error ∷ needs) = cut_off error needs
+parts_are records (Ok place ∷ needs) =
+    begun place needs (places_of records 12 (first_part records place) (length records.bytes)) (parts_of records needs)
+    (places_are records 12 (first_part records place) (length records.bytes)) (parts_are records needs)
 
 pub needs_are : (records : VersionRecords) → AreNeeds records (needs_in records)
 needs_are records = record {
-  places = places_of records 12 0 records.count;
-  are_places = places_are records 12 0 records.count;
-  are_parts = parts_are records (room_of records) (places_of records 12 0 records.count);
+  places = places_of records 12 0 (length records.bytes);
+  parts = parts_of records (places_of records 12 0 (length records.bytes));
+  are_places = places_are records 12 0 (length records.bytes);
+  are_parts = parts_are records (places_of records 12 0 (length records.bytes));
+  items_are = refl;
 }
-
--- there are no more items than room, but for a refusal at the end
-joined_fit : {A : Type 0} (items rest : List (Result A LinkError)) → length (joined items rest) ≤ length items + length rest
-joined_fit [] rest = omega arith
-joined_fit (Ok item ∷ items) rest = let few = joined_fit items rest in omega (arith, few)
-joined_fit (Err error ∷ items) rest = omega arith
-
-fit_by : (many : Bool) (room count : ℕ) (items rest : List (Result NeedParts LinkError)) → nat_lt room count ≡ many → length items ≤ count → length rest ≤ suc (room - count)
-    → length (if many then Err VersionCount ∷ [] else joined items rest) ≤ suc room
-fit_by true room count items rest is short later = omega arith
-fit_by false room count items rest is short later =
-    let both = joined_fit items rest in
-    let fits = ltb-false room count is in omega (arith, both, fits, short, later)
-
-within_fit : (records : VersionRecords) (room : ℕ) (needs : List (Result ℕ LinkError)) → length (parts_within records room needs) ≤ suc room
-unfolding parts_within
-within_fit records room [] = omega arith
-within_fit records room (Err error ∷ needs) = omega arith
-within_fit records room (Ok place ∷ needs) =
-    let count = part_count records place in
-    fit_by (nat_lt room count) room count (parts_at records place) (parts_within records (room - count) needs) refl
-    (items_few (need_at records (file_offset records place)) records 12 (first_part records place) count) (within_fit records (room - count) needs)
 
 pub needs_fit : (records : VersionRecords) → length records.bytes < 2 ^ 64 → length (needs_in records) < 2 ^ 64
 needs_fit records fits =
-    let few = within_fit records (room_of records) (places_of records 12 0 records.count) in omega (arith, few, fits)
+    let few = room_fits (room_of records) (parts_of records (places_of records 12 0 (length records.bytes))) in omega (arith, few, fits)

@@ -9,3 +9,4 @@ pub mod Once
 pub mod Readable
 pub mod SegmentsLeft
 pub mod CheckedBound
+pub mod CheckedParts

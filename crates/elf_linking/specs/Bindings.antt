@@ -1,5 +1,5 @@
--- The references of all objects of a scope, and what each gets (gABI, "Relocation" and "Dynamic Section"; the order
--- of objects as glibc's linker has it).
+-- The references of all objects of a scope, and what each gets (gABI, "Relocation" and "Dynamic Section"). They come in
+-- the order of the scope; this order is the project's own.
 use Rattle.std.specs.Prelude.{◌≡◌, ℕ, ◌+◌, List, [], ◌∷◌, ◌++◌, drop, map, slice_get, Option, None, Some, Result, Ok, Err, MatchOption, ⊤}
 use Rattle.elf_linking.specs.DynamicObject.{object_file, object_view}
 use Rattle.elf_linking.specs.DynamicView.{view_entries}
@@ -43,7 +43,8 @@ abbrev pub references_with : ℕ → Result (List Reference) LinkError → List 
 references_with from (Ok references) = map (λ reference. (from, Ok reference)) references
 references_with from (Err error) = (from, Err error) ∷ []
 
--- those of objects in order, the first of which is at index `from`
+-- the references of objects that follow one another in a scope, the first at index `from`: each with the index of its
+-- object, or the error of an object's relocations
 abbrev pub references_from : {E : Type 0} → {r : _} → ℕ → List (DynamicObject E r) → List (ℕ × Result Reference LinkError)
 references_from from [] = []
 references_from from (object ∷ rest) =

@@ -1,5 +1,5 @@
 -- The references of all objects of a scope of files whose checks passed, and what each gets (gABI, "Relocation" and
--- "Dynamic Section"; the order of objects as glibc's linker has it).
+-- "Dynamic Section"). They come in the order of the scope; this order is the project's own.
 use Rattle.std.specs.Prelude.{ℕ, ◌+◌, List, [], ◌∷◌, ◌++◌, drop, map, Option, None, Some, Result, Ok, Err}
 use Rattle.elf_linking.specs.Bindings.{current_left}
 use Rattle.elf_linking.specs.CheckedScope.{bound_fields, bound_in}
@@ -16,16 +16,18 @@ abbrev pub bindings_at : List ObjectParts → ℕ → Option (List Reference) �
 bindings_at objects from None = (from, None) ∷ []
 bindings_at objects from (Some references) = map (λ reference. (from, Some (reference, bound_in objects from reference))) references
 
--- those of objects of the scope in order, the first of which is at index `from`
+-- the references of objects that follow one another in a scope, the first of them at index `from`: each with the index of
+-- its object and with what it gets in the scope `objects`
 abbrev pub bindings_from : List ObjectParts → ℕ → List ObjectParts → List (ℕ × Option (Reference × Option (Bound SymbolFields)))
 bindings_from objects from [] = []
 bindings_from objects from (object ∷ rest) = bindings_at objects from object.references ++ bindings_from objects (from + 1) rest
 
--- those of all objects
+-- the references of all objects of a scope, in its order, each with the index of its object and with what it gets
 abbrev pub all_bindings : List ObjectParts → List (ℕ × Option (Reference × Option (Bound SymbolFields)))
 all_bindings objects = bindings_from objects 0 objects
 
--- an item of an iterator
+-- what an item of an iterator says: the index of an object, a reference of it, and what that gets; of an error the index
+-- alone, since the relocations of that object can't be read
 abbrev pub item_parts : {E : Type 0} → (E → SymbolFields) → Result (CheckedBinding E) ℕ → ℕ × Option (Reference × Option (Bound SymbolFields))
 item_parts fields (Ok binding) = (binding.from, Some (binding.reference, bound_fields fields binding.bound))
 item_parts fields (Err from) = (from, None)

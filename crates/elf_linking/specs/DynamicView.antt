@@ -1,16 +1,16 @@
 -- What the dynamic segment of a file leads to (gABI, "Dynamic Section"): its entries, the string table, the hash
 -- tables, and the symbols with their number and their names.
-use Rattle.std.specs.Prelude.{ℕ, ◌==◌, List, [], ◌∷◌, length, Option, Result, Err, option_map, ok_or, if◌then◌else◌, ◌≡◌, None, Some, IfOk, IsSomeAnd, Ok, IsOkAnd, nat_lt, ◌*◌, ◌^◌}
-use Rattle.std.specs.List.{find}
+use Rattle.std.specs.Prelude.{ℕ, ◌==◌, List, [], ◌∷◌, length, filter, Option, Result, Err, option_map, ok_or, if◌then◌else◌, ◌≡◌, None, Some, IfOk, IsSomeAnd, Ok, IsOkAnd, nat_lt, ◌*◌, ◌^◌}
+use Rattle.std.specs.List.{last_or}
 use Rattle.std.specs.Borrow.{Bor}
 use Rattle.elf_base.specs.Refusal.{and_then, unless}
 use Rattle.elf_base.specs.FileHeader.{class_of, file_class, file_order}
 use Rattle.elf_base.specs.Lent.{LiesAt}
 use Rattle.elf_base.specs.Text.{as_text, bytes_up_to_zero_of, text_of}
-use Rattle.elf_linking.specs.Segments.{segment_bytes, segments_of}
+use Rattle.elf_linking.specs.Segments.{segments_of}
 use Rattle.elf_linking.specs.declared.segments.Segment.{Segment}
 use Rattle.xmas_elf.specs.declared.ElfFile.{ElfFile}
-pub use Rattle.elf_linking.specs.Entries.{all_entries, entries_left, flag_in, is_symbolic, number_with, pairs_left, pairs_of, until_null, whole_entries}
+pub use Rattle.elf_linking.specs.Entries.{all_entries, entries_left, first_with, flag_in, is_symbolic, number_with, pairs_left, pairs_of, until_null, whole_entries}
 use Rattle.elf_linking.specs.Layouts.{gnu_table_of}
 use Rattle.elf_linking.specs.declared.error.LinkError.{LinkError}
 use Rattle.elf_linking.specs.declared.error.LinkError.TheVariants.{Elf, NoDynamic, NoEntry, SymbolIndex}
@@ -27,18 +27,26 @@ use Rattle.elf_base.specs.Number.{number}
 use Rattle.elf_linking.specs.GnuCount.{IsGnuCount}
 use Rattle.elf_linking.specs.declared.gnu_hash.GnuHashTable.{GnuHashTable}
 
--- The dynamic segment of a file and its string table (DT_NEEDED, DT_STRTAB, DT_STRSZ and others; that the
--- first segment and the first entry of a kind are the ones read is this project's own).
+-- The dynamic segment of a file and its string table (DT_NEEDED, DT_STRTAB, DT_STRSZ and others; that the last segment
+-- and the last entry of a kind are the ones read, and the segment at its address, as in glibc).
 
--- the first segment of type Dynamic (PT_DYNAMIC, 2)
+-- the last segment of type Dynamic (PT_DYNAMIC, 2)
 unfoldable pub dynamic_segment_of : ElfFile → Option Segment
-dynamic_segment_of file = find (λ (segment : Segment). segment.kind == 2) (segments_of file)
+dynamic_segment_of file = last_or None (filter (λ (segment : Segment). segment.kind == 2) (segments_of file))
+
+-- its bytes, or why there are none
+unfoldable pub dynamic_bytes_of : ElfFile → Result (List ℕ) LinkError
+dynamic_bytes_of file = and_then (ok_or (dynamic_segment_of file) NoDynamic) (λ segment.
+    if segment.file_size == 0 then Err NoDynamic else bytes_at_of file segment.address segment.file_size)
+
+-- their place
+abbrev pub LiesAsDynamic : ElfFile → Bor (List ℕ) → Type 0
+LiesAsDynamic file part = IsSomeAnd (dynamic_segment_of file) (λ segment. LiesAsLoaded file segment.address segment.file_size part)
 
 -- the entries of a file before the first with tag Null, or why there are none
 unfoldable pub dynamic_entries_of : ElfFile → Result (List (Dynamic ℕ)) LinkError
-dynamic_entries_of file = and_then (ok_or (dynamic_segment_of file) NoDynamic) (λ segment.
-    and_then (as_link_error (segment_bytes file segment)) (λ bytes.
-    and_then (all_entries (file_class file.header) (file_order file.header) bytes) (λ entries. Ok (until_null entries))))
+dynamic_entries_of file = and_then (dynamic_bytes_of file) (λ bytes.
+    and_then (all_entries (file_class file.header) (file_order file.header) bytes) (λ entries. Ok (until_null entries)))
 
 -- the string table of the entries, by its address and its size (DT_STRTAB and DT_STRSZ)
 abbrev pub strings_by : ElfFile → List (Dynamic ℕ) → Result (List ℕ) LinkError
@@ -85,7 +93,7 @@ abbrev pub as_linked_text : Result (List ℕ) LinkError → Result (List ℕ) Li
 as_linked_text (Ok bytes) = as_link_error (as_text bytes)
 as_linked_text (Err error) = Err error
 
--- the text at the offset in the first entry with a tag
+-- the text at the offset in the last entry with a tag
 abbrev pub text_with : ℕ → DynamicView → Option (Result (List ℕ) LinkError)
 text_with tag view = option_map (text_in_strings (view_strings view)) (number_with tag (view_entries view))
 
@@ -130,7 +138,7 @@ needed_table iter = iter.strings
 -- the next name lies in the string table at the number in its entry
 abbrev pub LiesAsNeeded : NeededBytes → Result (Bor (List ℕ)) LinkError → Type 0
 LiesAsNeeded iter item = IfOk item (λ name. IsOkAnd (needed_table iter) (λ table.
-    IsSomeAnd (number_with DT_NEEDED (entries_left iter.entries)) (λ place. LiesAt table place name)))
+    IsSomeAnd (first_with DT_NEEDED (entries_left iter.entries)) (λ place. LiesAt table place name)))
 
 -- The hash tables of a dynamic segment (DT_HASH; DT_GNU_HASH of GNU binutils and glibc).
 

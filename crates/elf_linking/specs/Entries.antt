@@ -1,6 +1,6 @@
 -- The entries of a dynamic segment in order (gABI, "Dynamic Section": DT_NULL).
-use Rattle.std.specs.Prelude.{ℕ, ◌/◌, ◌%◌, ◌==◌, ◌||◌, is_some, false, not, Bool, List, [], ◌∷◌, length, Option, None, Some, Result, Err, option_map, if◌then◌else◌}
-use Rattle.std.specs.List.{find}
+use Rattle.std.specs.Prelude.{ℕ, ◌/◌, ◌%◌, ◌==◌, ◌||◌, is_some, false, not, Bool, List, [], ◌∷◌, length, map, filter, Option, None, Some, Result, Err, option_map, if◌then◌else◌}
+use Rattle.std.specs.List.{find, last_or}
 use Rattle.elf_base.specs.Refusal.{unless}
 use Rattle.elf_base.specs.Table.{records, table_items, table_rest}
 use Rattle.elf_base.specs.declared.bytes.Order.{Order}
@@ -33,8 +33,13 @@ until_null [] = []
 until_null (entry ∷ entries) = if dynamic_tag entry == DT_NULL then [] else entry ∷ until_null entries
 
 -- the number in the first entry with a tag
+abbrev pub first_with : ℕ → List (Dynamic ℕ) → Option ℕ
+first_with tag entries = option_map (λ entry. dynamic_value entry) (find (λ (entry : Dynamic ℕ). dynamic_tag entry == tag) entries)
+
+-- the number in the last entry with a tag, which is the one that glibc reads
 abbrev pub number_with : ℕ → List (Dynamic ℕ) → Option ℕ
-number_with tag entries = option_map (λ entry. dynamic_value entry) (find (λ (entry : Dynamic ℕ). dynamic_tag entry == tag) entries)
+number_with tag entries =
+    last_or None (map (λ entry. dynamic_value entry) (filter (λ (entry : Dynamic ℕ). dynamic_tag entry == tag) entries))
 
 -- a number of flags, if there is one, has a flag
 abbrev pub flag_in : Option ℕ → ℕ → Bool

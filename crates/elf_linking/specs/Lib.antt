@@ -9,7 +9,7 @@ pub mod SegmentsLeft
 pub mod PortSegments
 pub mod Loaded
 pub mod Entries
-pub mod FirstNumbers
+pub mod LastNumbers
 pub mod DynamicView
 pub mod AnyTable
 pub mod BuildIds

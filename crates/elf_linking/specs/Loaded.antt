@@ -1,8 +1,9 @@
 -- The bytes of a file at addresses of its loaded segments (gABI, "Program Header": PT_LOAD, p_vaddr and
--- p_filesz; that the first segment with all of the bytes is the one read is this project's own).
-use Rattle.std.specs.Prelude.{◌≡◌, ◌≢◌, ℕ, ◌+◌, ◌-◌, ◌<◌, ◌≤◌, ◌&&◌, ◌==◌, if◌then◌else◌, nat_le, Bool, List, Option, Result, Ok, Err, ok_or, drop, take, length}
+-- p_filesz; that the last segment with all of the bytes is the one read, since Linux and glibc map it over those before
+-- it).
+use Rattle.std.specs.Prelude.{◌≡◌, ◌≢◌, ℕ, ◌+◌, ◌-◌, ◌<◌, ◌≤◌, ◌&&◌, ◌==◌, if◌then◌else◌, nat_le, Bool, List, filter, Option, None, Result, Ok, Err, ok_or, drop, take, length}
 use Rattle.std.specs.Borrow.{Bor}
-use Rattle.std.specs.List.{AllWithin, HoldsAt, find}
+use Rattle.std.specs.List.{AllWithin, HoldsAt, last_or}
 use Rattle.elf_base.specs.FileHeader.{file_class, file_order}
 use Rattle.elf_base.specs.Lent.{LiesAt}
 use Rattle.elf_base.specs.Number.{number}
@@ -35,21 +36,22 @@ abbrev pub has_file_bytes : ℕ → ℕ → Segment → Bool
 has_file_bytes address count segment = segment.kind == 1 && nat_le segment.address address
     && nat_le (address + count) (segment.address + segment.file_size)
 
--- the first loaded segment with these bytes, as a function
+-- the last loaded segment with these bytes, as a function
 unfoldable pub segment_at_of : ElfFile → ℕ → ℕ → Option Segment
-segment_at_of file address count = find (has_file_bytes address count) (segments_of file)
+segment_at_of file address count = last_or None (filter (has_file_bytes address count) (segments_of file))
 
--- no segment below an index is loaded and has these bytes
+-- no segment from an index on is loaded and has these bytes
 abbrev pub NoneHasFileBytes : ElfFile → ℕ → ℕ → ℕ → Type 0
-NoneHasFileBytes file address count high = AllWithin (λ segment. ¬ HasFileBytes address count segment) (segments_of file) 0 high
+NoneHasFileBytes file address count low =
+    AllWithin (λ segment. ¬ HasFileBytes address count segment) (segments_of file) low (length (segments_of file))
 
--- the segment is the first that is loaded and has these bytes
-pub record IsFirstWithBytes (file : ElfFile) (address count : ℕ) (segment : Segment) : Type 0 where
+-- the segment is the last that is loaded and has these bytes
+pub record IsLastWithBytes (file : ElfFile) (address count : ℕ) (segment : Segment) : Type 0 where
   pub index : ℕ
   pub below : index < length (segments_of file)
   pub stands : HoldsAt (λ item. item ≡ segment) (segments_of file) index
   pub holds : HasFileBytes address count segment
-  pub first : NoneHasFileBytes file address count index
+  pub last : NoneHasFileBytes file address count (index + 1)
 
 -- the file offset of the byte at an address in this segment
 abbrev pub place_of : Segment → ℕ → ℕ
@@ -58,14 +60,14 @@ place_of segment address = segment.offset + (address - segment.address)
 -- `part` are the file bytes for `address .. address + count`
 pub record IsAt (file : ElfFile) (address count : ℕ) (part : List ℕ) : Type 0 where
   pub segment : Segment
-  pub holder : IsFirstWithBytes file address count segment
+  pub holder : IsLastWithBytes file address count segment
   pub count_is : length part ≡ count
   pub bytes_are : part ≡ take count (drop (place_of segment address) file.input.now)
 
 -- the place of `part` in the memory of the file; no bytes may be anywhere
 pub record LiesAsLoaded (file : ElfFile) (address count : ℕ) (part : Bor (List ℕ)) : Type 0 where
   pub segment : Segment
-  pub holder : IsFirstWithBytes file address count segment
+  pub holder : IsLastWithBytes file address count segment
   pub lies : count ≢ 0 → LiesAt file.input (place_of segment address) part
 
 -- what `keep` leaves of the bytes from an address on in a segment, if there is one

@@ -2,7 +2,7 @@
 use Rattle.std.specs.Prelude.{ℕ, List, codes}
 use Rattle.elf_base.specs.Message.{row_of}
 use Rattle.elf_linking.specs.declared.error.LinkError.{LinkError}
-use Rattle.elf_linking.specs.declared.error.LinkError.TheVariants.{Elf, ShortTable, UnknownClass, BloomCount, BucketIndex, ChainIndex, ChainData, SymbolIndex, Missing, NoDynamic, NoEntry, Address, ShortNote, NotMultiple, ShortVersion, VersionCount, RelocationKind, ObjectIndex}
+use Rattle.elf_linking.specs.declared.error.LinkError.TheVariants.{Elf, ShortTable, UnknownClass, BloomCount, BucketIndex, ChainIndex, ChainData, SymbolIndex, Missing, NoDynamic, NoEntry, Address, ShortNote, NotMultiple, ShortVersion, VersionCount, RelocationKind, ObjectIndex, VersionChain}
 
 -- the number and the text of an error; for `Elf` those of the inner error
 abbrev pub link_row : LinkError → ℕ × List ℕ
@@ -24,6 +24,7 @@ link_row ShortVersion = (114, codes "Version record is cut off")
 link_row VersionCount = (115, codes "Version needs have more parts than bytes")
 link_row RelocationKind = (116, codes "Kind of relocations is neither Rel nor Rela")
 link_row ObjectIndex = (117, codes "Object index is out of range")
+link_row VersionChain = (118, codes "Version records are more or fewer than told")
 
 -- the number of an error
 abbrev pub link_number : LinkError → ℕ

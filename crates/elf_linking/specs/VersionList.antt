@@ -3,7 +3,7 @@
 use Rattle.std.specs.Prelude.{◌≡◌, ℕ, ◌*◌, ◌/◌, ◌%◌, ◌==◌, Bool, false, List, ◌++◌, length, map, Option, option_map, Result, if◌then◌else◌}
 use Rattle.std.specs.List.{range_with_len}
 use Rattle.elf_base.specs.Number.{number}
-use Rattle.elf_linking.specs.VersionTables.{DefinitionParts, NeedParts, VersionTables, definitions_in, needs_in, result_map, version_number}
+use Rattle.elf_linking.specs.VersionTables.{DefinitionParts, NeedParts, VersionTables, definitions_in, is_counted, needs_in, result_map, version_number}
 use Rattle.elf_linking.specs.declared.error.LinkError.{LinkError}
 use mathlib.Core.Equiv.{contr→prop, id_equiv}
 
@@ -15,11 +15,12 @@ pub record VersionEntry : Type 0 where
   pub hash : ℕ
   pub name : Result (List ℕ) LinkError
 
--- the versions of an object: the number of each symbol, of 16 bits, if it has such numbers; and the versions in
--- order, with an error in the place of one that can't be read
+-- the versions of an object: the number of each symbol, of 16 bits, if it has such numbers; the versions in order,
+-- with an error in the place of one that can't be read; and whether there are as many as the file tells
 pub record VersionList : Type 0 where
   pub numbers : Option (List ℕ)
   pub entries : List (Result VersionEntry LinkError)
+  pub counted : Bool
 
 -- a definition is the base, which names the file and no version of a symbol (VER_FLG_BASE)
 abbrev pub is_base : ℕ → Bool
@@ -56,7 +57,7 @@ entries_in tables = map (result_map entry_of) (named_in tables)
 
 -- the versions of an object, by its tables
 abbrev pub versions_in : VersionTables → VersionList
-versions_in tables = record { numbers = numbers_in tables; entries = entries_in tables }
+versions_in tables = record { numbers = numbers_in tables; entries = entries_in tables; counted = is_counted tables }
 
 -- there is one such list
 pub is_one_list : {list : VersionList} → IsProp ((same : VersionList) × (same ≡ list))

@@ -1,8 +1,8 @@
 -- The version tables of a file: the numbers of its symbols, its definitions and its needs (LSB, "Symbol
--- Versioning"; that a table extends up to the end of its segment, and where a list of records ends, is this
--- project's own).
+-- Versioning"; that a list of records ends where `next` is 0, whatever the file says of their number, as in glibc;
+-- that a table extends up to the end of its segment is this project's own).
 use Rattle.std.specs.Borrow.{Bor}
-use Rattle.std.specs.Prelude.{◌≡◌, ◌≢◌, ℕ, zero, suc, ◌+◌, ◌-◌, ◌*◌, ◌/◌, ◌%◌, ◌^◌, ◌<◌, ◌≤◌, ◌==◌, ◌&&◌, nat_le, nat_lt, not, Bool, true, false, List, [], ◌∷◌, ◌++◌, length, map, Option, Some, None, option_map, Result, Ok, Err, if◌then◌else◌}
+use Rattle.std.specs.Prelude.{◌≡◌, ◌≢◌, ℕ, zero, suc, ◌+◌, ◌-◌, ◌*◌, ◌/◌, ◌%◌, ◌^◌, ◌<◌, ◌≤◌, ◌==◌, ◌&&◌, nat_le, nat_lt, not, Bool, true, false, List, [], ◌∷◌, ◌++◌, length, map, Option, Some, None, is_none, option_map, Result, Ok, Err, if◌then◌else◌}
 use Rattle.elf_base.specs.FileHeader.{file_order}
 use Rattle.elf_base.specs.Number.{number}
 use Rattle.elf_base.specs.Refusal.{and_then}
@@ -10,22 +10,24 @@ use Rattle.elf_base.specs.declared.bytes.Order.{Order}
 use Rattle.elf_linking.specs.DynamicView.{number_with, text_in_strings}
 use Rattle.elf_linking.specs.Loaded.{bytes_at_of, bytes_from_of, lent}
 use Rattle.elf_linking.specs.declared.error.LinkError.{LinkError}
-use Rattle.elf_linking.specs.declared.error.LinkError.TheVariants.{Address, NoEntry, ShortVersion, VersionCount}
+use Rattle.elf_linking.specs.declared.error.LinkError.TheVariants.{Address, ShortVersion, VersionCount}
 use Rattle.elf_linking.specs.declared.versions.definitions.Definition.{Definition}
 use Rattle.elf_linking.specs.declared.versions.definitions.Definitions.{Definitions}
 use Rattle.elf_linking.specs.declared.versions.needs.Need.{Need}
 use Rattle.elf_linking.specs.declared.versions.needs.Needs.{Needs}
 use Rattle.elf_linking.specs.declared.versions.records.Chain.{Chain}
+use Rattle.elf_linking.specs.declared.versions.records.Places.{Places}
 use Rattle.elf_linking.specs.declared.versions.records.Records.{Records}
 use Rattle.elf_records.specs.declared.dynamic.Dynamic.{Dynamic}
 use Rattle.elf_linking.specs.declared.view.tags.TheConstants.{DT_VERDEF, DT_VERDEFNUM, DT_VERNEED, DT_VERNEEDNUM, DT_VERSYM}
 use Rattle.xmas_elf.specs.declared.ElfFile.{ElfFile}
 
--- records of versions: the bytes from the address of the first on, their number, their byte order, and the
--- string table with their names
+-- records of versions: the bytes from the address of the first on, of which there are none if the file has no such
+-- records; how many the file says there are, if it does; their byte order, and the string table with their names. A list of records is no longer than these bytes,
+-- since each lies at least one byte after the one before.
 pub record VersionRecords : Type 0 where
   pub bytes : List ℕ
-  pub count : ℕ
+  pub told : Option ℕ
   pub order : Order
   pub strings : Result (List ℕ) LinkError
 
@@ -120,12 +122,12 @@ definition_at records place = record {
 -- the definitions in records: those at the places of the longest list, by vd_next at 16
 pub record AreDefinitions (records : VersionRecords) (items : List (Result DefinitionParts LinkError)) : Type 0 where
   pub places : List (Result ℕ LinkError)
-  pub are_places : ArePlaces records 16 0 records.count places
+  pub are_places : ArePlaces records 16 0 (length records.bytes) places
   pub items_are : items ≡ map (result_map (definition_at records)) places
 
 -- the same as a function
 abbrev pub definitions_in : VersionRecords → List (Result DefinitionParts LinkError)
-definitions_in records = map (result_map (definition_at records)) (places_of records 16 0 records.count)
+definitions_in records = map (result_map (definition_at records)) (places_of records 16 0 (length records.bytes))
 
 -- a part of a need (Vernaux): hash of 4 bytes, flags and other of 2, name and next of 4; the file is that of
 -- its need. The names of both begin at offsets in the string table.
@@ -160,11 +162,7 @@ need_at records file place = record {
   name = text_in_strings records.strings (field records 4 place 8);
 }
 
--- vn_cnt: the number of parts of a need (Verneed), of 2 bytes after 2 of version
-abbrev pub part_count : VersionRecords → ℕ → ℕ
-part_count records place = field records 2 place 2
-
--- vn_file: the offset of the library's name, of 4 bytes
+-- vn_file: the offset of the library's name in a need (Verneed), of 4 bytes
 abbrev pub file_offset : VersionRecords → ℕ → ℕ
 file_offset records place = field records 4 place 4
 
@@ -178,67 +176,74 @@ joined [] rest = rest
 joined (Ok item ∷ items) rest = Ok item ∷ joined items rest
 joined (Err error ∷ items) rest = Err error ∷ []
 
--- the items are the parts of the needs at some places, in order, up to the first error: that of a need or a
--- part (whose vna_next is at 12) that is cut off, or, where the needs so far have more parts than `room`, `VersionCount`
-pub data AreParts (records : VersionRecords) : ℕ → List (Result ℕ LinkError) → List (Result NeedParts LinkError) → Type 0 where
-  ended : (room : ℕ) → AreParts records room [] []
-  cut_off : (room : ℕ) (error : LinkError) (needs : List (Result ℕ LinkError))
-      → AreParts records room (Err error ∷ needs) (Err error ∷ [])
-  too_many : (room place : ℕ) (needs : List (Result ℕ LinkError)) → room < part_count records place
-      → AreParts records room (Ok place ∷ needs) (Err VersionCount ∷ [])
-  enough : (room place : ℕ) (needs parts : List (Result ℕ LinkError)) (rest : List (Result NeedParts LinkError))
-      → part_count records place ≤ room
-      → ArePlaces records 12 (first_part records place) (part_count records place) parts
-      → AreParts records (room - part_count records place) needs rest
-      → AreParts records room (Ok place ∷ needs)
+-- the items are the parts of the needs at some places, in order, up to the first error: that of a need or a part (whose
+-- vna_next is at 12) that is cut off
+pub data AreParts (records : VersionRecords) : List (Result ℕ LinkError) → List (Result NeedParts LinkError) → Type 0 where
+  ended : AreParts records [] []
+  cut_off : (error : LinkError) (needs : List (Result ℕ LinkError)) → AreParts records (Err error ∷ needs) (Err error ∷ [])
+  begun : (place : ℕ) (needs parts : List (Result ℕ LinkError)) (rest : List (Result NeedParts LinkError))
+      → ArePlaces records 12 (first_part records place) (length records.bytes) parts → AreParts records needs rest
+      → AreParts records (Ok place ∷ needs)
       (joined (map (result_map (need_at records (file_offset records place))) parts) rest)
 
 -- the number of parts for which the bytes have room
 abbrev pub room_of : VersionRecords → ℕ
 room_of records = length records.bytes / 16
 
--- the needs in records: the parts of those at the places of the longest list, by vn_next at 12, in order
+-- the items, if there is room for them; the error `VersionCount` in place of the first for which there is none
+abbrev pub within_room : {A : Type 0} → ℕ → List (Result A LinkError) → List (Result A LinkError)
+within_room room [] = []
+within_room room (Err error ∷ items) = Err error ∷ []
+within_room zero (Ok item ∷ items) = Err VersionCount ∷ []
+within_room (suc room) (Ok item ∷ items) = Ok item ∷ within_room room items
+
+-- the needs in records: the parts of those at the places of the longest list, by vn_next at 12, in order, as far as there
+-- is room
 pub record AreNeeds (records : VersionRecords) (items : List (Result NeedParts LinkError)) : Type 0 where
   pub places : List (Result ℕ LinkError)
-  pub are_places : ArePlaces records 12 0 records.count places
-  pub are_parts : AreParts records (room_of records) places items
+  pub parts : List (Result NeedParts LinkError)
+  pub are_places : ArePlaces records 12 0 (length records.bytes) places
+  pub are_parts : AreParts records places parts
+  pub items_are : items ≡ within_room (room_of records) parts
 
 -- the parts of the need at a place, by vna_next at 12, as a function
 abbrev pub parts_at : VersionRecords → ℕ → List (Result NeedParts LinkError)
 parts_at records place = map (result_map (need_at records (file_offset records place)))
-    (places_of records 12 (first_part records place) (part_count records place))
+    (places_of records 12 (first_part records place) (length records.bytes))
 
--- the parts of needs, as long as there is room for them
-unfoldable pub parts_within : VersionRecords → ℕ → List (Result ℕ LinkError) → List (Result NeedParts LinkError)
-parts_within records room [] = []
-parts_within records room (Err error ∷ needs) = Err error ∷ []
-parts_within records room (Ok place ∷ needs) = let count = part_count records place in
-    if nat_lt room count then Err VersionCount ∷ []
-    else joined (parts_at records place) (parts_within records (room - count) needs)
+-- the parts of needs
+unfoldable pub parts_of : VersionRecords → List (Result ℕ LinkError) → List (Result NeedParts LinkError)
+parts_of records [] = []
+parts_of records (Err error ∷ needs) = Err error ∷ []
+parts_of records (Ok place ∷ needs) = joined (parts_at records place) (parts_of records needs)
 
 -- the needs in records, as a function
 abbrev pub needs_in : VersionRecords → List (Result NeedParts LinkError)
-needs_in records = parts_within records (room_of records) (places_of records 12 0 records.count)
+needs_in records = within_room (room_of records) (parts_of records (places_of records 12 0 (length records.bytes)))
 
--- the numbers of symbols at the address in the entry VerSym (DT_VERSYM), of two bytes each, if there is one
+-- the address of the numbers of symbols (DT_VERSYM), of a file that defines or needs versions; as in glibc, any other
+-- file has none
+abbrev pub numbers_address : List (Dynamic ℕ) → Option ℕ
+numbers_address entries = if is_none (number_with DT_VERDEF entries) && is_none (number_with DT_VERNEED entries) then None
+    else number_with DT_VERSYM entries
+
+-- the numbers of symbols at this address, of two bytes each, if there is one
 abbrev pub numbers_at : ElfFile → Option ℕ → ℕ → Result (Option (List ℕ)) LinkError
 numbers_at file None count = Ok None
 numbers_at file (Some address) count = if nat_lt count (2 ^ 63)
     then and_then (bytes_at_of file address (count * 2)) (λ bytes. Ok (Some bytes)) else Err Address
 
--- records at an address, if there is one, with their number
+-- records at an address, if there is one, with the number that the file tells
 abbrev pub records_by : ElfFile → Result (List ℕ) LinkError → Option ℕ → Option ℕ → Result VersionRecords LinkError
-records_by file strings None count =
-    Ok (record { bytes = []; count = 0; order = file_order file.header; strings = strings })
-records_by file strings (Some address) None = Err NoEntry
-records_by file strings (Some address) (Some count) = and_then (bytes_from_of file address)
-    (λ bytes. Ok (record { bytes = bytes; count = count; order = file_order file.header; strings = strings }))
+records_by file strings None told = Ok (record { bytes = []; told = Some 0; order = file_order file.header; strings = strings })
+records_by file strings (Some address) told = and_then (bytes_from_of file address)
+    (λ bytes. Ok (record { bytes = bytes; told = told; order = file_order file.header; strings = strings }))
 
 -- the tables of the entries, with the string table and the number of symbols, or the first error: of the
 -- numbers, of the definitions (DT_VERDEF and DT_VERDEFNUM), of the needs (DT_VERNEED and DT_VERNEEDNUM)
 unfoldable pub version_tables_of : ElfFile → List (Dynamic ℕ) → Result (List ℕ) LinkError → ℕ → Result VersionTables LinkError
 version_tables_of file entries strings count =
-    and_then (numbers_at file (number_with DT_VERSYM entries) count) (λ numbers.
+    and_then (numbers_at file (numbers_address entries) count) (λ numbers.
     and_then (records_by file strings (number_with DT_VERDEF entries) (number_with DT_VERDEFNUM entries)) (λ definitions.
     and_then (records_by file strings (number_with DT_VERNEED entries) (number_with DT_VERNEEDNUM entries)) (λ needs.
     Ok (record { numbers = numbers; definitions = definitions; needs = needs }))))
@@ -247,7 +252,7 @@ version_tables_of file entries strings count =
 abbrev pub records_data : Records → VersionRecords
 records_data records = record {
   bytes = records.bytes.now;
-  count = records.count;
+  told = records.told;
   order = records.order;
   strings = lent records.strings;
 }
@@ -291,6 +296,39 @@ need_parts need = record {
 abbrev pub need_item : Result Need LinkError → Result NeedParts LinkError
 need_item item = result_map need_parts item
 
+-- the number of some records is the one that the file tells
+abbrev pub is_told : Option ℕ → ℕ → Bool
+is_told None count = false
+is_told (Some told) count = told == count
+
+-- the places of the needs in records
+abbrev pub need_places : VersionRecords → List (Result ℕ LinkError)
+need_places records = places_of records 12 0 (length records.bytes)
+
+-- the need at a place has as many parts as it tells (vn_cnt, of 2 bytes after 2 of version)
+abbrev pub has_told_parts : VersionRecords → ℕ → Bool
+has_told_parts records place =
+    length (places_of records 12 (first_part records place) (length records.bytes)) == field records 2 place 2
+
+-- the needs at some places have as many parts as they tell
+abbrev pub have_told_parts : VersionRecords → List (Result ℕ LinkError) → Bool
+have_told_parts records [] = true
+have_told_parts records (Err error ∷ needs) = have_told_parts records needs
+have_told_parts records (Ok place ∷ needs) = has_told_parts records place && have_told_parts records needs
+
+-- there are as many needs and parts of needs as the file tells
+abbrev pub are_needs_told : VersionRecords → Bool
+are_needs_told records = is_told records.told (length (need_places records)) && have_told_parts records (need_places records)
+
+-- there are as many definitions, needs and parts of needs as the file tells
+abbrev pub is_counted : VersionTables → Bool
+is_counted tables = is_told tables.definitions.told (length (definitions_in tables.definitions))
+    && are_needs_told tables.needs
+
+-- the places that an iterator has not yet returned
+abbrev pub iterator_places : Places → List (Result ℕ LinkError)
+iterator_places iter = places_of (records_data iter.records) 12 iter.chain.place iter.chain.left
+
 -- the places that a chain has not yet passed
 abbrev pub places_left : VersionRecords → ℕ → Chain → List (Result ℕ LinkError)
 places_left records offset chain = places_of records offset chain.place chain.left
@@ -303,5 +341,5 @@ definitions_left iter = let records = records_data iter.records in
 -- the needs that an iterator has not yet returned
 abbrev pub needs_left : Needs → List (Result NeedParts LinkError)
 needs_left iter = let records = records_data iter.records in
-    joined (map (result_map (need_at records iter.file)) (places_left records 12 iter.parts))
-    (parts_within records iter.room (places_left records 12 iter.needs))
+    within_room iter.room (joined (map (result_map (need_at records iter.file)) (places_left records 12 iter.parts))
+    (parts_of records (places_left records 12 iter.needs)))

@@ -1,11 +1,11 @@
 -- The version of a symbol: its number, and the version of its object with that number (LSB, "Symbol Versioning"; that
 -- the first one in the list counts is this project's own).
-use Rattle.std.specs.Prelude.{All, IfSome, IsOk, IsOkAnd, false, ◌≡◌, ℕ, ◌<◌, ◌≤◌, ◌==◌, ◌&&◌, nat_lt, not, Bool, List, [], ◌∷◌, length, slice_get, Option, Some, None, option_map, ok_or, unwrap_or, Result, Ok, Err, if◌then◌else◌}
+use Rattle.std.specs.Prelude.{All, IfSome, IsOk, IsOkAnd, true, false, ◌≡◌, ℕ, ◌<◌, ◌≤◌, ◌==◌, ◌&&◌, nat_lt, not, Bool, List, [], ◌∷◌, length, slice_get, Option, Some, None, option_map, ok_or, unwrap_or, Result, Ok, Err, if◌then◌else◌}
 use Rattle.elf_base.specs.Refusal.{and_then}
 use Rattle.elf_linking.specs.VersionList.{NamedParts, Defined, Needed, VersionEntry, VersionList, entry_of, is_base, named_in, numbers_in}
 use Rattle.elf_linking.specs.VersionTables.{DefinitionParts, NeedParts, VersionTables, definition_parts, is_hidden, result_map, need_parts, tables_with, version_number}
 use Rattle.elf_linking.specs.declared.error.LinkError.{LinkError}
-use Rattle.elf_linking.specs.declared.error.LinkError.TheVariants.{SymbolIndex}
+use Rattle.elf_linking.specs.declared.error.LinkError.TheVariants.{SymbolIndex, VersionChain}
 use Rattle.elf_linking.specs.declared.versions.Versions.{Versions}
 use Rattle.elf_linking.specs.declared.versions.symbol.NamedVersion as named_version
 use Rattle.elf_linking.specs.declared.versions.symbol.NamedVersion.TheVariants as variants
@@ -120,11 +120,12 @@ version_item answer = result_map (option_map version_parts) answer
 abbrev pub entry_item : Result (Option SymbolVersion) LinkError → Result (Option (VersionParts VersionEntry)) LinkError
 entry_item answer = result_map (option_map version_entry) answer
 
--- the versions of some symbols can be read: there is a number for each symbol, or there are no numbers, and each
--- version is whole and has a name
+-- the versions of some symbols can be read: there is a number for each symbol, or there are no numbers; each version is
+-- whole and has a name; and there are as many as the file tells
 pub record CanBeRead (list : VersionList) (count : ℕ) : Type 0 where
   pub numbers : (i : ℕ) → i < count → IsOk (number_of list.numbers i)
   pub entries : All (λ item. IsOkAnd item (λ entry. IsOk entry.name)) list.entries
+  pub counted : list.counted ≡ true
 
 -- there are fewer numbers than symbols
 abbrev pub lacks_numbers : Option (List ℕ) → ℕ → Bool
@@ -136,9 +137,14 @@ name_error name [] = Ok tt
 name_error name (Err error ∷ items) = Err error
 name_error name (Ok item ∷ items) = and_then (name item) (λ _. name_error name items)
 
--- why the versions can't be read, the first reason: a number is missing; then the first error in the list
+-- the error of a list that has not as many versions as the file tells
+abbrev pub count_error : Bool → Result (Unit {0}) LinkError
+count_error counted = if counted then Ok tt else Err VersionChain
+
+-- why the versions can't be read, the first reason: a number is missing; the first error in the list; their number
 abbrev pub versions_error : VersionList → ℕ → Result (Unit {0}) LinkError
-versions_error list count = if lacks_numbers list.numbers count then Err SymbolIndex else name_error (λ entry. entry.name) list.entries
+versions_error list count = if lacks_numbers list.numbers count then Err SymbolIndex
+    else and_then (name_error (λ entry. entry.name) list.entries) (λ _. count_error list.counted)
 
 -- the entry of a version, if there is one, has a name that can be read
 abbrev pub HasReadableName : Option (VersionParts VersionEntry) → Type 0

@@ -60,6 +60,9 @@ pub enum LinkError {
     /// An index is not below the number of objects in a scope. Returned by `Scope::find`, `answer`
     /// and `bind`.
     ObjectIndex,
+    /// There are more or fewer definitions, needs or parts of a need than the file tells. Returned by
+    /// `Versions::check`.
+    VersionChain,
 }
 
 impl LinkError {
@@ -105,6 +108,7 @@ impl LinkError {
             115 => Some(LinkError::VersionCount),
             116 => Some(LinkError::RelocationKind),
             117 => Some(LinkError::ObjectIndex),
+            118 => Some(LinkError::VersionChain),
             _ => None,
         }
     }
@@ -133,6 +137,7 @@ impl LinkError {
             LinkError::VersionCount => (115, "Version needs have more parts than bytes"),
             LinkError::RelocationKind => (116, "Kind of relocations is neither Rel nor Rela"),
             LinkError::ObjectIndex => (117, "Object index is out of range"),
+            LinkError::VersionChain => (118, "Version records are more or fewer than told"),
         }
     }
 }

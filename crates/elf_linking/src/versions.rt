@@ -5,9 +5,8 @@
 ghost use Rattle.std.specs.Prelude.{◌≡◌, ◌<◌, ◌^◌, Ok, Err, MatchResult, Option, length, option_map};
 ghost use Rattle.elf_linking.specs.DynamicView.{number_with, view_entries, view_strings};
 ghost use Rattle.elf_linking.specs.VersionList.{VersionList, is_one_list, versions_in};
-ghost use Rattle.elf_linking.specs.VersionTables.{result_map, numbers_at, records_by, records_data};
-ghost use Rattle.elf_linking.specs.VersionTables.{tables_with};
-ghost use Rattle.elf_linking.specs.declared.view.tags.TheConstants.{DT_VERSYM};
+ghost use Rattle.elf_linking.specs.VersionTables.{numbers_address, numbers_at, records_by};
+ghost use Rattle.elf_linking.specs.VersionTables.{records_data, result_map, tables_with};
 
 mod check;
 mod definitions;
@@ -46,12 +45,12 @@ impl<'a> Versions<'a> {
     ghost use Rattle.elf_linking.specs.Versions.{version_tables};
 
     /// Reads the tables at the addresses in the entries VerSym, VerDef and VerNeed of the dynamic
-    /// segment, with the numbers of records in VerDefNum and VerNeedNum. A file can lack each
-    /// table.
+    /// segment. A file can lack each table. As in glibc, one without VerDef and VerNeed has no
+    /// numbers of symbols, and only `check` reads the numbers of records in VerDefNum and VerNeedNum.
     ///
     /// The number of symbols is that of `DynamicView::symbol_count`. Errors: those of `bytes_at`
-    /// for two bytes a symbol at VerSym, `Address` if these are 2 to the 64 or more; `NoEntry` if
-    /// VerDef or VerNeed is there without its number; those of `bytes_from` for these two.
+    /// for two bytes a symbol at VerSym, `Address` if these are 2 to the 64 or more; those of
+    /// `bytes_from` for VerDef and VerNeed.
     #[tactic(auto, unfolding(crate::specs::VersionTables::version_tables_of))]
     pub fn read(
         view: &DynamicView<'a>,
@@ -62,7 +61,7 @@ impl<'a> Versions<'a> {
             (view_strings view.now) symbol_count in MatchResult result
             (λ versions. answer ≡ Ok (version_tables versions)) (λ error. answer ≡ Err error) }
     {
-        let numbers = numbers_at(file, view.entry(DT_VERSYM), symbol_count)?;
+        let numbers = numbers_at(file, numbers_address(view), symbol_count)?;
         let definitions = records_by(view, file, DT_VERDEF, DT_VERDEFNUM)?;
         let needs = records_by(view, file, DT_VERNEED, DT_VERNEEDNUM)?;
         Ok(Versions {
@@ -74,10 +73,10 @@ impl<'a> Versions<'a> {
 
     /// An iterator over the versions that the file defines, in order, the base included.
     ///
-    /// A record lies `next` bytes after the one before. The list ends after as many records as the
-    /// entry VerDefNum says, or after one whose `next` is 0. If a record extends past the end of
-    /// its segment, the last item is the error `ShortVersion`. There are no more items than bytes
-    /// from the table up to the end of its segment; each takes a fixed time.
+    /// A record lies `next` bytes after the one before. As in glibc, the list ends after one whose
+    /// `next` is 0, whatever the entry VerDefNum says. If a record extends past the end of its segment,
+    /// the last item is the error `ShortVersion`. There are no more items than bytes from the table up
+    /// to the end of its segment; each takes a fixed time.
     pub fn definitions(&self) -> Definitions<'a>
         ensures longest { AreDefinitions (version_tables self.now).definitions
             (definitions_left result) }
@@ -91,11 +90,12 @@ impl<'a> Versions<'a> {
     /// An iterator over the versions that the file needs of libraries, in order: the parts of each
     /// need, which names a library.
     ///
-    /// Needs and parts are lists like that of `definitions`, and the first record that is cut off
-    /// ends the whole with the error `ShortVersion`. The last item is the error `VersionCount`, in
-    /// place of the parts of a need, if it and the needs before it have more parts than the bytes
-    /// have room for, of 16 bytes each. So the iterator reads at most one need for each byte from
-    /// the table up to the end of its segment, and one part for each 16 bytes.
+    /// Needs and parts are lists like that of `definitions`, whatever VerNeedNum and the number of
+    /// parts in a need (vn_cnt) say, and the first record that is cut off ends the whole with the
+    /// error `ShortVersion`. The last item is the error `VersionCount`, in place of a part, if there
+    /// are more parts than the bytes from the table up to the end of its segment have room for, of 16
+    /// bytes each. So the iterator reads at most one need and one part for each 16 of these bytes, and
+    /// one more.
     pub fn needs(&self) -> Needs<'a>
         ensures longest { AreNeeds (version_tables self.now).needs (needs_left result) }
         ensures exact { needs_left result ≡ needs_in (version_tables self.now).needs }
@@ -103,6 +103,16 @@ impl<'a> Versions<'a> {
     {
         Needs::new(self.needs)
     }
+}
+
+// The address of the numbers of symbols, of a file that defines or needs versions.
+fn numbers_address(view: &DynamicView<'_>) -> Option<u64>
+    ensures { result ≡ numbers_address (view_entries view.now) }
+{
+    if view.entry(DT_VERDEF).is_none() && view.entry(DT_VERNEED).is_none() {
+        return None;
+    }
+    view.entry(DT_VERSYM)
 }
 
 // The numbers of the symbols, of two bytes each.
@@ -123,7 +133,7 @@ fn numbers_at<'a>(
     Ok(Some(bytes_at(file, address, count * 2)?))
 }
 
-// The records at the address in an entry, with their number in another.
+// The records at the address in an entry, with the number that another tells.
 fn records_by<'a>(
     view: &DynamicView<'a>,
     file: &ElfFile<'a>,
@@ -138,17 +148,14 @@ fn records_by<'a>(
     let Some(address) = view.entry(at) else {
         return Ok(Records {
             bytes: &[],
-            count: 0,
+            told: Some(0),
             order,
             strings,
         });
     };
-    let Some(count) = view.entry(counted) else {
-        return Err(LinkError::NoEntry);
-    };
     Ok(Records {
         bytes: bytes_from(file, address)?,
-        count,
+        told: view.entry(counted),
         order,
         strings,
     })

@@ -3,7 +3,7 @@
 
 mod dynamic;
 mod entries;
-mod first_numbers;
+mod last_numbers;
 mod linked_symbol;
 mod loaded;
 mod location;
@@ -13,7 +13,7 @@ mod symbols;
 mod tables;
 mod tags;
 
-pub use crate::view::dynamic::{DynamicView, dynamic_segment, strings};
+pub use crate::view::dynamic::{DynamicView, dynamic_bytes, dynamic_segment, strings};
 pub use crate::view::entries::DynamicEntries;
 pub use crate::view::linked_symbol::LinkedSymbol;
 pub use crate::view::loaded::{bytes_at, bytes_from, segment_at, word_at};

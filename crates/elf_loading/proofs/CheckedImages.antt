@@ -11,6 +11,7 @@ use base.SetCodes.{SetCoded-set, coded}
 use base.Stored.{Coded}
 use mathlib.Core.Logic.{∥∥₁_elim}
 use Rattle.std.specs.Coded.{codes}
+use Rattle.elf_base.specs.Refusal.{unless}
 use Rattle.elf_linking.specs.CheckedScope.{bound_fields, bound_in}
 use Rattle.elf_linking.specs.DynamicObject.{object_dynamic_symbols, object_file, object_records}
 use Rattle.elf_linking.specs.Exports.{SymbolParts, symbol_parts}
@@ -28,12 +29,13 @@ use Rattle.elf_loading.specs.OneWord.{IsByOneWord, IsByOneWordIn, byte_by_item, 
 use Rattle.elf_loading.specs.Plan.{plan_loads, plan_size, plan_span}
 use Rattle.elf_loading.specs.Relocate.{image_in, plan_start, sources_of, image_start, value_byte, word_byte}
 use Rattle.elf_loading.specs.Values.{bytes_of, value_of}
-use Rattle.elf_loading.specs.Words.{HasWord, IsBoundIf, addend_of, and_link, formula_word, own_size, size_in_own, formula_has_symbol, takes_symbol, value_word}
+use Rattle.elf_loading.specs.Words.{HasWord, IsBoundIf, addend_of, and_link, formula_word, own_size, size_in_own, formula_has_symbol, takes_symbol, value_rows, value_word}
 use Rattle.elf_loading.specs.WordsLeft.{relocation_of}
 use Rattle.elf_loading.specs.declared.plan.LoadPlan.{LoadPlan}
 use Rattle.elf_loading.specs.declared.relocate.Sources.{Sources}
 use Rattle.elf_loading.specs.declared.value.Value.TheVariants as values
 use Rattle.elf_loading.specs.declared.words.Binding.TheVariants.{Now}
+use Rattle.elf_loading.proofs.LoadChecks.{unless_ok}
 use Rattle.elf_loading.proofs.CheckedWords.{apart_once, same_word}
 use Rattle.xmas_elf.specs.Symbol.{SymbolFields}
 
@@ -112,12 +114,12 @@ module _ {E : Type 0} {r : _} (fields : E → SymbolFields) (objects : List (Dyn
 
       word_by_parts : (formula : Formula) (said : Result ℕ LinkError) (found : Result (Option (Bound E)) LinkError)
           → addend_of (object_file own) relocation.in_place formula relocation.reference ≡ said → IsBoundIf (takes_symbol formula) fields objects index relocation.reference found
-          → and_link said (λ addend. and_link found (λ symbol. Ok (value_word fields (terms_by addend (own_size fields own relocation.reference.symbol)) symbol formula))) ≡ Ok word
+          → and_link said (λ addend. and_link found (λ symbol. unless (value_rows fields relocation.reference.symbol symbol formula) (value_word fields (terms_by addend (own_size fields own relocation.reference.symbol)) symbol formula))) ≡ Ok word
           → WordIs (Some formula)
       word_by_parts formula (Err error) found said_is bound is = absurd (cc)
       word_by_parts formula (Ok addend) (Err error) said_is bound is = absurd (cc)
       word_by_parts formula (Ok addend) (Ok symbol) said_is bound is =
-          let made : value_word fields (terms_by addend (own_size fields own relocation.reference.symbol)) symbol formula ≡ word = cc in
+          let (none, made) = unless_ok (value_rows fields relocation.reference.symbol symbol formula) (value_word fields (terms_by addend (own_size fields own relocation.reference.symbol)) symbol formula) word is in
           let addend_is : unwrap_or (result_ok (addend_of (object_file own) relocation.in_place formula relocation.reference)) 0 ≡ addend = ap (λ s. unwrap_or (result_ok s) 0) said_is in
           let size = size_is relocation.reference.symbol in
           let symbols = symbol_is (takes_symbol formula) relocation.reference symbol bound in

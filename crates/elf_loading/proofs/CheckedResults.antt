@@ -24,7 +24,7 @@ use Rattle.elf_loading.specs.CheckedImage.{ImageParts, IsCheckedImage, fault_of,
 use Rattle.elf_loading.specs.ImageWords.{item_words, covers}
 use Rattle.elf_loading.specs.Plan.{plan_size, plan_span, plan_loads}
 use Rattle.elf_loading.specs.Relocate.{AreItemsWritten, IsRelocation, IsRelocationIn, IsWriting, all, has_no_number, image_in, is_absent, is_copy_outside, is_outside, is_unresolved, is_weak, is_wrong_size, lacks_number, some, sources_of, image_start, write_item}
-use Rattle.elf_loading.specs.Words.{HasWord, IsBoundIf, addend_of, and_link, formula_word, own_size, formula_has_symbol, value_word}
+use Rattle.elf_loading.specs.Words.{HasWord, IsBoundIf, addend_of, and_link, formula_word, own_size, formula_has_symbol, value_rows, value_word}
 use Rattle.elf_loading.specs.WordsLeft.{relocation_of, own_relocations}
 use Rattle.elf_loading.specs.declared.plan.LoadPlan.{LoadPlan}
 use Rattle.elf_loading.specs.declared.relocate.Sources.{Sources}
@@ -166,7 +166,7 @@ module _ {E : Type 0} {r : _} (fields : E → SymbolFields) (objects : Bor (List
         by_formula (row_of (file_machine (object_file own)) reference.kind).formula item.bound (sym word_is ∙ known)
       where
         by_parts : (formula : Formula) (said : Result ℕ LinkError) (found : Result (Option (Bound E)) LinkError)
-            → and_link said (λ addend. and_link found (λ symbol. Ok (value_word fields (record {
+            → and_link said (λ addend. and_link found (λ symbol. unless (value_rows fields item.relocation.reference.symbol symbol formula) (value_word fields (record {
               own = index;
               address = item.relocation.reference.offset;
               addend = addend;

@@ -5,6 +5,7 @@ use Rattle.std.specs.List.{count_by}
 use Rattle.std.proofs.lemmas.Bool.{and_parts}
 use Rattle.std.proofs.lemmas.List.Elements.{All-head, All-tail}
 use Rattle.std.proofs.lemmas.List.Sums.{sum_by-append}
+use Rattle.elf_base.specs.Refusal.{unless}
 use Rattle.elf_linking.specs.DynamicObject.{object_file}
 use Rattle.elf_linking.specs.References.{file_machine}
 use Rattle.elf_loading.specs.Types.{Bound, DynamicObject, Formula, LinkError, LoadError, Reference, Relocated, Relocation, Row, Segment, Terms, Word}
@@ -14,9 +15,10 @@ use Rattle.elf_linking.proofs.lemmas.RelocationTypes.{row_passes}
 use Rattle.elf_loading.specs.ImageWords.{AreWordsApart, covers, item_words}
 use Rattle.elf_loading.specs.OneWord.{is_of_word, is_over}
 use Rattle.elf_loading.specs.Values.{bytes_of, value_of}
-use Rattle.elf_loading.specs.Words.{HasWord, IsBoundIf, addend_of, and_link, formula_word, is_lazy, own_size, formula_has_symbol, value_word}
+use Rattle.elf_loading.specs.Words.{HasWord, IsBoundIf, addend_of, and_link, formula_word, is_lazy, own_size, formula_has_symbol, value_rows, value_word}
 use Rattle.elf_loading.specs.WordsLeft.{relocation_of, own_relocations}
 use Rattle.elf_linking.specs.declared.references.types.Formula.TheVariants as formulas
+use Rattle.elf_loading.proofs.LoadChecks.{unless_ok}
 use Rattle.elf_loading.proofs.Marks.{covers_parts}
 use Rattle.xmas_elf.specs.Symbol.{SymbolFields}
 
@@ -133,12 +135,12 @@ module _ {E : Type 0} {r : _} (fields : E → SymbolFields) (objects : List (Dyn
   extent_of formula in_place reference bound word plain is = by_parts (addend_of (object_file own) in_place formula reference) bound is
     where
       by_parts : (said : Result ℕ LinkError) (found : Result (Option (Bound E)) LinkError)
-          → and_link said (λ addend. and_link found (λ symbol. Ok (value_word fields (terms_of reference addend) symbol formula))) ≡ Ok word
+          → and_link said (λ addend. and_link found (λ symbol. unless (value_rows fields reference.symbol symbol formula) (value_word fields (terms_of reference addend) symbol formula))) ≡ Ok word
           → (word.address ≡ reference.offset) × (word.width ≡ (row_of (file_machine (object_file own)) reference.kind).width)
       by_parts (Err e) found is = absurd (cc)
       by_parts (Ok addend) (Err e) is = absurd (cc)
       by_parts (Ok addend) (Ok symbol) is =
-          let same : value_word fields (terms_of reference addend) symbol formula ≡ word = cc in
+          let (none, same) = unless_ok (value_rows fields reference.symbol symbol formula) (value_word fields (terms_of reference addend) symbol formula) word is in
           (sym (ap (λ (w : Word). w.address) same), sym (ap (λ (w : Word). w.width) same) ∙ plain (terms_of reference addend) symbol)
 
   slot_formula : (m k : ℕ) → (row_of m k).slot ≡ true → ((row_of m k).formula ≡ Some formulas.SymbolAlone) ⊎ ((row_of m k).formula ≡ Some formulas.Symbol)

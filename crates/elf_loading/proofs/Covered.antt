@@ -130,12 +130,13 @@ module _ (page limit len : ℕ) where
   not_of_loads before [] is = absurd (cc)
   not_of_loads before (load ∷ loads) is = not_by_load loads (check_load page limit len before load) (not_of_load before load) (λ end. not_of_loads (Some end) loads) is
 
-third_by : (a b c d : Bool) → (if a then Err error.Headers else (if b then Err error.Interpreter else (if c then Err error.Relro else (if d then Err error.Tls else Ok (tt {0}))))) ≡ Err error.Relro → c ≡ true
-third_by true b c d is = absurd (cc)
-third_by false true c d is = absurd (cc)
-third_by false false true d is = refl
-third_by false false false true is = absurd (cc)
-third_by false false false false is = absurd (cc)
+third_by : (a b c d e : Bool) → (if a then Err error.Headers else (if b then Err error.Interpreter else (if c then Err error.Relro else (if d then Err error.Tls else (if e then Err error.Entry else Ok (tt {0})))))) ≡ Err error.Relro → c ≡ true
+third_by true b c d e is = absurd (cc)
+third_by false true c d e is = absurd (cc)
+third_by false false true d e is = refl
+third_by false false false true e is = absurd (cc)
+third_by false false false false true is = absurd (cc)
+third_by false false false false false is = absurd (cc)
 
 module _ (file : ElfFile) (page limit : ℕ) (h : 0 < page) where
   first_free : (last : Option ℕ) (relro : Option Segment) → check_loads page limit (length file.input.now) None (loads_of file) ≡ Ok last → is_uncovered page (loads_of file) relro ≡ true → MatchOption relro ⊥ (λ one. HasUncovered page (loads_of file) (relro_span page one))
@@ -147,23 +148,23 @@ module _ (file : ElfFile) (page limit : ℕ) (h : 0 < page) where
     not_in_load = free page h (down page one.address) 0 (loads_of file) (checks_apart page limit (length file.input.now) None last (loads_of file) loads);
   }
 
-  by_rest : (found : ℕ) (last : Option ℕ) (answer : Result (Unit {0}) LoadError) → unless (segment_rows file page) (tt {0}) ≡ answer → check_loads page limit (length file.input.now) None (loads_of file) ≡ Ok last → and_then answer (λ passed. Ok found) ≡ Err error.Relro → MatchOption (relro_of file) ⊥ (λ one. HasUncovered page (loads_of file) (relro_span page one))
+  by_rest : (found : ℕ) (last : Option ℕ) (answer : Result (Unit {0}) LoadError) → unless (segment_rows file page limit) (tt {0}) ≡ answer → check_loads page limit (length file.input.now) None (loads_of file) ≡ Ok last → and_then answer (λ passed. Ok found) ≡ Err error.Relro → MatchOption (relro_of file) ⊥ (λ one. HasUncovered page (loads_of file) (relro_span page one))
   by_rest found last (Ok passed) rest loads is = absurd (cc)
   by_rest found last (Err why) rest loads is =
       let same : why ≡ error.Relro = cc in
-      first_free last (relro_of file) loads (third_by _ _ _ _ (subst (λ e. unless (segment_rows file page) (tt {0}) ≡ Err e) same rest))
+      first_free last (relro_of file) loads (third_by _ _ _ _ _ (subst (λ e. unless (segment_rows file page limit) (tt {0}) ≡ Err e) same rest))
 
-  by_last : (last : Option ℕ) → check_loads page limit (length file.input.now) None (loads_of file) ≡ Ok last → and_then (ok_or last error.NoLoad) (λ found. and_then (unless (segment_rows file page) (tt {0})) (λ passed. Ok found)) ≡ Err error.Relro → MatchOption (relro_of file) ⊥ (λ one. HasUncovered page (loads_of file) (relro_span page one))
-  by_last (Some found) loads is = by_rest found (Some found) (unless (segment_rows file page) (tt {0})) refl loads is
+  by_last : (last : Option ℕ) → check_loads page limit (length file.input.now) None (loads_of file) ≡ Ok last → and_then (ok_or last error.NoLoad) (λ found. and_then (unless (segment_rows file page limit) (tt {0})) (λ passed. Ok found)) ≡ Err error.Relro → MatchOption (relro_of file) ⊥ (λ one. HasUncovered page (loads_of file) (relro_span page one))
+  by_last (Some found) loads is = by_rest found (Some found) (unless (segment_rows file page limit) (tt {0})) refl loads is
   by_last None loads is = absurd (cc)
 
-  by_loads : (answer : Result (Option ℕ) LoadError) → check_loads page limit (length file.input.now) None (loads_of file) ≡ answer → and_then answer (λ last. and_then (ok_or last error.NoLoad) (λ found. and_then (unless (segment_rows file page) (tt {0})) (λ passed. Ok found))) ≡ Err error.Relro → MatchOption (relro_of file) ⊥ (λ one. HasUncovered page (loads_of file) (relro_span page one))
+  by_loads : (answer : Result (Option ℕ) LoadError) → check_loads page limit (length file.input.now) None (loads_of file) ≡ answer → and_then answer (λ last. and_then (ok_or last error.NoLoad) (λ found. and_then (unless (segment_rows file page limit) (tt {0})) (λ passed. Ok found))) ≡ Err error.Relro → MatchOption (relro_of file) ⊥ (λ one. HasUncovered page (loads_of file) (relro_span page one))
   by_loads (Ok last) loads is = by_last last loads is
   by_loads (Err why) loads is =
       let same : why ≡ error.Relro = cc in
       absurd (not_of_loads page limit (length file.input.now) None (loads_of file) (subst (λ e. check_loads page limit (length file.input.now) None (loads_of file) ≡ Err e) same loads))
 
-  by_header : (answer : Result (Unit {0}) LoadError) → unless (header_rows file page) (tt {0}) ≡ answer → and_then answer (λ done. and_then (check_loads page limit (length file.input.now) None (loads_of file)) (λ last. and_then (ok_or last error.NoLoad) (λ found. and_then (unless (segment_rows file page) (tt {0})) (λ passed. Ok found)))) ≡ Err error.Relro → MatchOption (relro_of file) ⊥ (λ one. HasUncovered page (loads_of file) (relro_span page one))
+  by_header : (answer : Result (Unit {0}) LoadError) → unless (header_rows file page) (tt {0}) ≡ answer → and_then answer (λ done. and_then (check_loads page limit (length file.input.now) None (loads_of file)) (λ last. and_then (ok_or last error.NoLoad) (λ found. and_then (unless (segment_rows file page limit) (tt {0})) (λ passed. Ok found)))) ≡ Err error.Relro → MatchOption (relro_of file) ⊥ (λ one. HasUncovered page (loads_of file) (relro_span page one))
   by_header (Ok done) header is = by_loads (check_loads page limit (length file.input.now) None (loads_of file)) refl is
   by_header (Err why) header is =
       let same : why ≡ error.Relro = cc in

@@ -31,7 +31,7 @@ ok_ends answer end is = rw is (eq-eqb end end refl)
 -- a file that passes its check: its loads are checked up to the end of the last, and no reason of the rest applies
 pub record Passes (file : ElfFile) (page limit end : ℕ) : Type 0 where
   pub loads : check_loads page limit (length file.input.now) None (loads_of file) ≡ Ok (Some end)
-  pub rest : NoneApplies (segment_rows file page)
+  pub rest : NoneApplies (segment_rows file page limit)
 
 covered_by : (page limit bound address : ℕ) (b : Bool) (load : Segment) → limit < bound → address < bound → load_end page load ≤ limit → (if b then load_end page load else address) < bound
 covered_by page limit bound address true load le at fits = omega arith
@@ -90,21 +90,21 @@ path_none (Some segment) is = absurd (cc)
 path_none None is = refl
 
 module _ (file : ElfFile) (page limit end : ℕ) where
-  by_rest : (found : ℕ) (answer : Result (Unit {0}) LoadError) → unless (segment_rows file page) (tt {0}) ≡ answer → and_then answer (λ passed. Ok found) ≡ Ok end → NoneApplies (segment_rows file page) × (found ≡ end)
-  by_rest found (Ok passed) rest is = ((unless_ok (segment_rows file page) (tt {0}) passed rest).0, cc)
+  by_rest : (found : ℕ) (answer : Result (Unit {0}) LoadError) → unless (segment_rows file page limit) (tt {0}) ≡ answer → and_then answer (λ passed. Ok found) ≡ Ok end → NoneApplies (segment_rows file page limit) × (found ≡ end)
+  by_rest found (Ok passed) rest is = ((unless_ok (segment_rows file page limit) (tt {0}) passed rest).0, cc)
   by_rest found (Err error) rest is = absurd (cc)
 
-  by_last : (last : Option ℕ) → check_loads page limit (length file.input.now) None (loads_of file) ≡ Ok last → and_then (ok_or last error.NoLoad) (λ found. and_then (unless (segment_rows file page) (tt {0})) (λ passed. Ok found)) ≡ Ok end → Passes file page limit end
+  by_last : (last : Option ℕ) → check_loads page limit (length file.input.now) None (loads_of file) ≡ Ok last → and_then (ok_or last error.NoLoad) (λ found. and_then (unless (segment_rows file page limit) (tt {0})) (λ passed. Ok found)) ≡ Ok end → Passes file page limit end
   by_last (Some found) loads is =
-      let (none, same) = by_rest found (unless (segment_rows file page) (tt {0})) refl is in
+      let (none, same) = by_rest found (unless (segment_rows file page limit) (tt {0})) refl is in
       record { loads = subst (λ n. check_loads page limit (length file.input.now) None (loads_of file) ≡ Ok (Some n)) same loads; rest = none }
   by_last None loads is = absurd (cc)
 
-  by_loads : (answer : Result (Option ℕ) LoadError) → check_loads page limit (length file.input.now) None (loads_of file) ≡ answer → and_then answer (λ last. and_then (ok_or last error.NoLoad) (λ found. and_then (unless (segment_rows file page) (tt {0})) (λ passed. Ok found))) ≡ Ok end → Passes file page limit end
+  by_loads : (answer : Result (Option ℕ) LoadError) → check_loads page limit (length file.input.now) None (loads_of file) ≡ answer → and_then answer (λ last. and_then (ok_or last error.NoLoad) (λ found. and_then (unless (segment_rows file page limit) (tt {0})) (λ passed. Ok found))) ≡ Ok end → Passes file page limit end
   by_loads (Ok last) loads is = by_last last loads is
   by_loads (Err error) loads is = absurd (cc)
 
-  by_header : (answer : Result (Unit {0}) LoadError) → and_then answer (λ done. and_then (check_loads page limit (length file.input.now) None (loads_of file)) (λ last. and_then (ok_or last error.NoLoad) (λ found. and_then (unless (segment_rows file page) (tt {0})) (λ passed. Ok found)))) ≡ Ok end → Passes file page limit end
+  by_header : (answer : Result (Unit {0}) LoadError) → and_then answer (λ done. and_then (check_loads page limit (length file.input.now) None (loads_of file)) (λ last. and_then (ok_or last error.NoLoad) (λ found. and_then (unless (segment_rows file page limit) (tt {0})) (λ passed. Ok found)))) ≡ Ok end → Passes file page limit end
   by_header (Ok done) is = by_loads (check_loads page limit (length file.input.now) None (loads_of file)) refl is
   by_header (Err error) is = absurd (cc)
 

@@ -13,7 +13,7 @@ use Rattle.elf_linking.specs.DynamicView.{view_entries}
 use Rattle.elf_loading.specs.Types.{DynamicObject, LinkError, LoadError, Relocated, Relocation, Segment, TableLocation, Word}
 use Rattle.elf_loading.specs.ImageTables.{asks_for_text, check_tables, tables_of}
 use Rattle.elf_loading.specs.Segments.{has_flag}
-use Rattle.elf_loading.specs.ImageWords.{AreMarksOf, AreWordsFrom, IsBegun, IsOwnCheck, MatchBoth, as_load_error, by_words, check_word, check_words, checked_relocations, item_words, holds_word, overlaps, touches}
+use Rattle.elf_loading.specs.ImageWords.{AreMarksOf, AreWordsFrom, IsBegun, IsOwnCheck, MatchBoth, as_load_error, by_words, check_records, check_word, check_words, checked_relocations, item_words, holds_word, overlaps, touches}
 use Rattle.elf_loading.specs.Plan.{plan_loads, plan_size}
 use Rattle.elf_loading.specs.Words.{HasWord}
 use Rattle.elf_loading.specs.WordsLeft.{HasWordOf, IsSame, relocation_of, words_file, relocations_left, own_relocations, words_own}
@@ -133,22 +133,26 @@ link_ok : {A : Type 0} (r : Result A LinkError) (value : A) → as_load_error r 
 link_ok (Ok x) value is = let same : x ≡ value = cc in ap (λ v. Ok v) same
 link_ok (Err error) value is = absurd (cc)
 
+-- they are read, and there are not too few marks
+checked_parts : {E : Type 0} {r : _} (size : ℕ) (own : DynamicObject E r) (plan : LoadPlan) (bits : ℕ) (relocations : List Relocation) → checked_relocations size own plan bits ≡ Ok relocations
+    → (own_relocations (Some own) ≡ Ok relocations) × (nat_lt bits (plan_size plan) ≡ false)
+checked_parts size own plan bits relocations is =
+    let few : List (Bool × LoadError) = (nat_lt bits (plan_size plan), FewMarks) ∷ [] in
+    let records : Result (Unit {0}) LoadError = check_records (object_file own) (view_entries (object_view own)) in
+    let (done, tables, more) = then_ok {A = Unit {0}} (check_tables size own) (λ done. and_then (as_load_error (own_relocations (Some own))) (λ all. and_then records (λ applied. unless few all))) relocations is in
+    let (all, found, rest) = then_ok (as_load_error (own_relocations (Some own))) (λ all. and_then records (λ applied. unless few all)) relocations more in
+    let (applied, passed, enough) = then_ok {A = Unit {0}} records (λ applied. unless few all) relocations rest in
+    let (none, same) = unless_ok few all relocations enough in
+    (link_ok (own_relocations (Some own)) relocations (found ∙ ap (λ v. Ok v) same), none.0)
+
 pub relocations_are : {E : Type 0} {r : _} (size : ℕ) (own : DynamicObject E r) (plan : LoadPlan) (bits : ℕ) (relocations : List Relocation) → checked_relocations size own plan bits ≡ Ok relocations → own_relocations (Some own) ≡ Ok relocations
 relocations_are size own plan bits relocations is =
-    let few : List (Bool × LoadError) = (nat_lt bits (plan_size plan), FewMarks) ∷ [] in
-    let (done, tables, more) = then_ok {A = Unit {0}} (check_tables size own) (λ done. and_then (as_load_error (own_relocations (Some own))) (λ all. unless few all)) relocations is in
-    let (all, found, enough) = then_ok (as_load_error (own_relocations (Some own))) (λ all. unless few all) relocations more in
-    let (none, same) = unless_ok few all relocations enough in
-    link_ok (own_relocations (Some own)) relocations (found ∙ ap (λ v. Ok v) same)
+    let (found, none) = checked_parts size own plan bits relocations is in found
 
 -- there are enough marks
 pub enough_marks : {E : Type 0} {r : _} (size : ℕ) (own : DynamicObject E r) (plan : LoadPlan) (bits : ℕ) (relocations : List Relocation) → checked_relocations size own plan bits ≡ Ok relocations → plan_size plan ≤ bits
 enough_marks size own plan bits relocations is =
-    let few : List (Bool × LoadError) = (nat_lt bits (plan_size plan), FewMarks) ∷ [] in
-    let (done, tables, more) = then_ok {A = Unit {0}} (check_tables size own) (λ done. and_then (as_load_error (own_relocations (Some own))) (λ all. unless few all)) relocations is in
-    let (all, found, enough) = then_ok (as_load_error (own_relocations (Some own))) (λ all. unless few all) relocations more in
-    let (none, same) = unless_ok few all relocations enough in
-    ltb-false bits (plan_size plan) none.0
+    let (found, none) = checked_parts size own plan bits relocations is in ltb-false bits (plan_size plan) none
 
 -- The check of an object.
 

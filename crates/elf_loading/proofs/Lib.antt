@@ -3,6 +3,8 @@ pub mod LoadChecks
 pub mod Lists
 pub mod Others
 pub mod LoadPasses
+pub mod LoaderChecks
+mod KernelChecks
 pub mod FileChecks
 pub mod Follows
 pub mod LoadBytes
@@ -17,6 +19,7 @@ pub mod Written
 pub mod CheckedWords
 pub mod OneWords
 pub mod ImageTables
+pub mod RecordChecks
 pub mod ImageLoads
 pub mod Marks
 pub mod ImageChecks

@@ -35,8 +35,9 @@ pub load_fits : (page limit len : ℕ) (before : Option ℕ) (load : Segment) (e
 unfolding check_load
 load_fits page limit len before load end is =
     let (none, same) = unless_ok (load_rows page limit len before load) (load_end page load) end is in
+    let range = or_parts (nat_le limit load.address) (nat_lt limit (load_end page load)) none.1.1.1.1.0 in
     and_from (nat_le load.file_size load.mem_size) (nat_le (load_end page load) limit)
-    (le-leb _ _ (ltb-false _ _ none.0)) (le-leb _ _ (ltb-false _ _ none.1.1.1.1.0))
+    (le-leb _ _ (ltb-false _ _ none.0)) (le-leb _ _ (ltb-false _ _ range.1))
 
 -- a load lies in a file with `len` bytes, at the place in a page at which it is in memory
 abbrev pub lies_in : ℕ → ℕ → Segment → Bool

@@ -136,3 +136,11 @@ elsewhere_by file others placed None phdr path is = rw phdr (rw path (ap (λ b. 
 
 pub elsewhere_is : (file : ElfFile) (others : Others) (placed : Bool) → AreOthersOf file others → placed ≡ is_put_at (header_fields file.header.pt2).ph_offset (unwrap_or others.phdr 0) (holder_in (header_fields file.header.pt2).ph_offset None (loads_of file)) → is_elsewhere file others placed ≡ is_misplaced file (phdr_of file)
 elsewhere_is file others placed found is = elsewhere_by file others placed (phdr_of file) found.phdr_is found.interpreter_is is
+
+-- the entry point, where the interpreter was kept
+entry_by : (interpreter : Option Segment) → is_none (option_map data_of interpreter) ≡ is_none interpreter
+entry_by (Some segment) = refl
+entry_by None = refl
+
+pub entry_is : (file : ElfFile) (path : Option Extent) → path ≡ option_map data_of (interpreter_of file) → is_none path ≡ is_none (interpreter_of file)
+entry_is file path is = ap is_none is ∙ entry_by (interpreter_of file)

@@ -1,9 +1,9 @@
 -- Marks: which words they are of, mark by mark.
-use Rattle.std.proofs.Common.{◌≡◌, ℕ, zero, suc, ◌+◌, ◌-◌, ◌*◌, ◌/◌, ◌%◌, ◌^◌, ◌<◌, ◌≤◌, ◌==◌, ◌&&◌, ◌||◌, nat_lt, nat_le, Bool, true, false, List, ◌∷◌, length, slice_index, inl, inr, min, max, refl, sym, ap, ◌∙◌, subst, arith}
-use Rattle.std.proofs.lemmas.Bool.{and_from, and_parts, and_right, cases_eq, eq-eqb, eqb-true, le-leb, le-ltb, leb-true, lt-ltb, ltb-true, ne_eqb, or_cases, or_left, or_right}
+use Rattle.std.proofs.Common.{◌≡◌, ℕ, zero, suc, ◌+◌, ◌-◌, ◌*◌, ◌/◌, ◌%◌, ◌^◌, ◌<◌, ◌≤◌, ◌==◌, ◌&&◌, ◌||◌, not, nat_lt, nat_le, Bool, true, false, List, ◌∷◌, length, slice_index, inl, inr, min, max, refl, sym, ap, ◌∙◌, subst, arith}
+use Rattle.std.proofs.lemmas.Bool.{and_from, and_parts, and_right, cases_eq, eq-eqb, eqb-false, eqb-true, false≢true, le-leb, le-ltb, leb-true, lt-ltb, ltb-true, ne_eqb, or_cases, or_left, or_right}
 use Rattle.std.proofs.lemmas.List.{get_or-set_other, get_or-set_same}
 use Rattle.std.proofs.lemmas.List.Folds.{Any-from_list_any, list_any-from_Any}
-use Rattle.std.proofs.lemmas.Nat.Bits.{bit_at_set_other, bit_at_set_same}
+use Rattle.std.proofs.lemmas.Nat.Bits.{bit_at-lt, bit_at-zero, bit_at_ones, bit_at_set_other, bit_at_set_same}
 use Rattle.std.proofs.Math.ListN.{set}
 use Rattle.std.specs.Int.{w8, bit_at}
 use Rattle.std.specs.Prelude.{bit_or}
@@ -77,6 +77,69 @@ between_from start count i from to = and_from _ _ (le-leb _ _ from) (lt-ltb _ _ 
 
 between_parts : (start count i : ℕ) → is_between start count i ≡ true → (start ≤ i) × (i < start + count)
 between_parts start count i is = let (from, to) = and_parts (nat_le start i) (nat_lt i (start + count)) is in (leb-true _ _ from, ltb-true _ _ to)
+
+-- The eight marks of a byte.
+
+module _ (marks : List ℕ) (start : ℕ) (whole : start % 8 ≡ 0) where
+  abbrev byte_of : ℕ
+  byte_of = slice_index marks (start / 8)
+
+  byte_bit : (k : ℕ) → k < 8 → is_marked marks (start + k) ≡ (bit_at byte_of k == 1)
+  byte_bit k less =
+      let place : (start + k) / 8 ≡ start / 8 = omega (arith, whole, less) in
+      let bit : (start + k) % 8 ≡ k = omega (arith, whole, less) in
+      rw (place, bit) refl
+
+  no_bit : (k : ℕ) → k < 8 → some_marked marks start 8 ≡ false → bit_at byte_of k ≡ 0
+  no_bit k less none = by_bit (bit_at byte_of k == 1) refl
+    where
+      by_bit : (b : Bool) → (bit_at byte_of k == 1) ≡ b → bit_at byte_of k ≡ 0
+      by_bit true is = absurd (false≢true (sym none ∙ some_at marks start 8 k less (byte_bit k less ∙ is)))
+      by_bit false is = let apart : bit_at byte_of k ≡ 1 → ⊥ = eqb-false _ _ is in let small = bit_at-lt byte_of k in omega (arith, apart, small)
+
+  byte_empty : byte_of < 256 → some_marked marks start 8 ≡ false → byte_of ≡ 0
+  byte_empty below none =
+      let b0 : byte_of / 1 % 2 ≡ 0 = no_bit 0 (omega arith) none in
+      let b1 : byte_of / 2 % 2 ≡ 0 = no_bit 1 (omega arith) none in
+      let b2 : byte_of / 4 % 2 ≡ 0 = no_bit 2 (omega arith) none in
+      let b3 : byte_of / 8 % 2 ≡ 0 = no_bit 3 (omega arith) none in
+      let b4 : byte_of / 16 % 2 ≡ 0 = no_bit 4 (omega arith) none in
+      let b5 : byte_of / 32 % 2 ≡ 0 = no_bit 5 (omega arith) none in
+      let b6 : byte_of / 64 % 2 ≡ 0 = no_bit 6 (omega arith) none in
+      let b7 : byte_of / 128 % 2 ≡ 0 = no_bit 7 (omega arith) none in
+      omega (arith, below, b0, b1, b2, b3, b4, b5, b6, b7)
+
+  byte_some : some_marked marks start 8 ≡ true → byte_of ≡ 0 → ⊥
+  byte_some some empty =
+      let (k, less, marked) = some_found marks start 8 some in
+      let bit : bit_at byte_of k ≡ 1 = eqb-true _ _ (sym (byte_bit k less) ∙ marked) in
+      let none : bit_at byte_of k ≡ 0 = ap (λ n. bit_at n k) empty ∙ bit_at-zero k in
+      omega (arith, bit, none)
+
+  was_by : (b : Bool) → byte_of < 256 → some_marked marks start 8 ≡ b → not (byte_of == 0) ≡ b
+  was_by true below is = rw (ne_eqb byte_of 0 (byte_some is)) refl
+  was_by false below is = rw (eq-eqb byte_of 0 (byte_empty below is)) refl
+
+  pub byte_was : byte_of < 256 → not (byte_of == 0) ≡ some_marked marks start 8
+  byte_was below = was_by (some_marked marks start 8) below refl
+
+  abbrev full : List ℕ
+  full = set marks (start / 8) 255
+
+  pub byte_set : start + 8 ≤ 8 * length marks → (i : ℕ) → is_marked full i ≡ (is_between start 8 i || is_marked marks i)
+  byte_set room i = elim (cases_eq (i / 8) (start / 8)) [
+    | inl same ↦
+        let there : slice_index full (i / 8) ≡ 255 = ap (slice_index full) same ∙ get_or-set_same marks (start / 8) 255 0 (omega (arith, room)) in
+        let bit : bit_at 255 (i % 8) ≡ 1 = bit_at_ones 8 (i % 8) (omega arith) in
+        rw (there, bit) (sym (or_left (is_between start 8 i) (is_marked marks i) (between_from start 8 i (omega (arith, same, whole)) (omega (arith, same, whole)))))
+    | inr other ↦
+        ap (λ byte. bit_at byte (i % 8) == 1) (get_or-set_other marks (start / 8) (i / 8) 255 0 other)
+        ∙ ap (λ b. b || is_marked marks i) (sym (by_between (is_between start 8 i) refl other))
+  ]
+    where
+      by_between : (b : Bool) → is_between start 8 i ≡ b → (i / 8 ≡ start / 8 → ⊥) → is_between start 8 i ≡ false
+      by_between true is other = let (from, to) = between_parts start 8 i is in absurd (other (omega (arith, from, to, whole)))
+      by_between false is other = is
 
 pub none_between : (start i : ℕ) (b : Bool) → b ≡ (is_between start 0 i || b)
 none_between start i b = ap (λ t. t || b) (same_tests false (is_between start 0 i) (λ never. absurd (cc)) (λ is. absurd (let (from, to) = between_parts start 0 i is in omega (arith, from, to))))

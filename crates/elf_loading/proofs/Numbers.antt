@@ -11,7 +11,7 @@ use Rattle.elf_loading.specs.Message.{load_number}
 use Rattle.elf_loading.specs.declared.error.LoadError.TheVariants as error
 
 abbrev pub all_errors : List LoadError
-all_errors = error.Type ∷ error.EntrySize ∷ error.Count ∷ error.Table ∷ error.FileSize ∷ error.Empty ∷ error.Misaligned ∷ error.Alignment ∷ error.Range ∷ error.Data ∷ error.Overlap ∷ error.Zeros ∷ error.NoLoad ∷ error.Headers ∷ error.Interpreter ∷ error.Relro ∷ error.Tls ∷ error.ImageSize ∷ error.Dynamic ∷ error.NoEntry ∷ error.RelocationSize ∷ error.NotMultiple ∷ error.Unreadable ∷ error.SlotKind ∷ error.Machine ∷ error.FewMarks ∷ error.WordType ∷ error.WordAddress ∷ error.ReadOnly ∷ error.WordsOverlap ∷ error.WordInTable ∷ error.Unresolved ∷ error.CopySource ∷ []
+all_errors = error.Type ∷ error.EntrySize ∷ error.Count ∷ error.Table ∷ error.FileSize ∷ error.Empty ∷ error.Misaligned ∷ error.Alignment ∷ error.Range ∷ error.Data ∷ error.Overlap ∷ error.Zeros ∷ error.NoLoad ∷ error.Headers ∷ error.Interpreter ∷ error.Relro ∷ error.Tls ∷ error.ImageSize ∷ error.Dynamic ∷ error.NoEntry ∷ error.RelocationSize ∷ error.NotMultiple ∷ error.Unreadable ∷ error.SlotKind ∷ error.Machine ∷ error.FewMarks ∷ error.WordType ∷ error.WordAddress ∷ error.ReadOnly ∷ error.WordsOverlap ∷ error.WordInTable ∷ error.Unresolved ∷ error.CopySource ∷ error.ByteOrder ∷ error.IdentVersion ∷ error.OsAbi ∷ error.AbiVersion ∷ error.Padding ∷ error.Version ∷ error.Executable ∷ error.NoDynamic ∷ error.Entry ∷ error.NoAddends ∷ error.NoSlots ∷ error.FirstPacked ∷ error.RelativeCount ∷ error.SlotType ∷ error.NoSize ∷ error.CopyKind ∷ error.CallSymbol ∷ error.Addends ∷ []
 
 elf_below : (one : ElfError) → nat_lt 300 (row_of one).0 ≡ false
 elf_below elf.ShortPart1 = refl

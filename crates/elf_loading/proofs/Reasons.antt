@@ -49,14 +49,14 @@ module _ (page limit len : ℕ) where
 
 module _ (file : ElfFile) (page limit : ℕ) where
   abbrev rest_rows : List (Bool × LoadError)
-  rest_rows = (has_no_load (loads_of file), error.NoLoad) ∷ segment_rows file page
+  rest_rows = (has_no_load (loads_of file), error.NoLoad) ∷ segment_rows file page limit
 
-  last_by : (loads : List Segment) → and_then (ok_or (end_after page None loads) error.NoLoad) (λ end. and_then (unless (segment_rows file page) (tt {0})) (λ passed. Ok end))
-      ≡ unless ((has_no_load loads, error.NoLoad) ∷ segment_rows file page) (last_end page 0 loads)
+  last_by : (loads : List Segment) → and_then (ok_or (end_after page None loads) error.NoLoad) (λ end. and_then (unless (segment_rows file page limit) (tt {0})) (λ passed. Ok end))
+      ≡ unless ((has_no_load loads, error.NoLoad) ∷ segment_rows file page limit) (last_end page 0 loads)
   last_by [] = refl
-  last_by (load ∷ loads) = sym (value_is (segment_rows file page) (last_end page (load_end page load) loads))
+  last_by (load ∷ loads) = sym (value_is (segment_rows file page limit) (last_end page (load_end page load) loads))
 
-  loads_by : (answer : Result (Unit {0}) LoadError) → and_then (and_then answer (λ done. Ok (end_after page None (loads_of file)))) (λ last. and_then (ok_or last error.NoLoad) (λ end. and_then (unless (segment_rows file page) (tt {0})) (λ passed. Ok end)))
+  loads_by : (answer : Result (Unit {0}) LoadError) → and_then (and_then answer (λ done. Ok (end_after page None (loads_of file)))) (λ last. and_then (ok_or last error.NoLoad) (λ end. and_then (unless (segment_rows file page limit) (tt {0})) (λ passed. Ok end)))
       ≡ and_then answer (λ done. unless rest_rows (last_end page 0 (loads_of file)))
   loads_by (Ok done) = last_by (loads_of file)
   loads_by (Err why) = refl
@@ -66,7 +66,7 @@ module _ (file : ElfFile) (page limit : ℕ) where
   file_is =
       let len = length file.input.now in
       let loads = loads_rows page limit len None (loads_of file) in
-      ap (λ answer. and_then (unless (header_rows file page) (tt {0})) (λ done. and_then answer (λ last. and_then (ok_or last error.NoLoad) (λ end. and_then (unless (segment_rows file page) (tt {0})) (λ passed. Ok end))))) (loads_are page limit len None (loads_of file))
+      ap (λ answer. and_then (unless (header_rows file page) (tt {0})) (λ done. and_then answer (λ last. and_then (ok_or last error.NoLoad) (λ end. and_then (unless (segment_rows file page limit) (tt {0})) (λ passed. Ok end))))) (loads_are page limit len None (loads_of file))
       ∙ ap (λ answer. and_then (unless (header_rows file page) (tt {0})) (λ done. answer)) (loads_by (unless loads (tt {0})))
       ∙ ap (λ answer. and_then (unless (header_rows file page) (tt {0})) (λ done. answer)) (sym (append_is loads rest_rows (last_end page 0 (loads_of file))))
       ∙ sym (append_is (header_rows file page) (loads ++ rest_rows) (last_end page 0 (loads_of file)))

@@ -108,6 +108,15 @@ pub up_in : (p x : ℕ) → (x % p ≡ 0 → ⊥) → up p x ≡ x - x % p + p
 unfolding up down
 up_in p x rest = rw (ne_eqb (x % p) 0 rest) refl
 
+-- an address at which a page begins is the last such up to itself
+pub up_same : (p x : ℕ) → down p x ≡ x → 0 < p → up p x ≡ x
+unfolding down
+up_same p x is h = let near : x % p ≤ x = omega arith in up_at p x (omega (arith, is, near))
+
+pub up_next : (p x : ℕ) → (down p x ≡ x → ⊥) → up p x ≡ down p x + p
+unfolding up down
+up_next p x apart = rw (ne_eqb (x % p) 0 (λ is. apart (omega (arith, is)))) refl
+
 -- with pages of 4096 bytes the end of an address is that of the last byte of its page, rounded down
 usual_by : (x : ℕ) (b : Bool) → (x % 4096 == 0) ≡ b → x + 4095 - (x + 4095) % 4096 ≡ (if b then x else down 4096 x + 4096)
 unfolding down
@@ -144,6 +153,19 @@ sum_is p s z =
     let one : p * (s / p) + s % p ≡ s = div-add-mod s p in
     let other : p * (z / p) + z % p ≡ z = div-add-mod z p in
     omega (arith, one, other)
+
+-- where two addresses are at the same place in a page, the pages of as many bytes end with both or with neither
+mod_sum : (p s z : ℕ) → (s + z) % p ≡ (s % p + z % p) % p
+mod_sum p s z = ap (λ n. n % p) (sum_is p s z) ∙ mul-add-mod_self_left p (s / p + z / p) (s % p + z % p)
+
+pub same_whole : (p s t z : ℕ) → 0 < p → s % p ≡ t % p → down p (t + z) ≡ t + z → down p (s + z) ≡ s + z
+unfolding down
+same_whole p s t z h same is =
+    let near : (t + z) % p ≤ t + z = omega arith in
+    let none : (t + z) % p ≡ 0 = omega (arith, is, near) in
+    let equal : (s + z) % p ≡ (t + z) % p = mod_sum p s z ∙ ap (λ n. (n + z % p) % p) same ∙ sym (mod_sum p t z) in
+    let zero : (s + z) % p ≡ 0 = equal ∙ none in
+    omega (arith, zero)
 
 pub end_inside : (p s z : ℕ) → 0 < p → s % p < p - z % p → s + z - (s % p + z % p) ≡ down p (s + z)
 unfolding down

@@ -10,7 +10,7 @@ use Rattle.std.proofs.lemmas.List.Elements.{All-append, All-cons, All-nil}
 use Rattle.std.proofs.lemmas.List.Sums.{sum_by-append}
 use Rattle.elf_base.specs.Refusal.{and_then, unless}
 use Rattle.elf_base.specs.FileHeader.{file_order}
-use Rattle.elf_loading.specs.Types.{Binding, DynamicObject, LoadError, Order, Place, Relocated, Relocation, Word, Asked, Bound, LinkError, Reference, Row}
+use Rattle.elf_loading.specs.Types.{Binding, DynamicObject, ElfFile, LoadError, Order, Place, Relocated, Relocation, Word, Asked, Bound, LinkError, Reference, Row}
 use Rattle.elf_linking.specs.DynamicObject.{object_file, object_view, object_records}
 use Rattle.elf_linking.specs.DynamicView.{view_entries}
 use Rattle.elf_linking.specs.declared.error.LinkError.TheVariants.{ObjectIndex}
@@ -293,9 +293,9 @@ parts_of of (Some relative) relocation word is = by_tests (relocation.reference.
     by_tests true true a b is = absurd (cc)
     by_tests false placed a b is = absurd (cc)
 
-module _ {E : Type 0} {r : _} (fields : E → SymbolFields) (own : DynamicObject E r) (of : ℕ) (lazy : Bool) (relocation : Relocation) (word : Word) (is : relative_word of (relative_of (file_machine (object_file own))) relocation ≡ Some word) where
+module _ {E : Type 0} {r : _} (fields : E → SymbolFields) (file : ElfFile) (own : DynamicObject E r) (of : ℕ) (lazy : Bool) (relocation : Relocation) (word : Word) (is : relative_word of (relative_of (file_machine file)) relocation ≡ Some word) where
   abbrev machine : ℕ
-  machine = file_machine (object_file own)
+  machine = file_machine file
 
   abbrev item : Relocated E
   item = record { relocation = relocation; bound = Ok None; word = Ok word }
@@ -316,8 +316,8 @@ module _ {E : Type 0} {r : _} (fields : E → SymbolFields) (own : DynamicObject
   formula_is = ap (λ b. if b then Some formulas.Base else (row_of machine relocation.reference.kind).formula) lazy_false
       ∙ ap (λ kind. (row_of machine kind).formula) parts.kind ∙ facts.formula
 
-  needs_none : needs_symbol machine lazy relocation ≡ false
-  needs_none = ap formula_has_symbol formula_is
+  pub relative_needs : needs_symbol machine lazy relocation ≡ false
+  relative_needs = ap formula_has_symbol formula_is
 
   in_place_false : in_place_when row lazy relocation ≡ false
   in_place_false = ap (λ b. b || is_lazy row lazy relocation) parts.in_record ∙ lazy_false
@@ -325,24 +325,28 @@ module _ {E : Type 0} {r : _} (fields : E → SymbolFields) (own : DynamicObject
   width_is : (row_of machine relocation.reference.kind).width ≡ parts.relative.width
   width_is = ap (λ kind. (row_of machine kind).width) parts.kind ∙ facts.width
 
-  has : (objects : List (DynamicObject E r)) → HasWord fields objects (object_file own) own of lazy item
-  has objects = (
-    subst (λ b. IsBoundIf b fields objects of relocation.reference (Ok None)) (sym needs_none) refl,
-    sym (ap (λ b. formula_word fields (object_file own) own of b relocation.reference (Ok None) (formula_when row lazy relocation)) in_place_false
-        ∙ ap (formula_word fields (object_file own) own of false relocation.reference (Ok None)) formula_is
+  pub relative_has : (objects : List (DynamicObject E r)) → HasWord fields objects file own of lazy item
+  relative_has objects = (
+    subst (λ b. IsBoundIf b fields objects of relocation.reference (Ok None)) (sym relative_needs) refl,
+    sym (ap (λ b. formula_word fields file own of b relocation.reference (Ok None) (formula_when row lazy relocation)) in_place_false
+        ∙ ap (formula_word fields file own of false relocation.reference (Ok None)) formula_is
         ∙ ap (λ width. Ok (word_with of width relocation.reference)) width_is ∙ ap (λ one. Ok one) parts.word_is),
   )
 
-  same_write : (sources : Sources E r) (len : ℕ) → write_item fields sources own lazy len item ≡ write_word sources len word
-  same_write sources len = rw needs_none refl
+module _ {E : Type 0} {r : _} (fields : E → SymbolFields) (own : DynamicObject E r) (of : ℕ) (lazy : Bool) (relocation : Relocation) (word : Word) (is : relative_word of (relative_of (file_machine (object_file own))) relocation ≡ Some word) where
+  abbrev written_item : Relocated E
+  written_item = record { relocation = relocation; bound = Ok None; word = Ok word }
+
+  same_write : (sources : Sources E r) (len : ℕ) → write_item fields sources own lazy len written_item ≡ write_word sources len word
+  same_write sources len = rw (relative_needs fields (object_file own) own of lazy relocation word is) refl
 
   pub relative_written : (sources : Sources E r) (before after : List ℕ) (result : Result Bool LoadError) → sources.of ≡ of → result ≡ write_word sources (length before) word
       → IfOk result (λ lacks. (i : ℕ) → slice_index after i ≡ word_byte sources (image_start sources sources.of + i) (Ok word) (slice_index before i))
       → IfErr result (λ error. after ≡ before) → IsItemWritten fields sources own lazy relocation before after result
   relative_written sources before after result same said bytes kept = record {
-    item = item;
+    item = written_item;
     relocation_is = refl;
-    has_word = subst (λ index. HasWord fields sources.objects.now (object_file own) own index lazy item) (sym same) (has sources.objects.now);
+    has_word = subst (λ index. HasWord fields sources.objects.now (object_file own) own index lazy written_item) (sym same) (relative_has fields (object_file own) own of lazy relocation word is sources.objects.now);
     result_is = said ∙ sym (same_write sources (length before));
     bytes = bytes;
     same = kept;

@@ -1,5 +1,5 @@
 -- Why a file can't be loaded, as Linux and glibc decide it (this project's own list).
-use Rattle.std.specs.Prelude.{◌≡◌, ⊤, ◌++◌, ℕ, ◌+◌, ◌-◌, ◌==◌, ◌&&◌, ◌||◌, not, min, nat_le, nat_lt, slice_index, Bool, true, false, List, [], ◌∷◌, length, Option, Some, None, is_some, ok_or, Result, Ok, if◌then◌else◌}
+use Rattle.std.specs.Prelude.{◌≡◌, ⊤, ◌++◌, ℕ, ◌+◌, ◌-◌, ◌==◌, ◌&&◌, ◌||◌, not, min, nat_le, nat_lt, slice_index, Bool, true, false, List, [], ◌∷◌, length, Option, Some, None, is_none, is_some, ok_or, Result, Ok, if◌then◌else◌}
 use Rattle.std.specs.Int.{is_power_of_two}
 use Rattle.std.specs.List.{filter, last_or, list_any}
 use Rattle.elf_base.specs.FileHeader.{file_class, header_fields, type_number}
@@ -77,13 +77,19 @@ is_no_template loads (Some tls) = nat_lt tls.mem_size tls.file_size || not (is_p
     || (not (tls.file_size == 0) && not (list_any (holds_template tls) loads))
 is_no_template loads None = false
 
+-- the entry point of a program without an interpreter is at a limit or past it
+abbrev pub is_entry_past : ℕ → ElfFile → Bool
+is_entry_past limit file =
+    is_none (interpreter_of file) && nat_le limit (header_fields file.header.pt2).entry_point
+
 -- why the other segments can't be used
-abbrev pub segment_rows : ElfFile → ℕ → List (Bool × LoadError)
-segment_rows file page =
+abbrev pub segment_rows : ElfFile → ℕ → ℕ → List (Bool × LoadError)
+segment_rows file page limit =
     (is_misplaced file (phdr_of file), error.Headers)
     ∷ (is_no_path file.input.now (interpreter_of file), error.Interpreter)
     ∷ (is_uncovered page (loads_of file) (relro_of file), error.Relro)
     ∷ (is_no_template (loads_of file) (tls_of file), error.Tls)
+    ∷ (is_entry_past limit file, error.Entry)
     ∷ []
 
 -- the end of the last load of a file, or the first reason why a file can't be loaded: of its header, of its
@@ -93,7 +99,7 @@ check_file file page limit =
     and_then (unless (header_rows file page) (tt {0})) (λ done.
     and_then (check_loads page limit (length file.input.now) None (loads_of file)) (λ last.
     and_then (ok_or last error.NoLoad) (λ end.
-    and_then (unless (segment_rows file page) (tt {0})) (λ passed. Ok end))))
+    and_then (unless (segment_rows file page limit) (tt {0})) (λ passed. Ok end))))
 
 -- there is no load
 abbrev pub has_no_load : List Segment → Bool
@@ -105,7 +111,7 @@ has_no_load (load ∷ loads) = false
 abbrev pub all_rows : ElfFile → ℕ → ℕ → List (Bool × LoadError)
 all_rows file page limit = header_rows file page
     ++ (loads_rows page limit (length file.input.now) None (loads_of file)
-    ++ ((has_no_load (loads_of file), error.NoLoad) ∷ segment_rows file page))
+    ++ ((has_no_load (loads_of file), error.NoLoad) ∷ segment_rows file page limit))
 
 -- no reason of a list applies
 abbrev pub NoneApplies : List (Bool × LoadError) → Type 0

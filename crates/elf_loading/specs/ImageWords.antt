@@ -6,9 +6,10 @@ use Rattle.std.specs.List.{Contains, find, list_any}
 use Rattle.elf_base.specs.Refusal.{and_then, unless}
 use Rattle.elf_linking.specs.DynamicObject.{object_file, object_view}
 use Rattle.elf_linking.specs.DynamicView.{view_entries}
-use Rattle.elf_loading.specs.Types.{DynamicObject, LinkError, LoadError, Relocated, Relocation, Segment, TableLocation, Word}
+use Rattle.elf_linking.specs.References.{relocation_tables}
+use Rattle.elf_loading.specs.Types.{Dynamic, DynamicObject, ElfFile, LinkError, LoadError, Relocated, Relocation, Segment, TableLocation, Word}
 use Rattle.elf_linking.specs.declared.error.LinkError.TheVariants.{ObjectIndex}
-use Rattle.elf_loading.specs.ImageTables.{asks_for_text, check_tables, tables_of}
+use Rattle.elf_loading.specs.ImageTables.{asks_for_text, check_tables, record_rows, tables_of}
 use Rattle.elf_loading.specs.Segments.{has_flag}
 use Rattle.elf_loading.specs.Plan.{plan_loads, plan_size}
 use Rattle.elf_loading.specs.Words.{HasWord}
@@ -112,12 +113,18 @@ abbrev pub as_load_error : {A : Type 0} → Result A LinkError → Result A Load
 as_load_error (Ok value) = Ok value
 as_load_error (Err reason) = Err (error.Link reason)
 
--- the relocations of an object whose tables can be used, where `bits` marks are enough for its plan; or the first reason
--- why not
+-- glibc can apply the relocations of the tables with addends and without and of the procedure linkage table, or why not
+abbrev pub check_records : ElfFile → List (Dynamic ℕ) → Result (Unit {0}) LoadError
+check_records file entries =
+    and_then (as_load_error (relocation_tables file entries)) (λ tables. unless (record_rows file entries tables) tt)
+
+-- the relocations of an object whose tables and their records can be used, where `bits` marks are enough for its plan; or
+-- the first reason why not
 abbrev pub checked_relocations : {E : Type 0} → {r : _} → ℕ → DynamicObject E r → LoadPlan → ℕ → Result (List Relocation) LoadError
 checked_relocations size own plan bits = and_then (check_tables size own) (λ done.
     and_then (as_load_error (own_relocations (Some own))) (λ relocations.
-    unless ((nat_lt bits (plan_size plan), error.FewMarks) ∷ []) relocations))
+    and_then (check_records (object_file own) (view_entries (object_view own))) (λ applied.
+    unless ((nat_lt bits (plan_size plan), error.FewMarks) ∷ []) relocations)))
 
 -- the words of the object at an index, all of them left, where its tables can be used and `bits` marks are enough
 pub record IsBegun {E : Type 0} {r : _} (size : ℕ) (objects : Bor (List (DynamicObject E r))) (of : ℕ) (own : DynamicObject E r) (plan : LoadPlan) (bits : ℕ) (words : Words E r) : Type 0 where

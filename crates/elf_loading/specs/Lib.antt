@@ -5,6 +5,7 @@ pub mod Segments
 pub mod LoadsAmong
 pub mod LoadCheck
 pub mod FileCheck
+pub mod LoaderCheck
 pub mod Loads
 pub mod Others
 pub mod LoadPass

@@ -48,7 +48,7 @@ load_rows page limit len before load =
     ∷ (is_empty_load page (is_none before) load, error.Empty)
     ∷ (not (load.address % page == load.offset % page), error.Misaligned)
     ∷ (not (is_alignment load.align), error.Alignment)
-    ∷ (nat_lt limit (load_end page load), error.Range)
+    ∷ (nat_le limit load.address || nat_lt limit (load_end page load), error.Range)
     ∷ (is_past_data page len load, error.Data)
     ∷ (nat_lt (load_start page load) (unwrap_or before 0), error.Overlap)
     ∷ (has_shut_zeros load, error.Zeros)

@@ -1,6 +1,6 @@
 -- What a relocation writes, in terms of the addresses at which files are loaded (the processor supplements of the System
 -- V ABI, "Relocation Types"; the values without a symbol, and of indirect functions, as glibc 2.36 has them).
-use Rattle.std.specs.Prelude.{ℕ, ◌+◌, ◌-◌, ◌*◌, ◌%◌, ◌^◌, ◌==◌, ◌&&◌, not, min, Bool, Option, None, Some, if◌then◌else◌}
+use Rattle.std.specs.Prelude.{ℕ, ◌+◌, ◌-◌, ◌*◌, ◌%◌, ◌^◌, ◌==◌, ◌&&◌, ◌||◌, not, min, is_none, Bool, false, Option, None, Some, if◌then◌else◌}
 use Rattle.elf_loading.specs.Types.{Bound, Formula, Origin, Target, Terms, Value}
 use Rattle.elf_linking.specs.declared.references.types.Formula.TheVariants as formulas
 use Rattle.elf_loading.specs.declared.value.Origin.TheVariants.{Base, Call, Zero}
@@ -42,6 +42,11 @@ target_of fields (Some bound) = if is_indirect (fields bound.symbol)
 abbrev pub size_of : {E : Type 0} → (E → SymbolFields) → Option (Bound E) → ℕ
 size_of fields None = 0
 size_of fields (Some bound) = (fields bound.symbol).size
+
+-- there is a symbol, and its bytes aren't at its value in its object: it is an indirect function, or absolute
+abbrev pub is_elsewhere : {E : Type 0} → (E → SymbolFields) → Option (Bound E) → Bool
+is_elsewhere fields None = false
+is_elsewhere fields (Some bound) = is_indirect (fields bound.symbol) || is_none (object_of fields bound)
 
 -- The values of formulas of thread-local storage, and of copies.
 

@@ -1,8 +1,9 @@
 -- The words that relocations write when a file is loaded (the processor supplements of the System V ABI; which symbol
 -- a relocation gets, as `bind` of elf_linking says; what jump slots hold before they are called, as glibc 2.36 has it).
-use Rattle.std.specs.Prelude.{◌≡◌, ℕ, ◌+◌, ◌%◌, ◌^◌, ◌==◌, ◌&&◌, ◌||◌, not, nat_le, is_some, Bool, true, false, List, slice_get, Option, None, Some, Result, Ok, Err, if◌then◌else◌}
+use Rattle.std.specs.Prelude.{◌≡◌, ℕ, ◌+◌, ◌%◌, ◌^◌, ◌==◌, ◌&&◌, ◌||◌, not, nat_le, is_none, is_some, Bool, true, false, List, [], ◌∷◌, slice_get, Option, None, Some, Result, Ok, Err, if◌then◌else◌}
 use Rattle.std.specs.List.{list_any}
 use Rattle.elf_base.specs.FileHeader.{file_class}
+use Rattle.elf_base.specs.Refusal.{unless}
 use Rattle.elf_base.specs.Table.{table_items}
 use Rattle.elf_linking.specs.DynamicObject.{object_records}
 use Rattle.elf_linking.specs.DynamicView.{flag_in, number_with}
@@ -13,8 +14,8 @@ use Rattle.elf_loading.specs.Types.{Binding, Bound, Dynamic, DynamicObject, ElfF
 use Rattle.elf_linking.specs.declared.view.tags.TheConstants.{DT_BIND_NOW, DT_FLAGS, DT_FLAGS_1}
 use Rattle.elf_linking.specs.RelocationTypes.{row_of}
 use Rattle.elf_loading.specs.Segments.{loads_of}
-use Rattle.elf_loading.specs.Values.{bytes_of, value_of}
-use Rattle.elf_loading.specs.declared.error.LoadError.TheVariants.{Link, WordType}
+use Rattle.elf_loading.specs.Values.{bytes_of, is_elsewhere, value_of}
+use Rattle.elf_loading.specs.declared.error.LoadError.TheVariants.{CallSymbol, CopyKind, Link, NoSize, WordType}
 use Rattle.elf_linking.specs.declared.references.types.Formula.TheVariants as formulas
 use Rattle.elf_loading.specs.declared.words.Binding.TheVariants.{Lazy, Now}
 use Rattle.xmas_elf.specs.Symbol.{SymbolFields}
@@ -114,6 +115,14 @@ abbrev pub value_word : {E : Type 0} → (E → SymbolFields) → Terms → Opti
 value_word fields terms bound formula = let value = value_of fields terms bound formula in
     record { address = terms.address; width = bytes_of terms.width value; value = value }
 
+-- why the value of a formula isn't modelled, by the symbol that is named, and the one that its relocation gets: the size of
+-- none; a copy that isn't of bytes of an object; what a function returns, with a symbol
+abbrev pub value_rows : {E : Type 0} → (E → SymbolFields) → ℕ → Option (Bound E) → Formula → List (Bool × LoadError)
+value_rows fields named bound formulas.Size = (is_none bound, NoSize) ∷ []
+value_rows fields named bound formulas.Copy = (is_elsewhere fields bound, CopyKind) ∷ []
+value_rows fields named bound formulas.Call = (not (named == 0), CallSymbol) ∷ []
+value_rows fields named bound _ = []
+
 -- a result after one that may be an error of elf_linking
 abbrev pub and_link : {A B : Type 0} → Result A LinkError → (A → Result B LoadError) → Result B LoadError
 and_link (Ok value) next = next value
@@ -124,7 +133,7 @@ abbrev pub formula_word : {E : Type 0} → {r : _} → (E → SymbolFields) → 
 formula_word fields file own of in_place reference bound None = Err WordType
 formula_word fields file own of in_place reference bound (Some formula) =
     and_link (addend_of file in_place formula reference) (λ addend. and_link bound (λ symbol.
-    Ok (value_word fields (record {
+    unless (value_rows fields reference.symbol symbol formula) (value_word fields (record {
       own = of;
       address = reference.offset;
       addend = addend;

@@ -9,9 +9,10 @@ use std::fmt;
 
 /// Why a file can't be loaded, or its words can't be written. Each error has one text.
 ///
-/// Those from `Type` to `Tls` are of `LoadPlan::check_load`, which returns the first that applies in
+/// Those from `Type` to `Entry` are of `LoadPlan::check_load`, which returns the first that applies in
 /// this order; those from `FileSize` to `Zeros` are of one load segment, and of several such segments
-/// the first decides. Those from `Dynamic` to `WordInTable` are of `LoadScope::check_image`, which
+/// the first decides. `LoadPlan::check_load_by` has an order of its own, and of Linux or glibc alone
+/// some of these errors mean something else: what is said of them below. Those from `Dynamic` to `WordInTable` are of `LoadScope::check_image`, which
 /// lists their order: one table after the other, then one word after the other.
 #[derive(Clone, Copy, Debug, PartialEq, Eq)]
 pub enum LoadError {
@@ -19,25 +20,32 @@ pub enum LoadError {
     Type,
     /// The entries of the program header table are not of 56 bytes (class 32: 32).
     EntrySize,
-    /// The program header table has no entry, or more bytes than a page or than 65,536.
+    /// The program header table has no entry, or more bytes than a page or than 65,536. Of Linux: more
+    /// than 65,536.
     Count,
     /// The program header table extends past the end of the file.
     Table,
-    /// A load segment has more bytes in the file than in memory.
+    /// A load segment has more bytes in the file than in memory. Of glibc: its bytes extend past the
+    /// pages from the first load segment to the last.
     FileSize,
     /// The first load segment has no bytes in the file, or one has none in memory and begins inside
-    /// a page.
+    /// a page. Of Linux: the file is of type 3, and no load segment has memory.
     Empty,
-    /// The address and the offset of a load segment differ modulo the page size.
+    /// The address and the offset of a load segment differ modulo the page size. Of Linux: and it has
+    /// bytes in the file.
     Misaligned,
     /// The alignment of a load segment is neither 0 nor a power of two.
     Alignment,
-    /// The pages of a load segment extend past the limit.
+    /// The pages of a load segment extend past the limit, or it begins there. Of glibc: from the first
+    /// load segment to the end of the last there are no bytes, or too many for the limit and for the
+    /// alignments.
     Range,
     /// The bytes of a load segment extend past the end of the file; or it has none, begins inside a
-    /// page, and its page of the file is past the end.
+    /// page, and its page of the file is past the end. Of Linux and glibc: the pages extend past the
+    /// offsets that a file can have, or zeros begin in a page of the file past its end.
     Data,
-    /// The first page of a load segment is before the end of the pages of the one before it.
+    /// The first page of a load segment is before the end of the pages of the one before it. Of glibc:
+    /// the last begins before the end of the first, or one is not between these two.
     Overlap,
     /// A load segment has more bytes in memory than in the file, and is not both readable and
     /// writable.
@@ -50,19 +58,43 @@ pub enum LoadError {
     /// The path of the first PT_INTERP has fewer than 2 bytes or more than 4096, extends past the
     /// end of the file, or does not end with a zero.
     Interpreter,
-    /// A page of the last PT_GNU_RELRO is in no load segment.
+    /// A page of the last PT_GNU_RELRO is in no load segment. Of glibc: it is outside of the pages from
+    /// the first load segment to the last.
     Relro,
     /// The last PT_TLS that is not empty has more bytes in the file than in memory, has an alignment
-    /// that is no power of two, or has bytes that are not in the memory of one load segment.
+    /// that is no power of two, or has bytes that are not in the memory of one load segment. Of glibc:
+    /// the alignment is 0, or the bytes are not in the pages of one load segment.
     Tls,
+    /// A file without a PT_INTERP has an entry point at the limit or past it; the base is not counted.
+    Entry,
     /// The length of an image is not that of the span, or there are not as many places or images as
     /// objects. Returned by `LoadPlan::fill` and `LoadScope::relocate`.
     ImageSize,
     /// The bytes of the dynamic segment are not in the file for a readable load segment, or the
     /// segment is writable and that load segment is not.
     Dynamic,
-    /// There is no entry DT_STRTAB, or no entry DT_SYMTAB.
+    /// There is no entry DT_STRTAB or DT_SYMTAB, no DT_VERSYM although there is a DT_VERDEF or a
+    /// DT_VERNEED, or no DT_PLTGOT although slots get their symbols later: glibc crashes.
     NoEntry,
+    /// A file of class 64 has relocations without addends (DT_REL, or DT_PLTREL is DT_REL): glibc
+    /// doesn't apply the former, and ends with an assertion for the latter.
+    NoAddends,
+    /// A file of class 32 has relocations with addends (DT_RELA, or DT_PLTREL is DT_RELA): glibc adds
+    /// these where the supplement of 386 has none, applies them after those of DT_REL, and binds no
+    /// slot later.
+    Addends,
+    /// There is a DT_PLTREL and no DT_JMPREL: glibc reads the table at address 0.
+    NoSlots,
+    /// The first word at DT_RELR is odd, a bitmap: glibc has no address for it.
+    FirstPacked,
+    /// DT_RELACOUNT or DT_RELCOUNT is above the number of relative relocations that its table begins
+    /// with, without those of the procedure linkage table: glibc ends with an assertion, or takes the
+    /// others, and records past the table, for relative ones.
+    RelativeCount,
+    /// A relocation of the procedure linkage table is neither a jump slot nor a descriptor, and doesn't
+    /// write what a function returns; and the file doesn't ask for its symbols before it runs: glibc
+    /// loads it only with LD_BIND_NOW.
+    SlotType,
     /// The entry with the size of a relocation (DT_RELAENT, DT_RELENT, DT_RELRENT) has another number
     /// than the class has, or is missing.
     RelocationSize,
@@ -79,6 +111,15 @@ pub enum LoadError {
     FewMarks,
     /// The machine has no such relocation type, or glibc doesn't apply it. Also the error of a word.
     WordType,
+    /// A relocation writes the size of a symbol that no object has: glibc crashes. Also the error of a
+    /// word.
+    NoSize,
+    /// A relocation copies bytes at an absolute address, or where an indirect function returns. Also
+    /// the error of a word.
+    CopyKind,
+    /// A relocation that writes what a function returns names a symbol: glibc looks it up, and ends if
+    /// it is strong and no object has it. Also the error of a word.
+    CallSymbol,
     /// The bytes of a word are not in the memory of one load segment; in `LoadScope::relocate`, not in
     /// the image.
     WordAddress,
@@ -96,12 +137,36 @@ pub enum LoadError {
     /// The bytes that a relocation copies are not in the image of their object. Returned by
     /// `LoadScope::relocate`.
     CopySource,
+    /// The byte order of a library is not little-endian. Returned by
+    /// `LoadPlan::check_load_by`.
+    ByteOrder,
+    /// The version in the first 16 bytes of a library is not 1. Returned by
+    /// `LoadPlan::check_load_by`.
+    IdentVersion,
+    /// The ABI of the operating system of a library is neither 0 nor 3 (GNU). Returned by
+    /// `LoadPlan::check_load_by`.
+    OsAbi,
+    /// The version of that ABI is neither 0 nor, of ABI 3, below 4. Returned by
+    /// `LoadPlan::check_load_by`.
+    AbiVersion,
+    /// One of the bytes 9 to 15 of a library is not 0. Returned by
+    /// `LoadPlan::check_load_by`.
+    Padding,
+    /// The version of a library is not 1. Returned by
+    /// `LoadPlan::check_load_by`.
+    Version,
+    /// A library is of type 2 (ET_EXEC). Returned by
+    /// `LoadPlan::check_load_by`.
+    Executable,
+    /// A library has no dynamic segment, one without bytes in the file, or the last is at address 0.
+    /// Returned by `LoadPlan::check_load_by`.
+    NoDynamic,
     /// A part of the file, a name, a version or a word in place can't be read.
     Link(LinkError),
 }
 
 // All errors but those in `Link`.
-const ERRORS: [LoadError; 33] = [
+const ERRORS: [LoadError; 51] = [
     LoadError::Type,
     LoadError::EntrySize,
     LoadError::Count,
@@ -135,6 +200,24 @@ const ERRORS: [LoadError; 33] = [
     LoadError::WordInTable,
     LoadError::Unresolved,
     LoadError::CopySource,
+    LoadError::ByteOrder,
+    LoadError::IdentVersion,
+    LoadError::OsAbi,
+    LoadError::AbiVersion,
+    LoadError::Padding,
+    LoadError::Version,
+    LoadError::Executable,
+    LoadError::NoDynamic,
+    LoadError::Entry,
+    LoadError::NoAddends,
+    LoadError::NoSlots,
+    LoadError::FirstPacked,
+    LoadError::RelativeCount,
+    LoadError::SlotType,
+    LoadError::NoSize,
+    LoadError::CopyKind,
+    LoadError::CallSymbol,
+    LoadError::Addends,
 ];
 
 impl LoadError {
@@ -234,6 +317,33 @@ impl LoadError {
             LoadError::WordInTable => (331, "Word is in a table of the dynamic segment"),
             LoadError::Unresolved => (332, "Symbol is in no object"),
             LoadError::CopySource => (333, "Bytes to copy are not in the image of their object"),
+            LoadError::ByteOrder => (334, "Byte order is not little-endian"),
+            LoadError::IdentVersion => (335, "Version in the first bytes is not 1"),
+            LoadError::OsAbi => (
+                336,
+                "ABI of the operating system is neither System V nor GNU",
+            ),
+            LoadError::AbiVersion => (337, "Version of the ABI is not known"),
+            LoadError::Padding => (338, "Bytes 9 to 15 are not zero"),
+            LoadError::Version => (339, "Version of the file is not 1"),
+            LoadError::Executable => (340, "Program at a fixed address is no library"),
+            LoadError::NoDynamic => (341, "No dynamic segment"),
+            LoadError::Entry => (342, "Entry point is past the address limit"),
+            LoadError::NoAddends => (343, "Relocations without addends in a file of class 64"),
+            LoadError::NoSlots => (
+                344,
+                "No table of the procedure linkage table for its kind of relocations",
+            ),
+            LoadError::FirstPacked => (345, "First packed relocation is not an address"),
+            LoadError::RelativeCount => (346, "Fewer relative relocations than are counted"),
+            LoadError::SlotType => (
+                347,
+                "Type of a relocation is not for the procedure linkage table",
+            ),
+            LoadError::NoSize => (348, "Size of a symbol that is in no object"),
+            LoadError::CopyKind => (349, "Symbol to copy is absolute or an indirect function"),
+            LoadError::CallSymbol => (350, "Relocation by a function that names a symbol"),
+            LoadError::Addends => (351, "Relocations with addends in a file of class 32"),
             LoadError::Link(error) => (error.number(), error.message()),
         }
     }

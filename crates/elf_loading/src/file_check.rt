@@ -4,7 +4,8 @@ ghost use Rattle.std.specs.Prelude.{◌≡◌, ◌≤◌, ◌<◌, ◌+◌, nat_
 ghost use Rattle.std.specs.Prelude.{Err, IfOk, MatchResult, Ok, true, ◌==◌};
 ghost use Rattle.elf_base.specs.FileHeader.{file_class};
 ghost use Rattle.elf_base.specs.Refusal.{unless};
-ghost use Rattle.elf_loading.specs.FileCheck.{check_file, header_rows, kind_of, segment_rows};
+ghost use Rattle.elf_loading.specs.FileCheck.{check_file, header_rows, is_entry_past, kind_of};
+ghost use Rattle.elf_loading.specs.FileCheck.{segment_rows};
 ghost use Rattle.elf_loading.specs.LoadPass.{IsPassOf, is_elsewhere, is_past_covered};
 ghost use Rattle.elf_loading.specs.LoadPass.{is_wrong_path, is_wrong_template, wanted_of};
 ghost use Rattle.elf_loading.specs.Loads.{loads_left};
@@ -26,7 +27,7 @@ use xmas_elf::header::Header;
 
 // The type of a file, as a number.
 #[inline(always)]
-fn kind_of(header: &Header) -> u16
+pub(crate) fn kind_of(header: &Header) -> u16
     ensures { result ≡ kind_of header.now }
 {
     header.pt2.type_().raw()
@@ -63,7 +64,7 @@ fn is_past_end(input: &[u8], start: u64, count: u64) -> bool
 
 // Whether the program header table can be used.
 #[inline(always)]
-fn check_header(page: u64, file: &ElfFile<'_>) -> Result<(), LoadError>
+pub(crate) fn check_header(page: u64, file: &ElfFile<'_>) -> Result<(), LoadError>
     ensures { result ≡ unless (header_rows file.now page) tt }
 {
     let header = &file.header;
@@ -97,7 +98,7 @@ fn is_misplaced(file: &ElfFile<'_>, others: &Others, is_placed: bool) -> bool
 }
 
 // Whether the path of the interpreter is not one.
-fn is_no_path(input: &[u8], interpreter: Option<Extent>) -> bool
+pub(crate) fn is_no_path(input: &[u8], interpreter: Option<Extent>) -> bool
     ensures { result ≡ is_wrong_path input.now interpreter }
 {
     let Some(path) = interpreter else {
@@ -138,11 +139,22 @@ fn is_no_template(tls: Option<Tls>, is_held: bool) -> bool
     tls.file_size != 0 && !is_held
 }
 
+// Whether the entry point of a program without an interpreter is at a limit or past it.
+#[tactic(auto, using(crate::proofs::LoadPasses::entry_is))]
+#[inline(always)]
+pub(crate) fn is_entry_past(limit: u64, file: &ElfFile<'_>, others: &Others) -> bool
+    requires { AreOthersOf file.now others.now }
+    ensures { result ≡ is_entry_past limit file.now }
+{
+    others.interpreter.is_none() && limit <= file.header.pt2.entry_point()
+}
+
 // Whether the segments other than loads can be used.
 #[tactic(auto, using(crate::proofs::LoadPasses::elsewhere_is, crate::proofs::LoadPasses::path_is, crate::proofs::LoadPasses::uncovered_is, crate::proofs::LoadPasses::template_is))]
 #[inline(always)]
 fn check_segments(
     page: u64,
+    limit: u64,
     file: &ElfFile<'_>,
     others: &Others,
     pass: &Pass,
@@ -151,7 +163,7 @@ fn check_segments(
     requires found { AreOthersOf file.now others.now }
     requires passed { IsPassOf page (wanted_of page file.now others.now) (loads_of file.now)
         pass.now }
-    ensures { result ≡ unless (segment_rows file.now page) tt }
+    ensures { result ≡ unless (segment_rows file.now page limit) tt }
 {
     if is_misplaced(file, others, pass.is_placed) {
         return Err(LoadError::Headers);
@@ -164,6 +176,9 @@ fn check_segments(
     }
     if is_no_template(others.tls, pass.is_held) {
         return Err(LoadError::Tls);
+    }
+    if is_entry_past(limit, file, others) {
+        return Err(LoadError::Entry);
     }
     Ok(())
 }
@@ -197,7 +212,7 @@ fn check_table<'a>(page: u64, limit: u64, file: &ElfFile<'a>) -> Result<Checked<
     let Some(end) = pass.end else {
         return Err(LoadError::NoLoad);
     };
-    check_segments(page, file, &others, &pass)?;
+    check_segments(page, limit, file, &others, &pass)?;
     Ok(Checked {
         loads,
         others,

@@ -4,22 +4,28 @@ ghost use Rattle.std.specs.Prelude.{◌≡◌, ◌<◌, ◌≤◌, ◌*◌, ◌^
 ghost use Rattle.std.specs.List.{list_any};
 ghost use Rattle.elf_base.specs.Refusal.{unless};
 ghost use Rattle.elf_linking.specs.DynamicView.{view_entries};
+ghost use Rattle.elf_linking.specs.References.{table_left};
 ghost use Rattle.elf_loading.specs.ImageTables.{asks_for_text, check_all_relocations};
-ghost use Rattle.elf_loading.specs.ImageTables.{check_tables, hash_size, hash_tag};
+ghost use Rattle.elf_loading.specs.ImageTables.{check_tables, has_odd_first, hash_size, hash_tag};
 ghost use Rattle.elf_loading.specs.ImageTables.{holds_dynamic, is_dynamic_lost, is_no_multiple};
-ghost use Rattle.elf_loading.specs.ImageTables.{is_other_machine, is_readable, is_unreadable};
+ghost use Rattle.elf_loading.specs.ImageTables.{is_other_machine, is_overcounted, is_readable};
+ghost use Rattle.elf_loading.specs.ImageTables.{is_unreadable, kind_rows, is_for_calls, is_no_slot};
+ghost use Rattle.elf_loading.specs.ImageTables.{lacks_entry, lacks_kind};
 ghost use Rattle.elf_loading.specs.ImageTables.{relocation_rows, segment_extent, slot_rows};
 ghost use Rattle.elf_loading.specs.ImageTables.{symbol_number, table_of_size, tables_of};
+ghost use Rattle.elf_loading.specs.ImageWords.{check_records};
 
 use crate::LoadError;
-use crate::in_order::{is_kind, record_size};
+use crate::in_order::{is_kind, kept_records, record_size, relative_type};
 use crate::segments::has_flag;
-use crate::words::{address_size, flag_in};
+use crate::words::{Binding, address_size, binds_lazily, flag_in};
 use elf_linking::references::types::{EM_386, EM_AARCH64, EM_X86_64};
+use elf_linking::references::{Formula, Reference, TableRelocations, row_of};
 use elf_linking::view::{
-    DT_FLAGS, DT_GNU_HASH, DT_HASH, DT_JMPREL, DT_PLTREL, DT_PLTRELSZ, DT_REL, DT_RELA, DT_RELAENT,
-    DT_RELASZ, DT_RELENT, DT_RELR, DT_RELRENT, DT_RELRSZ, DT_RELSZ, DT_STRSZ, DT_STRTAB, DT_SYMTAB,
-    DT_TEXTREL, DT_VERSYM, DynamicView, LinkedSymbol, TableLocation, dynamic_segment, segment_at,
+    DT_FLAGS, DT_GNU_HASH, DT_HASH, DT_JMPREL, DT_PLTGOT, DT_PLTREL, DT_PLTRELSZ, DT_REL, DT_RELA,
+    DT_RELACOUNT, DT_RELAENT, DT_RELASZ, DT_RELCOUNT, DT_RELENT, DT_RELR, DT_RELRENT, DT_RELRSZ,
+    DT_RELSZ, DT_STRSZ, DT_STRTAB, DT_SYMTAB, DT_TEXTREL, DT_VERDEF, DT_VERNEED, DT_VERSYM,
+    DynamicView, LinkedSymbol, TableLocation, dynamic_segment, segment_at, word_at,
 };
 use elf_linking::{AnyTable, DynamicObject, Segment};
 use xmas_elf::ElfFile;
@@ -90,6 +96,55 @@ fn check_relocations(
         return Err(LoadError::Unreadable);
     }
     Ok(())
+}
+
+// Whether an entry is missing that glibc reads.
+fn lacks_entry(view: &DynamicView<'_>) -> bool
+    ensures { result ≡ lacks_entry (view_entries view.now) }
+{
+    let has_versions = view.entry(DT_VERDEF).is_some() || view.entry(DT_VERNEED).is_some();
+    let has_slots = binds_lazily(view, Binding::Lazy) && view.entry(DT_JMPREL).is_some();
+    view.entry(DT_STRTAB).is_none()
+        || view.entry(DT_SYMTAB).is_none()
+        || (view.entry(DT_VERSYM).is_none() && has_versions)
+        || (has_slots && view.entry(DT_PLTGOT).is_none())
+}
+
+// Whether glibc can apply relocations of these kinds as the supplements have them: in class 64 it has
+// none without addends, in class 32 it adds addends where there are none, and it reads the table of
+// the procedure linkage table where there is an entry for its kind.
+fn check_kinds(file: &ElfFile<'_>, view: &DynamicView<'_>) -> Result<(), LoadError>
+    ensures { result ≡ unless (kind_rows file.now (view_entries view.now)) tt }
+{
+    let kind = view.entry(DT_PLTREL);
+    let lacks_addends = view.entry(DT_REL).is_some() || is_kind(DT_REL, kind);
+    if file.header.pt1.class.raw() != 1 && lacks_addends {
+        return Err(LoadError::NoAddends);
+    }
+    let has_addends = view.entry(DT_RELA).is_some() || is_kind(DT_RELA, kind);
+    if file.header.pt1.class.raw() == 1 && has_addends {
+        return Err(LoadError::Addends);
+    }
+    if kind.is_some() && view.entry(DT_JMPREL).is_none() {
+        return Err(LoadError::NoSlots);
+    }
+    Ok(())
+}
+
+// Whether a table has bytes, and its first word, as wide as an address, is odd.
+fn has_odd_first(file: &ElfFile<'_>, table: &TableLocation) -> bool
+    ensures { result ≡ has_odd_first file.now table.now }
+{
+    let Some(start) = table.start else {
+        return false;
+    };
+    let Some(size) = table.size else {
+        return false;
+    };
+    match word_at(file, start) {
+        Ok(word) => word % 2 == 1 && size != 0,
+        Err(_) => false,
+    }
 }
 
 // Whether the relocations of the procedure linkage table can be read, by the number in the entry
@@ -240,12 +295,16 @@ pub(crate) fn tables_of<E: LinkedSymbol>(object: &DynamicObject<'_, E>) -> [Tabl
 fn check_all_relocations(file: &ElfFile<'_>, view: &DynamicView<'_>) -> Result<(), LoadError>
     ensures { result ≡ check_all_relocations file.now (view_entries view.now) }
 {
+    check_kinds(file, view)?;
     let rela = view.table_by(DT_RELA, DT_RELASZ);
     check_relocations(file, record_size(file, true), view.entry(DT_RELAENT), &rela)?;
     let rel = view.table_by(DT_REL, DT_RELSZ);
     check_relocations(file, record_size(file, false), view.entry(DT_RELENT), &rel)?;
     let packed = view.table_by(DT_RELR, DT_RELRSZ);
     check_relocations(file, address_size(file), view.entry(DT_RELRENT), &packed)?;
+    if has_odd_first(file, &packed) {
+        return Err(LoadError::FirstPacked);
+    }
     let slots = view.table_by(DT_JMPREL, DT_PLTRELSZ);
     check_slots(file, view.entry(DT_PLTREL), &slots)
 }
@@ -270,7 +329,7 @@ pub(crate) fn check_tables<E: LinkedSymbol>(
     if is_dynamic_lost(&file, &dynamic_segment(&file)) {
         return Err(LoadError::Dynamic);
     }
-    if view.entry(DT_STRTAB).is_none() || view.entry(DT_SYMTAB).is_none() {
+    if lacks_entry(&view) {
         return Err(LoadError::NoEntry);
     }
     check_all_relocations(&file, &view)?;
@@ -279,6 +338,91 @@ pub(crate) fn check_tables<E: LinkedSymbol>(
     }
     if is_other_machine(&file) {
         return Err(LoadError::Machine);
+    }
+    Ok(())
+}
+
+// Whether a table doesn't begin with this many relocations of a type.
+#[tactic(auto, using(crate::proofs::RecordChecks::passed_first, crate::proofs::RecordChecks::other_first, crate::proofs::RecordChecks::none_wanted, crate::proofs::RecordChecks::none_there))]
+fn lacks_kind(rest: TableRelocations<'_>, kind: u32, count: u64) -> bool
+    ensures { result ≡ lacks_kind kind count (table_left rest.entry) }
+{
+    let mut wanted = count;
+    for one in rest {
+        if wanted == 0 {
+            return false;
+        }
+        if one.kind != kind {
+            return true;
+        }
+        wanted -= 1;
+    }
+    wanted != 0
+}
+
+// Whether an entry counts more relative relocations than its table begins with, without those of the
+// procedure linkage table again.
+fn is_overcounted(
+    file: &ElfFile<'_>,
+    view: &DynamicView<'_>,
+    kind: u64,
+    size: u64,
+    counted: u64,
+    rest: TableRelocations<'_>,
+) -> bool
+    ensures { result ≡ is_overcounted file.now (view_entries view.now) kind size counted
+        (table_left rest.entry) }
+{
+    let count = view.entry(counted).unwrap_or(0);
+    let relative = relative_type(file.header.pt2.machine().raw());
+    view.entry(kind).is_some()
+        && (kept_records(view, file, kind, size) < count || lacks_kind(rest, relative, count))
+}
+
+// Whether a relocation of a formula writes a descriptor, or what a function returns.
+fn is_for_calls(formula: Option<Formula>) -> bool
+    ensures { result ≡ is_for_calls formula }
+{
+    matches!(formula, Some(Formula::Descriptor | Formula::Call))
+}
+
+// Whether a relocation is not one for the procedure linkage table.
+fn is_no_slot(machine: u16, one: &Reference) -> bool
+    ensures { result ≡ is_no_slot machine one.now }
+{
+    let row = row_of(machine, one.kind);
+    !(row.slot || is_for_calls(row.formula))
+}
+
+// Whether one of these relocations is not one for the procedure linkage table.
+#[tactic(auto, using(crate::proofs::RecordChecks::slot_first, crate::proofs::RecordChecks::slot_rest, crate::proofs::RecordChecks::slot_end))]
+fn has_no_slot(machine: u16, slots: TableRelocations<'_>) -> bool
+    ensures { result ≡ list_any (is_no_slot machine) (table_left slots.entry) }
+{
+    for one in slots {
+        if is_no_slot(machine, &one) {
+            return true;
+        }
+    }
+    false
+}
+
+// Whether glibc can apply the relocations of the tables.
+pub(crate) fn check_records(file: &ElfFile<'_>, view: &DynamicView<'_>) -> Result<(), LoadError>
+    ensures { result ≡ check_records file.now (view_entries view.now) }
+{
+    let tables = match view.relocation_tables(file) {
+        Ok(tables) => tables,
+        Err(error) => return Err(LoadError::Link(error)),
+    };
+    if is_overcounted(file, view, DT_RELA, DT_RELASZ, DT_RELACOUNT, tables.rela)
+        || is_overcounted(file, view, DT_REL, DT_RELSZ, DT_RELCOUNT, tables.rel)
+    {
+        return Err(LoadError::RelativeCount);
+    }
+    let machine = file.header.pt2.machine().raw();
+    if binds_lazily(view, Binding::Lazy) && has_no_slot(machine, tables.plt) {
+        return Err(LoadError::SlotType);
     }
     Ok(())
 }

@@ -1,6 +1,6 @@
 //! Whether the words of an object can be written.
 
-ghost use Rattle.std.specs.Prelude.{◌<◌, [], ◌==◌, ◌≡◌, ◌+◌, ◌&&◌, ◌*◌, ◌≤◌, ◌||◌, Some, nat_lt};
+ghost use Rattle.std.specs.Prelude.{◌%◌, ◌<◌, [], ◌==◌, ◌≡◌, ◌+◌, ◌&&◌, ◌*◌, ◌≤◌, ◌||◌, Some, nat_lt};
 ghost use Rattle.std.specs.Prelude.{slice_get, Err, MatchResult, not, Ok, ℕ, List, nat_le, length};
 ghost use Rattle.std.specs.List.{find, list_any};
 ghost use Rattle.elf_linking.specs.Scope.{scope_objects};
@@ -13,7 +13,7 @@ ghost use Rattle.elf_loading.specs.Segments.{has_flag};
 ghost use Rattle.elf_loading.specs.declared.words.Word.{Word};
 
 use crate::LoadError;
-use crate::image_tables::{asks_for_text, check_tables, tables_of};
+use crate::image_tables::{asks_for_text, check_records, check_tables, tables_of};
 use crate::plan::LoadPlan;
 use crate::segments::has_flag;
 use crate::words::{Binding, Word, Words};
@@ -94,8 +94,24 @@ fn mark(marks: &mut [u8], index: u128) -> bool
     was
 }
 
-// Sets as many marks as are given from an index on, and returns whether one was set.
-fn mark_all(marks: &mut [u8], start: u64, count: u64) -> bool
+// Sets the eight marks of a byte, from this index on, and returns whether one was set.
+#[tactic(auto, using(crate::proofs::Marks::byte_was))]
+fn mark_byte(marks: &mut [u8], start: u64) -> bool
+    requires whole { start % 8 ≡ 0 }
+    requires room { start + 8 ≤ 8 * length marks.old }
+    ensures was { result ≡ some_marked marks.old start 8 }
+    ensures len { length marks.new ≡ length marks.old }
+    ensures set { (i : ℕ) → is_marked marks.new i
+        ≡ ((nat_le start i && nat_lt i (start + 8)) || is_marked marks.old i) }
+{
+    let byte = (start / 8) as usize;
+    let was = marks[byte] != 0;
+    marks[byte] = 0xff;
+    was
+}
+
+// Sets as many marks as are given from an index on, one by one, and returns whether one was set.
+fn mark_each(marks: &mut [u8], start: u64, count: u64) -> bool
     requires { start + count ≤ 8 * length marks.old }
     ensures was { result ≡ some_marked marks.old start count }
     ensures len { length marks.new ≡ length marks.old }
@@ -107,6 +123,20 @@ fn mark_all(marks: &mut [u8], start: u64, count: u64) -> bool
         was |= mark(marks, u128::from(start) + u128::from(place));
     }
     was
+}
+
+// The same. The words of most relocations have eight bytes at a multiple of eight: one byte of marks.
+fn mark_all(marks: &mut [u8], start: u64, count: u64) -> bool
+    requires { start + count ≤ 8 * length marks.old }
+    ensures was { result ≡ some_marked marks.old start count }
+    ensures len { length marks.new ≡ length marks.old }
+    ensures set { (i : ℕ) → is_marked marks.new i
+        ≡ ((nat_le start i && nat_lt i (start + count)) || is_marked marks.old i) }
+{
+    if count == 8 && start % 8 == 0 {
+        return mark_byte(marks, start);
+    }
+    mark_each(marks, start, count)
 }
 
 // Whether a load is not writable, and the file doesn't ask for writes to such a load.
@@ -198,6 +228,7 @@ fn begin<'s, 'a, E: LinkedSymbol>(
         Ok(words) => words,
         Err(error) => return Err(LoadError::Link(error)),
     };
+    check_records(&own.file(), &own.view())?;
     let span = plan.span();
     if bits < u128::from(span.end - span.start) {
         return Err(LoadError::FewMarks);

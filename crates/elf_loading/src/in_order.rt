@@ -65,7 +65,7 @@ pub struct InOrder<'a> {
 }
 
 // The type of relative relocations.
-fn relative_type(machine: u16) -> u32
+pub(crate) fn relative_type(machine: u16) -> u32
     ensures { result ≡ relative_kind machine }
 {
     match relative_of(machine) {
@@ -169,7 +169,7 @@ fn ends_with(table: &TableLocation, other: &TableLocation) -> bool
 }
 
 // The number of records of a table that are not those of the procedure linkage table again.
-fn kept_records(view: &DynamicView<'_>, file: &ElfFile<'_>, kind: u64, size: u64) -> u64
+pub(crate) fn kept_records(view: &DynamicView<'_>, file: &ElfFile<'_>, kind: u64, size: u64) -> u64
     ensures { result ≡ kept_records file.now (view_entries view.now) kind size }
 {
     let table = view.table_by(kind, size);

@@ -1,9 +1,10 @@
 //! What memory holds once a file is loaded, as Linux maps programs and glibc libraries.
 //!
-//! `LoadPlan::check_load` decides whether a file would be loaded. Its plan says which pages are
-//! mapped (`mappings`), which byte is at an address (`byte_at`), and the rest that a loader asks for:
-//! the span, what is read-only after relocation, thread-local storage, the stack, the interpreter
-//! and the entry point. No call allocates memory.
+//! `LoadPlan::check_load` decides whether a file has a plan, and is stricter than Linux;
+//! `check_load_by` says what one of them does. The plan says which pages are mapped (`mappings`),
+//! which byte is at an address (`byte_at`), and the rest that a loader asks for: the span, what is
+//! read-only after relocation, thread-local storage, the stack, the interpreter and the entry point.
+//! No call allocates memory.
 #![tactic(auto)]
 
 mod bytes;
@@ -13,14 +14,17 @@ mod file_check;
 mod image_tables;
 mod image_words;
 mod in_order;
+mod library_check;
 mod load_check;
 mod load_pass;
 mod load_scope;
+mod loader_check;
 mod loads;
 mod mapping;
 mod mappings;
 mod pages;
 mod plan;
+mod program_check;
 mod relocate;
 mod segments;
 mod span;

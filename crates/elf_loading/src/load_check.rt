@@ -124,7 +124,7 @@ pub(crate) fn check_load(
     if !is_alignment(load.align) {
         return Err(LoadError::Alignment);
     }
-    if is_past(page, limit, address, size) {
+    if limit <= address || is_past(page, limit, address, size) {
         return Err(LoadError::Range);
     }
     if is_past_data(page, len, load) {

@@ -69,9 +69,10 @@ impl<'s, 'a, E: LinkedSymbol> LoadScope<'s, 'a, E> {
     /// `marks` has at least a bit for each byte of the span of the plan. What it holds is overwritten.
     ///
     /// Errors, the first of these: `Link` with `ObjectIndex` if there is no object or no plan at `of`;
-    /// `Dynamic`; `NoEntry`; of DT_RELA, DT_REL and DT_RELR each `RelocationSize`, `NotMultiple` and
-    /// `Unreadable`; of DT_JMPREL `SlotKind` and the latter two; `Unreadable` of other tables;
-    /// `Machine`; `Link` with those of `words`; `FewMarks`; of each word `WordType` or `Link`,
+    /// `Dynamic`; `NoEntry`; `NoAddends`; `Addends`; `NoSlots`; of DT_RELA, DT_REL and DT_RELR each
+    /// `RelocationSize`, `NotMultiple` and `Unreadable`; of DT_RELR also `FirstPacked`; of DT_JMPREL
+    /// `SlotKind`, `NotMultiple` and `Unreadable`; `Unreadable` of other tables; `Machine`; `Link` with
+    /// those of `words`; `RelativeCount`; `SlotType`; `FewMarks`; of each word its own error,
     /// `WordAddress`, `ReadOnly`, `WordsOverlap` and `WordInTable`.
     ///
     /// The time is that of `Scope::bind` for each relocation, and linear in the bytes of the words; each
@@ -108,8 +109,8 @@ impl<'s, 'a, E: LinkedSymbol> LoadScope<'s, 'a, E> {
     ///
     /// Errors: `Link` with `ObjectIndex` if there is no object or no plan at `of`; `ImageSize` if
     /// `image` is not of the size of the span, or there are not as many plans, places or images as
-    /// objects; `Link` with those of `words`; then of the first word that has one, `WordType` or
-    /// `Link`, `Unresolved`, `WordAddress` and `CopySource`. The words before it are written, and the
+    /// objects; `Link` with those of `words`; then of the first word that has one, its own error,
+    /// `Unresolved`, `WordAddress` and `CopySource`. The words before it are written, and the
     /// bytes of that word and of those after it stay as they are.
     #[tactic(auto, using(crate::proofs::ImageChecks::no_object, crate::proofs::ImageChecks::no_plan))]
     pub fn relocate(

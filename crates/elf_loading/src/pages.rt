@@ -83,3 +83,18 @@ pub(crate) fn end_down(page: u64, start: u64, size: u64) -> u128
     };
     u128::from(start) + u128::from(size) - u128::from(over)
 }
+
+// The end of the pages of `size` bytes from `start` on.
+#[tactic(auto, using(crate::proofs::Rounded::up_same, crate::proofs::Rounded::up_next))]
+#[inline(always)]
+pub(crate) fn end_up(page: u64, start: u64, size: u64) -> u128
+    requires { 0 < page }
+    ensures { result ≡ up page (start + size) }
+{
+    let end = u128::from(start) + u128::from(size);
+    let last = end_down(page, start, size);
+    if last == end {
+        return end;
+    }
+    last + u128::from(page)
+}

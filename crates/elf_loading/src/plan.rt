@@ -72,7 +72,9 @@ impl<'a> LoadPlan<'a> {
     ///
     /// `page` is the size of a page, a power of two such as 4096. `limit` is the end of the
     /// addresses that a loader may use: 2^47 - 4096 for x86-64, 0xffffe000 for 386. The error is the
-    /// first that applies in the order of `LoadError`.
+    /// first that applies in the order of `LoadError`. The list is stricter than that of Linux, and
+    /// than that of glibc but for its tests of the header, of PT_DYNAMIC and of large alignments:
+    /// `check_load_by` returns the error of one loader.
     #[tactic(auto, using(crate::proofs::FileChecks::ok_ends, crate::proofs::Covered::error_uncovered, crate::proofs::Reasons::passes_means, crate::proofs::Reasons::error_means))]
     pub fn check_load(file: &ElfFile<'a>, page: u64, limit: u64) -> Result<LoadPlan<'a>, LoadError>
         requires { 0 < page }

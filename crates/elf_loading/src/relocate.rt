@@ -173,7 +173,11 @@ fn write_bytes(image: &mut [u8], index: usize, bytes: &[u8])
 
 // The word of a relative relocation whose addend is in its record, for the object at index `of`.
 #[inline(always)]
-fn relative_word(of: usize, relative: &Option<Row>, relocation: &Relocation) -> Option<Word>
+pub(crate) fn relative_word(
+    of: usize,
+    relative: &Option<Row>,
+    relocation: &Relocation,
+) -> Option<Word>
     ensures { result ≡ relative_word of relative.now relocation.now }
 {
     let Some(relative) = relative else {

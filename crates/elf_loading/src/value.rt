@@ -4,7 +4,7 @@
 
 ghost use Rattle.std.specs.Prelude.{◌≡◌, ◌<◌, ◌^◌};
 ghost use Rattle.elf_loading.specs.Values.{absent_value, bound_value, bytes_of, difference};
-ghost use Rattle.elf_loading.specs.Values.{is_indirect, low, module_value, object_of};
+ghost use Rattle.elf_loading.specs.Values.{is_elsewhere, is_indirect, low, module_value, object_of};
 ghost use Rattle.elf_loading.specs.Values.{origin_of, size_of, target_of, value_of};
 
 use elf_linking::references::Formula;
@@ -193,6 +193,16 @@ fn size_of<E: LinkedSymbol>(bound: &Option<Bound<E>>) -> u64
     match bound {
         Some(bound) => bound.symbol.size(),
         None => 0,
+    }
+}
+
+// Whether there is a symbol whose bytes are not at its value in its object.
+pub(crate) fn is_elsewhere<E: LinkedSymbol>(bound: &Option<Bound<E>>) -> bool
+    ensures { result ≡ is_elsewhere E.fields bound.now }
+{
+    match bound {
+        Some(bound) => is_indirect(&bound.symbol) || object_of(bound).is_none(),
+        None => false,
     }
 }
 

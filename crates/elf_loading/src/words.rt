@@ -2,6 +2,7 @@
 
 ghost use Rattle.std.specs.Prelude.{◌≡◌, ◌<◌, ◌≤◌, ◌^◌, Err, IfOk, IfSome, MatchResult, Ok, Some, slice_get};
 ghost use Rattle.std.specs.Iterator.{YieldsFirst, YieldsFirstBy, item_count};
+ghost use Rattle.elf_base.specs.Refusal.{unless};
 ghost use Rattle.elf_linking.specs.DynamicView.{flag_in, view_entries};
 ghost use Rattle.elf_linking.specs.References.{file_machine};
 ghost use Rattle.elf_linking.specs.Scope.{scope_objects};
@@ -11,7 +12,8 @@ ghost use Rattle.elf_loading.specs.RelativeWords.{asks_as};
 ghost use Rattle.elf_loading.specs.Words.{IsBoundIf, addend_of, addend_place, address_size};
 ghost use Rattle.elf_loading.specs.Words.{binds_lazily, formula_when, has_zeros, in_place_when};
 ghost use Rattle.elf_loading.specs.Words.{is_lazy, needs_symbol, own_size, takes_addend};
-ghost use Rattle.elf_loading.specs.Words.{takes_symbol, value_word, word_in_memory, word_of};
+ghost use Rattle.elf_loading.specs.Words.{takes_symbol, value_rows, value_word};
+ghost use Rattle.elf_loading.specs.Words.{word_in_memory, word_of};
 ghost use Rattle.elf_loading.specs.WordsLeft.{AreWordsOf, HasWordOf, IsSame, own_relocations};
 ghost use Rattle.elf_loading.specs.WordsLeft.{relocation_of, relocations_left, words_file};
 ghost use Rattle.elf_loading.specs.WordsLeft.{words_index, words_lazy, words_objects};
@@ -19,10 +21,11 @@ ghost use Rattle.elf_loading.specs.WordsLeft.{words_index, words_lazy, words_obj
 use crate::LoadError;
 use crate::in_order::{InOrder, Relocation};
 use crate::loads::Loads;
-use crate::value::{Terms, Value, bytes_of, value_of};
+use crate::relocate::relative_word;
+use crate::value::{Terms, Value, bytes_of, is_elsewhere, value_of};
 use elf_base::bytes::Record;
 use elf_linking::references::types::Row;
-use elf_linking::references::{Formula, Reference, row_of};
+use elf_linking::references::{Formula, Reference, relative_of, row_of};
 use elf_linking::scope::{Bound, Scope};
 use elf_linking::view::{DT_BIND_NOW, DT_FLAGS, DT_FLAGS_1, DynamicView, LinkedSymbol, word_at};
 use elf_linking::{DynamicObject, LinkError, Segment};
@@ -60,7 +63,7 @@ pub struct Relocated<E> {
     /// What it writes.
     ///
     /// Errors: `WordType`; `Link` with those of the word in place if it is the addend, and then of
-    /// the symbol.
+    /// the symbol; `NoSize`, `CopyKind` and `CallSymbol`.
     pub word: Result<Word, LoadError>,
 }
 
@@ -266,6 +269,26 @@ fn value_word<E: LinkedSymbol>(terms: &Terms, bound: &Option<Bound<E>>, formula:
     }
 }
 
+// The word with the value of a formula, if that is modelled, by the symbol that is named, and the one
+// that the relocation gets.
+fn modelled_word<E: LinkedSymbol>(
+    terms: &Terms,
+    named: u32,
+    bound: &Option<Bound<E>>,
+    formula: Formula,
+) -> Result<Word, LoadError>
+    requires { terms.now.width < 2 ^ 31 }
+    ensures { result ≡ unless (value_rows E.fields named bound.now formula)
+        (value_word E.fields terms.now bound.now formula) }
+{
+    match formula {
+        Formula::Size if bound.is_none() => Err(LoadError::NoSize),
+        Formula::Copy if is_elsewhere(bound) => Err(LoadError::CopyKind),
+        Formula::Call if named != 0 => Err(LoadError::CallSymbol),
+        _ => Ok(value_word(terms, bound, formula)),
+    }
+}
+
 // What a relocation of an object writes, by the symbol that it gets.
 fn word_of<E: LinkedSymbol>(
     file: &ElfFile<'_>,
@@ -295,7 +318,7 @@ fn word_of<E: LinkedSymbol>(
         width: row.width,
     };
     match bound {
-        Ok(bound) => Ok(value_word(&terms, bound, formula)),
+        Ok(bound) => modelled_word(&terms, reference.symbol, bound, formula),
         Err(error) => Err(LoadError::Link(*error)),
     }
 }
@@ -358,6 +381,22 @@ impl<'s, 'a, E: LinkedSymbol> Words<'s, 'a, E> {
         self.item_with(relocation, bound)
     }
 
+    // The same; that of a relative relocation is its addend, without a look-up.
+    fn quick_item(&self, relocation: Relocation) -> Relocated<E>
+        ensures relocation { result.relocation ≡ relocation }
+        ensures word { HasWordOf E.fields self.now result }
+    {
+        let relative = relative_of(self.file.header.pt2.machine().raw());
+        match relative_word(self.of, &relative, &relocation) {
+            Some(word) => Relocated {
+                relocation,
+                bound: Ok(None),
+                word: Ok(word),
+            },
+            None => self.item(relocation),
+        }
+    }
+
     // The same after an item. Linkers put relocations of one symbol one after the other, and each of
     // these gets the symbol of the last.
     pub(crate) fn item_after(
@@ -415,6 +454,6 @@ impl<E: LinkedSymbol> Iterator for Words<'_, '_, E> {
 
     fn next(&mut self) -> Option<Relocated<E>> {
         let relocation = self.next_relocation()?;
-        Some(self.item(relocation))
+        Some(self.quick_item(relocation))
     }
 }

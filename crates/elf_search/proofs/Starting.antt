@@ -374,11 +374,11 @@ pub back_end : (before : ℕ → ℕ) (N n k : ℕ) → n ≡ 0 → back_from be
 back_end before N n k e = rw e refl
 
 -- the state of a visit, with its bounds
-pub visit_state : (E : ℕ → List ℕ) (N root begun : ℕ) (C0 W0 : List ℕ) (top n depth : ℕ) (P C W m : List ℕ) → IsBetween N C0 m begun
-    → ((m0 : List ℕ) → IsBetween N C0 m0 begun → IsVisit E N root m0 (take begun W0) top n depth P C W)
-    → ((m0 : List ℕ) → IsBetween N C0 m0 begun → IsVisit E N root m0 (take begun W0) top n depth P C W) × (top < N) × (n + depth + 2 ≤ N)
-visit_state E N root begun C0 W0 top n depth P C W m state visits =
-    (visits, visit_top E N root m (take begun W0) top n depth P C W (visits m state), visit_room E N root m (take begun W0) top n depth P C W (visits m state))
+pub visit_state : (E : ℕ → List ℕ) (N root begun : ℕ) (c w : List ℕ) (top n depth : ℕ) (P C W m : List ℕ) → IsBetween N c m begun
+    → ((m0 : List ℕ) → IsBetween N c m0 begun → IsVisit E N root m0 (take begun w) top n depth P C W)
+    → ((m0 : List ℕ) → IsBetween N c m0 begun → IsVisit E N root m0 (take begun w) top n depth P C W) × (top < N) × (n + depth + 2 ≤ N)
+visit_state E N root begun c w top n depth P C W m state visits =
+    (visits, visit_top E N root m (take begun w) top n depth P C W (visits m state), visit_room E N root m (take begun w) top n depth P C W (visits m state))
 
 -- an edge is gone over
 pub turn_pass : (u a most top : ℕ) (C : List ℕ) → top < length C → get_or C top 0 < most

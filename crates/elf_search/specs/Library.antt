@@ -8,6 +8,7 @@ use Rattle.elf_linking.specs.declared.segments.Segment.{Segment}
 use Rattle.elf_linking.specs.declared.view.tags.TheConstants.{DT_FLAGS_1}
 use Rattle.elf_records.specs.declared.dynamic.Dynamic.{Dynamic}
 use Rattle.xmas_elf.specs.Types.{ElfFile}
+use Rattle.elf_library.specs.Segments.{dynamic_address}
 use Rattle.elf_search.specs.Names.{last_number}
 use Rattle.elf_search.specs.declared.error.SearchError.{SearchError}
 use Rattle.elf_search.specs.declared.error.SearchError.TheVariants as error
@@ -20,16 +21,6 @@ is_load segment = segment.kind == 1
 abbrev pub has_load : List Segment → Bool
 has_load segments = is_some (find is_load segments)
 
--- a segment is of type Dynamic (PT_DYNAMIC) and has bytes in the file
-abbrev pub is_dynamic_with_bytes : Segment → Bool
-is_dynamic_with_bytes segment = segment.kind == 2 && not (segment.file_size == 0)
-
--- the address of the last such segment, or the one before if there is none
-abbrev pub dynamic_address : ℕ → List Segment → ℕ
-dynamic_address before [] = before
-dynamic_address before (segment ∷ segments) =
-    dynamic_address (if is_dynamic_with_bytes segment then segment.address else before) segments
-
 -- the file is an executable of a fixed address (ET_EXEC)
 abbrev pub is_executable : ElfFile → Bool
 is_executable file = type_number (header_fields file.header.pt2).type_ == 2
@@ -39,7 +30,7 @@ abbrev pub library_rows : ElfFile → List (Bool × SearchError)
 library_rows file =
     (not (has_load (segments_of file)), error.NoLoad)
     ∷ (is_executable file, error.Executable)
-    ∷ (dynamic_address 0 (segments_of file) == 0, error.NoDynamic)
+    ∷ (dynamic_address (segments_of file) == 0, error.NoDynamic)
     ∷ []
 
 -- a number of flags, if there is one, has all bits of a flag

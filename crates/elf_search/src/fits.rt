@@ -1,184 +1,30 @@
-//! Whether an opened file is a library for a search (gABI, "ELF Header"), and whether such a file can
-//! be loaded as one, as `ld.so` of glibc 2.36 decides on Debian.
+//! Whether an opened file is a library for a search (gABI, "ELF Header"), as `ld.so` of glibc 2.36
+//! decides on Debian.
 
-ghost use Rattle.std.specs.Prelude.{◌≡◌, ◌≤◌, ◌||◌, ◌==◌, Err, Ok, length, not};
-ghost use Rattle.elf_base.specs.Refusal.{unless};
-ghost use Rattle.elf_search.specs.Fits.{are_headers_past, entry_size, first_row, fits_of};
-ghost use Rattle.elf_search.specs.Fits.{given_count, given_offset, given_size, header_size};
-ghost use Rattle.elf_search.specs.Fits.{ident_rows, is_abi, is_abi_version, is_elf};
-ghost use Rattle.elf_search.specs.Fits.{is_ident_other, is_machine_other, is_padded, is_type};
-ghost use Rattle.elf_search.specs.Fits.{later_rows};
-ghost use Rattle.elf_search.specs.declared.fits.Fit.TheVariants.{Taken};
+ghost use Rattle.std.specs.Prelude.{◌≡◌};
+ghost use Rattle.elf_search.specs.Fits.{search_error, search_fit};
 
 use crate::SearchError;
-use elf_base::bytes::{Order, read_u16, read_u32, read_u64};
+pub use elf_library::fits::Fit;
+use elf_library::{HeaderError, fits as header};
 
-/// What a search does with a file that was opened.
-#[derive(Clone, Copy, Debug, PartialEq, Eq)]
-pub enum Fit {
-    /// The file is the one that is looked for; no other is tried.
-    Taken,
-    /// The file is for another class or machine, and the search goes on.
-    PassedOver,
-}
-
-// The size of a file header of a class.
-fn header_size(class: u8) -> usize
-    ensures { result ≡ header_size class }
+// The error of a search for the error of a header.
+fn search_error(error: HeaderError) -> SearchError
+    ensures { result ≡ search_error error }
 {
-    if class == 1 { 52 } else { 64 }
-}
-
-// The size of a program header of a class.
-fn entry_size(class: u8) -> u16
-    ensures { result ≡ entry_size class }
-{
-    if class == 1 { 32 } else { 56 }
-}
-
-// Whether these are the first bytes of an ELF file.
-fn is_elf(head: &[u8]) -> bool
-    requires { 52 ≤ length head.now }
-    ensures { result ≡ is_elf head.now }
-{
-    read_u32(head, 0, Order::Little) == 0x464c_457f
-}
-
-// Whether the ABI of the operating system is that of System V or of GNU.
-fn is_abi(head: &[u8]) -> bool
-    requires { 52 ≤ length head.now }
-    ensures { result ≡ is_abi head.now }
-{
-    head[7] == 0 || head[7] == 3
-}
-
-// Whether the version of that ABI is one that glibc has.
-fn is_abi_version(head: &[u8]) -> bool
-    requires { 52 ≤ length head.now }
-    ensures { result ≡ is_abi_version head.now }
-{
-    head[8] == 0 || (head[7] == 3 && head[8] < 4)
-}
-
-// Whether the bytes 9 to 15 are 0.
-fn is_padded(head: &[u8]) -> bool
-    requires { 52 ≤ length head.now }
-    ensures { result ≡ is_padded head.now }
-{
-    head[9] == 0 && read_u16(head, 10, Order::Little) == 0 && read_u32(head, 12, Order::Little) == 0
-}
-
-// Whether the bytes 5 to 15 are those of a library, or why not.
-fn check_ident(head: &[u8]) -> Result<(), SearchError>
-    requires { 52 ≤ length head.now }
-    ensures { result ≡ unless (ident_rows head.now) tt }
-{
-    if head[5] != 1 {
-        return Err(SearchError::ByteOrder);
+    match error {
+        HeaderError::ShortFile => SearchError::ShortFile,
+        HeaderError::Magic => SearchError::Magic,
+        HeaderError::ByteOrder => SearchError::ByteOrder,
+        HeaderError::IdentVersion => SearchError::IdentVersion,
+        HeaderError::OsAbi => SearchError::OsAbi,
+        HeaderError::AbiVersion => SearchError::AbiVersion,
+        HeaderError::Padding => SearchError::Padding,
+        HeaderError::Version => SearchError::Version,
+        HeaderError::Type => SearchError::Type,
+        HeaderError::EntrySize => SearchError::EntrySize,
+        HeaderError::FileData => SearchError::FileData,
     }
-    if head[6] != 1 {
-        return Err(SearchError::IdentVersion);
-    }
-    if !is_abi(head) {
-        return Err(SearchError::OsAbi);
-    }
-    if !is_abi_version(head) {
-        return Err(SearchError::AbiVersion);
-    }
-    if !is_padded(head) {
-        return Err(SearchError::Padding);
-    }
-    Ok(())
-}
-
-// Whether the machine is another.
-fn is_machine_other(head: &[u8], machine: u16) -> bool
-    requires { 52 ≤ length head.now }
-    ensures { result ≡ is_machine_other machine head.now }
-{
-    read_u16(head, 18, Order::Little) != machine
-}
-
-// Whether the type is that of an executable or of a shared object.
-fn is_type(head: &[u8]) -> bool
-    requires { 52 ≤ length head.now }
-    ensures { result ≡ is_type head.now }
-{
-    let kind = read_u16(head, 16, Order::Little);
-    kind == 2 || kind == 3
-}
-
-// The size of a program header that the file gives.
-fn given_size(head: &[u8], class: u8) -> u16
-    requires { header_size class ≤ length head.now }
-    ensures { result ≡ given_size class head.now }
-{
-    if class == 1 {
-        read_u16(head, 42, Order::Little)
-    } else {
-        read_u16(head, 54, Order::Little)
-    }
-}
-
-// The number of program headers.
-fn given_count(head: &[u8], class: u8) -> u16
-    requires { header_size class ≤ length head.now }
-    ensures { result ≡ given_count class head.now }
-{
-    if class == 1 {
-        read_u16(head, 44, Order::Little)
-    } else {
-        read_u16(head, 56, Order::Little)
-    }
-}
-
-// The offset of the program headers.
-fn given_offset(head: &[u8], class: u8) -> u64
-    requires { header_size class ≤ length head.now }
-    ensures { result ≡ given_offset class head.now }
-{
-    if class == 1 {
-        u64::from(read_u32(head, 28, Order::Little))
-    } else {
-        read_u64(head, 32, Order::Little)
-    }
-}
-
-// Whether the program headers extend past the end of the file.
-fn are_headers_past(head: &[u8], len: u64, class: u8) -> bool
-    requires { header_size class ≤ length head.now }
-    ensures { result ≡ are_headers_past class len head.now }
-{
-    let offset = given_offset(head, class);
-    let count = given_count(head, class);
-    if count == 0 {
-        return offset >= 1 << 63 && offset > len;
-    }
-    let size = u64::from(count) * u64::from(entry_size(class));
-    offset > len || size > len - offset
-}
-
-// The answer of the tests of the rest of the header.
-fn fits_later(head: &[u8], len: u64, class: u8, machine: u16) -> Result<Fit, SearchError>
-    requires { header_size class ≤ length head.now }
-    ensures { result ≡ first_row (later_rows class machine len head.now) (Ok Taken) }
-{
-    if read_u32(head, 20, Order::Little) != 1 {
-        return Err(SearchError::Version);
-    }
-    if is_machine_other(head, machine) {
-        return Ok(Fit::PassedOver);
-    }
-    if !is_type(head) {
-        return Err(SearchError::Type);
-    }
-    if given_size(head, class) != entry_size(class) {
-        return Err(SearchError::EntrySize);
-    }
-    if are_headers_past(head, len, class) {
-        return Err(SearchError::FileData);
-    }
-    Ok(Fit::Taken)
 }
 
 /// Whether the file with these first bytes is the library that is looked for by a program of this
@@ -194,24 +40,10 @@ fn fits_later(head: &[u8], len: u64, class: u8, machine: u16) -> Result<Fit, Sea
 /// extend past the end of the file. Of a directory, which can be opened and not read, the caller
 /// returns `FileData` itself.
 pub fn fits(head: &[u8], len: u64, class: u8, machine: u16) -> Result<Fit, SearchError>
-    ensures { result ≡ fits_of class machine len head.now }
+    ensures { result ≡ search_fit class machine len head.now }
 {
-    if head.len() < header_size(class) {
-        return Err(SearchError::ShortFile);
-    }
-    if !is_elf(head) {
-        return Err(SearchError::Magic);
-    }
-    if head[4] != class {
-        return Ok(Fit::PassedOver);
-    }
-    match check_ident(head) {
-        Ok(()) => fits_later(head, len, class, machine),
-        Err(error) => {
-            if is_machine_other(head, machine) {
-                return Ok(Fit::PassedOver);
-            }
-            Err(error)
-        }
+    match header::fits(head, len, class, machine) {
+        Ok(fit) => Ok(fit),
+        Err(error) => Err(search_error(error)),
     }
 }

@@ -5,18 +5,17 @@ ghost use Rattle.std.specs.Prelude.{◌≡◌, ◌==◌, None, not, ◌&&◌};
 ghost use Rattle.elf_base.specs.Refusal.{unless};
 ghost use Rattle.elf_linking.specs.DynamicView.{view_entries};
 ghost use Rattle.elf_linking.specs.Segments.{segments_of};
-ghost use Rattle.elf_search.specs.Library.{dynamic_address, has_flag_1, is_dynamic_with_bytes};
+ghost use Rattle.elf_search.specs.Library.{has_flag_1};
 ghost use Rattle.elf_search.specs.Library.{has_load, is_executable, library_rows, shared_rows};
 
 use crate::SearchError;
 use crate::names::last_entry;
+use elf_library::segments::dynamic_address;
+use elf_linking::Segments;
 use elf_linking::view::{DT_FLAGS_1, DynamicView};
-use elf_linking::{Segment, Segments};
 use xmas_elf::ElfFile;
 
 const PT_LOAD: u32 = 1;
-
-const PT_DYNAMIC: u32 = 2;
 
 /// `DF_1_INITFIRST`: the initialisers of the library run before those of all others (`elf.h` of
 /// glibc).
@@ -41,27 +40,6 @@ fn has_load(file: &ElfFile<'_>) -> bool
     false
 }
 
-// Whether a segment is of type Dynamic and has bytes in the file.
-fn is_dynamic_with_bytes(segment: &Segment) -> bool
-    ensures { result ≡ is_dynamic_with_bytes segment.now }
-{
-    segment.kind == PT_DYNAMIC && segment.file_size != 0
-}
-
-// The address of the last segment of type Dynamic that has bytes, 0 if there is none.
-#[tactic(auto, using(crate::proofs::SegmentSearch::dynamic_none, crate::proofs::SegmentSearch::dynamic_hit, crate::proofs::SegmentSearch::dynamic_other))]
-fn dynamic_address(file: &ElfFile<'_>) -> u64
-    ensures { result ≡ dynamic_address 0 (segments_of file.now) }
-{
-    let mut address = 0;
-    for segment in Segments::of(file) {
-        if is_dynamic_with_bytes(&segment) {
-            address = segment.address;
-        }
-    }
-    address
-}
-
 // Whether a file is an executable of a fixed address (ET_EXEC).
 fn is_executable(file: &ElfFile<'_>) -> bool
     ensures { result ≡ is_executable file.now }
@@ -73,8 +51,8 @@ fn is_executable(file: &ElfFile<'_>) -> bool
 /// segments is tested after these, and `check_shared` last.
 ///
 /// Errors, the first of these: `NoLoad` if no segment is loaded; `Executable` if the type is
-/// ET_EXEC; `NoDynamic` if no segment of type Dynamic has bytes in the file, or the last such is at
-/// address 0.
+/// ET_EXEC; `NoDynamic` if no segment is of type Dynamic, one of these has no bytes in the file, or
+/// the last is at address 0.
 pub fn check_library(file: &ElfFile<'_>) -> Result<(), SearchError>
     ensures { result ≡ unless (library_rows file.now) tt }
 {

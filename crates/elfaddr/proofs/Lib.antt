@@ -1,2 +1,3 @@
 mod AskedParts
 mod Printed
+pub mod Replaced

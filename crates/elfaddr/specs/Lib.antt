@@ -2,3 +2,4 @@ pub mod Asked
 pub mod Ends
 pub mod Lines
 pub mod Tables
+pub mod Stack

@@ -1,15 +1,15 @@
 //! A line for each address: the symbol or the section that it is in, and the offset there.
 
-ghost use Rattle.std.specs.Prelude.{◌≡◌, ◌-◌, ⊤, OnOk, Some};
+ghost use Rattle.std.specs.Prelude.{◌≡◌, ◌-◌, ⊤, OnOk, Some, false, length, true};
 ghost use Rattle.std.specs.Io.KnownBytes.{Appends};
 ghost use Rattle.elf_addresses.specs.Claims.{IsInnermost};
-ghost use Rattle.elf_addresses.specs.Index.{IsBuilt, IsWellBuilt};
+ghost use Rattle.elf_addresses.specs.Index.{IsBuilt, IsWellBuilt, listed};
 ghost use Rattle.elfaddr.specs.Lines.{AreLines, IsLine, IsSectionLine, offset_text, place_text};
 ghost use Rattle.program_ends.proofs.Flushed.{appended_flushed};
 ghost use Rattle.program_ends.specs.Appended.{AppendsSome};
 
 use crate::names::{Named, or_mark};
-use elf_addresses::{Claim, ClaimIndex, build_index, index_words, innermost, section_at};
+use elf_addresses::{Claim, ClaimIndex, IndexSize, build_index, index_size, innermost, section_at};
 use elf_linking::LinkError;
 use program_ends::{Output, Stop, write_name};
 use std::alloc::Global;
@@ -40,12 +40,16 @@ impl<C: Named> Output for Lines<'_, '_, C> {
 
     ghost Begins = { λ lines. ⊤ };
 
-    // Without memory for the words of an index the lines are the same, and take longer.
+    // Without memory for the words and numbers of an index the lines are the same, and take longer.
     fn write_to<W: Write>(&self, out: &mut W) -> Result<(), Stop<LinkError>> {
-        let words = vec![in self.alloc; 0; index_words(self.claims)];
+        let size = index_size(self.claims);
+        let (words, numbers) = room_for(size, self.addresses.len());
+        let words = vec![in self.alloc; 0; words];
         let mut words = words.unwrap_or(Vec::new(self.alloc));
-        match build_index(self.claims, &mut words) {
-            Ok(()) => match write_indexed(self, &words, out) {
+        let numbers = vec![in self.alloc; 0; numbers];
+        let mut numbers = numbers.unwrap_or(Vec::new(self.alloc));
+        match build_index(self.claims, &mut words, &mut numbers) {
+            Ok(()) => match write_indexed(self, size, &words, &numbers, out) {
                 Ok(()) => Ok(()),
                 Err(_) => Err(Stop::Write),
             },
@@ -57,19 +61,35 @@ impl<C: Named> Output for Lines<'_, '_, C> {
     }
 }
 
-// A line for each address, by an index in words.
+// How many words and numbers an index is given; none for few addresses, which passes over the symbols
+// find sooner.
+fn room_for(size: IndexSize, addresses: usize) -> (usize, usize) {
+    if addresses < 4 {
+        (0, 0)
+    } else {
+        (size.words(), size.numbers())
+    }
+}
+
+// A line for each address, by an index of a size in words and numbers.
 fn write_indexed<C: Named, W: Write>(
     lines: &Lines<'_, '_, C>,
+    size: IndexSize,
     words: &[u32],
+    numbers: &[u64],
     out: &mut W,
 ) -> io::Result<()>
-    requires { IsBuilt (C.claim_of lines.now.claims.now) (C.range_of lines.now.claims.now)
-        (C.count lines.now.claims.now) words.now }
+    requires built { IsBuilt (C.claim_of lines.now.claims.now) (C.range_of lines.now.claims.now)
+        (C.count lines.now.claims.now) words.now numbers.now }
+    requires sized { size.sized ≡ length (listed (C.claim_of lines.now.claims.now) false
+        (C.count lines.now.claims.now)) }
+    requires open { size.open ≡ length (listed (C.claim_of lines.now.claims.now) true
+        (C.count lines.now.claims.now)) }
     ensures { OnOk result (AppendsSome (AreLines (C.claim_of lines.now.claims.now)
         (C.name_of lines.now.claims.now) lines.now.file.now lines.now.addresses.now)
         (W.contents out.old) (W.contents out.new)) }
 {
-    let index = ClaimIndex::lend(lines.claims, words);
+    let index = ClaimIndex::lend(lines.claims, size, words, numbers);
     write_each(lines, &index, out)
 }
 
@@ -81,8 +101,8 @@ fn write_each<C: Named, W: Write>(
 ) -> io::Result<()>
     requires same { index.now.claims.now ≡ lines.now.claims.now }
     requires built { IsWellBuilt (C.claim_of index.now.claims.now)
-        (C.range_of index.now.claims.now) index.now.sized.now index.now.lasting.now
-        index.now.starts.now }
+        (C.range_of index.now.claims.now) index.now.sized.now index.now.begins.now
+        index.now.sizes.now index.now.lasting.now index.now.starts.now }
     ensures { OnOk result (AppendsSome (AreLines (C.claim_of lines.now.claims.now)
         (C.name_of lines.now.claims.now) lines.now.file.now lines.now.addresses.now)
         (W.contents out.old) (W.contents out.new)) }

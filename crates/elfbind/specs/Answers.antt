@@ -1,14 +1,14 @@
 -- What the program writes of its files (this project's own), by what is asked.
-use Rattle.std.specs.Prelude.{◌≡◌, ℕ, Bool, true, false, cond, List, Result, Ok, Err, ⊤}
-use Rattle.elf_linking.specs.Scope.{AreGood}
+use Rattle.std.specs.Prelude.{◌≡◌, ℕ, Bool, true, false, cond, List, map, Result, Ok, Err, ⊤}
+use Rattle.elf_linking.specs.Exports.{object_parts}
 use Rattle.elf_linking.specs.declared.error.LinkError.{LinkError}
 use Rattle.elf_linking.specs.declared.object.DynamicObject.{DynamicObject}
 use Rattle.elfbind.specs.Bindings.{AreBindingsBegun, AreBindingsRefused, AreBindingsWritten}
-use Rattle.elfbind.specs.Checks.{IsCheckLine, IsCheckRefused}
+use Rattle.elfbind.specs.Checks.{ArePassed, IsCheckLine, IsCheckRefused}
 use Rattle.elfbind.specs.Files.{AreWritten}
 use Rattle.linking_programs.specs.Files.{AreObjectsOf, IsInputRefused, is_first_narrow, refused_fault_of}
 use Rattle.elfbind.specs.declared.Question as questions
-use Rattle.elfbind.specs.declared.TheConstants.{CLOSED}
+use Rattle.program_ends.specs.declared.TheConstants.{CLOSED}
 use Rattle.elfbind.specs.declared.Question.TheVariants.{Bindings, Checks}
 use Rattle.linking_programs.specs.declared.Input.{Input}
 use Rattle.linking_programs.specs.declared.Refused.{Refused}
@@ -23,8 +23,8 @@ use Rattle.xmas_elf.specs.Types.{DynEntry32, DynEntry64}
 -- what is written of objects: the lines of their bindings, or of those that are missing their symbols, if the checks
 -- of all pass; or the lines of their checks. What is wrong is that a reference is missing its symbol, or that a check fails.
 pub data IsAnswer {E : Type 0} {r : _} (fields : E → SymbolFields) (inputs : List Input) (objects : List (DynamicObject E r)) (question : questions.Question) (wrong : Bool) (text : List ℕ) : Type 0 where
-  bindings : (only_missing : Bool) → question ≡ Bindings only_missing → AreGood fields objects
-      → AreBindingsWritten fields inputs objects only_missing wrong text
+  bindings : (only_missing : Bool) → question ≡ Bindings only_missing → ArePassed fields objects
+      → AreBindingsWritten inputs (map (object_parts fields) objects) only_missing wrong text
       → IsAnswer fields inputs objects question wrong text
   checks : question ≡ Checks → AreWritten (IsCheckLine fields inputs) objects wrong text
       → IsAnswer fields inputs objects question wrong text
@@ -33,14 +33,14 @@ pub data IsAnswer {E : Type 0} {r : _} (fields : E → SymbolFields) (inputs : L
 pub data IsAnswerRefused {E : Type 0} {r : _} (fields : E → SymbolFields) (inputs : List Input) (objects : List (DynamicObject E r)) (question : questions.Question) (refused : Refused LinkError) : Type 0 where
   by_check : (only_missing : Bool) → question ≡ Bindings only_missing → IsCheckRefused fields inputs objects refused
       → IsAnswerRefused fields inputs objects question refused
-  by_binding : (only_missing : Bool) → question ≡ Bindings only_missing → AreGood fields objects
+  by_binding : (only_missing : Bool) → question ≡ Bindings only_missing → ArePassed fields objects
       → AreBindingsRefused fields inputs objects only_missing refused
       → IsAnswerRefused fields inputs objects question refused
 
 -- how far the program has come when the first line is written
 pub data IsAnswerBegun {E : Type 0} {r : _} (fields : E → SymbolFields) (inputs : List Input) (objects : List (DynamicObject E r)) (question : questions.Question) : Type 0 where
-  bindings_begun : (only_missing : Bool) → question ≡ Bindings only_missing → AreGood fields objects
-      → AreBindingsBegun fields inputs objects only_missing
+  bindings_begun : (only_missing : Bool) → question ≡ Bindings only_missing → ArePassed fields objects
+      → AreBindingsBegun inputs (map (object_parts fields) objects) only_missing
       → IsAnswerBegun fields inputs objects question
   checks_begun : question ≡ Checks → IsAnswerBegun fields inputs objects question
 

@@ -1,11 +1,15 @@
 -- What the program writes of the references of some files (this project's own): a line for each that is looked up,
 -- with the file in which its symbol is found, and the symbol's value.
-use Rattle.std.specs.Prelude.{◌≡◌, ℕ, ◌++◌, ◌/◌, ◌==◌, ◌&&◌, if◌then◌else◌, not, Bool, false, List, [], ◌∷◌, Option, Some, None, option_and_then, option_map, Result, Ok, Err, codes, slice_get, IsErrAnd, IsOk}
+use Rattle.std.specs.Prelude.{◌≡◌, ℕ, ◌++◌, ◌/◌, ◌==◌, ◌&&◌, if◌then◌else◌, not, Bool, false, List, [], ◌∷◌, Option, Some, None, option_and_then, option_map, map, Err, codes, slice_get, IsSome, IsSomeAnd, ⊤}
 use Rattle.std.specs.Borrow.{Bor}
 use Rattle.std.specs.Fmt.{digits}
-use Rattle.elf_base.specs.Table.{table_items}
-use Rattle.elf_linking.specs.Bindings.{IsItemOf, reference_of_item, references_from}
-use Rattle.elf_linking.specs.DynamicObject.{object_records}
+use Rattle.elf_linking.specs.CheckedBindings.{all_bindings}
+use Rattle.elf_linking.specs.CheckedScope.{asked_in}
+use Rattle.elf_linking.specs.DynamicObject.{object_file, object_view}
+use Rattle.elf_linking.specs.DynamicView.{view_entries}
+use Rattle.elf_linking.specs.Exports.{ObjectParts, SymbolParts, object_parts}
+use Rattle.elf_linking.specs.References.{references_of}
+use Rattle.elf_linking.specs.Scope.{asked_of}
 use Rattle.elf_linking.specs.declared.error.LinkError.{LinkError}
 use Rattle.elf_linking.specs.declared.find.Wanted.{Wanted}
 use Rattle.elf_linking.specs.declared.find.Wanted.TheVariants.{Newest, Unversioned, Version}
@@ -14,7 +18,6 @@ use Rattle.elf_linking.specs.declared.references.Reference.{Reference}
 use Rattle.elf_linking.specs.declared.scope.Bound.{Bound}
 use Rattle.elf_linking.specs.declared.scope.asking.Asked.{Asked}
 use Rattle.elf_linking.specs.declared.scope.asking.Asked.TheVariants.{Look, Own}
-use Rattle.elf_linking.specs.declared.scope.bindings.Binding.{Binding}
 use Rattle.elfbind.specs.Files.{AreWritten}
 use Rattle.linking_programs.specs.Files.{IsOfInput}
 use Rattle.linking_programs.specs.declared.Input.{Input}
@@ -43,7 +46,8 @@ line_text file name wanted weak target =
 abbrev pub shown_text : Bool → List ℕ → List ℕ
 shown_text shown line = if shown then line else []
 
--- The line of an item of `Scope::bindings`.
+-- The line of an item of `CheckedScope::bindings`: the index of an object, and a reference with the symbol that it gets,
+-- or None in the place of relocations that can't be read.
 
 -- the path of the file at an index
 abbrev pub path_in : Option Input → List ℕ
@@ -51,82 +55,80 @@ path_in None = []
 path_in (Some input) = input.path.now
 
 -- the path of the file that has the symbol, and the symbol's value
-abbrev pub target_of : {E : Type 0} → (E → SymbolFields) → List Input → Option (Bound E) → Option (Bor (List ℕ) × ℕ)
-target_of fields inputs None = None
-target_of fields inputs (Some bound) =
-    option_map (λ input. (input.path, (fields bound.symbol).value)) (slice_get inputs bound.object)
-
--- the symbol at an index of the object at index `from`
-abbrev pub symbol_of : {E : Type 0} → {r : _} → List (DynamicObject E r) → ℕ → ℕ → Option E
-symbol_of objects from index =
-    option_and_then (λ object. slice_get (table_items (object_records object)) index) (slice_get objects from)
+abbrev pub target_of : List Input → Option (Bound SymbolFields) → Option (Bor (List ℕ) × ℕ)
+target_of inputs None = None
+target_of inputs (Some bound) = option_map (λ input. (input.path, bound.symbol.value)) (slice_get inputs bound.object)
 
 -- the binding of a symbol is weak (gABI, STB_WEAK), so that a reference to it may be left unresolved
-abbrev pub is_weak : {E : Type 0} → (E → SymbolFields) → Option E → Bool
-is_weak fields None = false
-is_weak fields (Some symbol) = (fields symbol).info / 16 == 2
+abbrev pub is_weak : Option SymbolFields → Bool
+is_weak None = false
+is_weak (Some symbol) = symbol.info / 16 == 2
 
 -- a reference is missing its symbol: it gets none, and isn't weak
-abbrev pub is_missing : {E : Type 0} → Bool → Option (Bound E) → Bool
+abbrev pub is_missing : Bool → Option (Bound SymbolFields) → Bool
 is_missing weak None = not weak
 is_missing weak (Some bound) = false
 
 -- of a reference of the object at index `from`, which may be weak, by what it gets and what it asks for: whether it is
--- missing its symbol, and its line; or the index of the object, and the error. The line is empty if the reference gets
--- the symbol that it names without a look-up, or if it isn't missing its symbol and only those that are, are asked for
-abbrev pub line_by : {E : Type 0} → (E → SymbolFields) → List Input → Bool → ℕ → Bool → Result (Option (Bound E)) LinkError → Result (Asked E) LinkError → Result (Bool × List ℕ) (ℕ × LinkError)
-line_by fields inputs only_missing from weak (Err error) asked = Err (from, error)
-line_by fields inputs only_missing from weak (Ok bound) (Err error) = Err (from, error)
-line_by fields inputs only_missing from weak (Ok bound) (Ok (Own own)) = Ok (false, [])
-line_by fields inputs only_missing from weak (Ok bound) (Ok (Look name wanted purpose own)) = Ok (
+-- missing its symbol, and its line. The line is empty if the reference gets the symbol that it names without a look-up,
+-- or if it isn't missing its symbol and only those that are, are asked for
+abbrev pub line_by : List Input → Bool → ℕ → Bool → Option (Bound SymbolFields) → Asked SymbolFields → Bool × List ℕ
+line_by inputs only_missing from weak bound (Own own) = (false, [])
+line_by inputs only_missing from weak bound (Look name wanted purpose own) = (
   is_missing weak bound,
   shown_text (not (only_missing && not (is_missing weak bound)))
-      (line_text (path_in (slice_get inputs from)) name.now wanted weak (target_of fields inputs bound)),
+      (line_text (path_in (slice_get inputs from)) name.now wanted weak (target_of inputs bound)),
 )
 
--- the same of an item
-abbrev pub line_of : {E : Type 0} → {r : _} → (E → SymbolFields) → List Input → List (DynamicObject E r) → Bool → Result (Binding E) (ℕ × LinkError) → Result (Bool × List ℕ) (ℕ × LinkError)
-line_of fields inputs objects only_missing (Err refused) = Err refused
-line_of fields inputs objects only_missing (Ok binding) = line_by fields inputs only_missing binding.from
-    (is_weak fields (symbol_of objects binding.from binding.reference.symbol)) binding.bound binding.asked
+-- whether the reference of an item is missing its symbol, and its line; None if the relocations of the object, or what
+-- the reference asks for, can't be read
+abbrev pub line_of : List Input → List ObjectParts → Bool → ℕ × Option (Reference × Option (Bound SymbolFields)) → Option (Bool × List ℕ)
+line_of inputs objects only_missing item =
+    option_and_then (λ binding. option_and_then (λ object.
+    let weak = is_weak (option_map (λ symbol. symbol.fields) (slice_get object.symbols binding.0.symbol)) in
+    option_map (line_by inputs only_missing item.0 weak binding.1) (asked_in object binding.0)) (slice_get objects item.0)) item.1
 
--- an error is that of an item, with the path of the file that asks
-abbrev pub IsErrorOf : List Input → Result (Bool × List ℕ) (ℕ × LinkError) → Refused LinkError → Type 0
-IsErrorOf inputs line refused = IsErrAnd line (λ at. IsOfInput inputs at.0 refused × (refused.error ≡ at.1))
+-- why an item of an object has no line: the error of its relocations, or of what the reference asks for
+abbrev pub IsErrorIn : {E : Type 0} → {r : _} → (E → SymbolFields) → DynamicObject E r → Option (Reference × Option (Bound SymbolFields)) → LinkError → Type 0
+IsErrorIn fields object None error = references_of (object_file object) (view_entries (object_view object)) ≡ Err error
+IsErrorIn fields object (Some binding) error = asked_of fields object binding.0 ≡ Err error
 
--- The lines of all items, by their references.
+-- the same, with the path of the file
+abbrev pub IsErrorOf : {E : Type 0} → {r : _} → (E → SymbolFields) → List Input → List (DynamicObject E r) → ℕ × Option (Reference × Option (Bound SymbolFields)) → Refused LinkError → Type 0
+IsErrorOf fields inputs objects item refused = IsSomeAnd (slice_get objects item.0) (λ object.
+    IsOfInput inputs item.0 refused × IsErrorIn fields object item.1 refused.error)
 
--- the item of a reference, which gets the symbol that `bind` returns for it, has a property
-abbrev pub HasItem : {E : Type 0} → {r : _} → (E → SymbolFields) → List (DynamicObject E r) → (Result (Binding E) (ℕ × LinkError) → Type 0) → ℕ × Result Reference LinkError → Type 0
-HasItem {E} fields objects P reference = (item : Result (Binding E) (ℕ × LinkError))
-    × (reference_of_item item ≡ reference) × IsItemOf fields objects item × P item
+-- an item is of an object; if it has no reference, the relocations of the object can't be read
+abbrev pub IsItemOf : List ObjectParts → ℕ × Option (Reference × Option (Bound SymbolFields)) → Type 0
+IsItemOf objects item = IsSomeAnd (slice_get objects item.0) (λ object. item.1 ≡ None → object.references ≡ None)
 
--- the line of the item of a reference, and whether it is missing its symbol
-abbrev pub IsLine : {E : Type 0} → {r : _} → (E → SymbolFields) → List Input → List (DynamicObject E r) → Bool → ℕ → ℕ × Result Reference LinkError → Bool → List ℕ → Type 0
-IsLine fields inputs objects only_missing _ reference missing line =
-    HasItem fields objects (λ item. line_of fields inputs objects only_missing item ≡ Ok (missing, line)) reference
+-- The lines of all items.
+
+-- an item has a line
+abbrev pub IsLine : List Input → List ObjectParts → Bool → ℕ → ℕ × Option (Reference × Option (Bound SymbolFields)) → Bool → List ℕ → Type 0
+IsLine inputs objects only_missing _ item missing line = line_of inputs objects only_missing item ≡ Some (missing, line)
 
 -- what is written of all objects: the lines of the items, in order
-abbrev pub AreBindingsWritten : {E : Type 0} → {r : _} → (E → SymbolFields) → List Input → List (DynamicObject E r) → Bool → Bool → List ℕ → Type 0
-AreBindingsWritten fields inputs objects only_missing = AreWritten (IsLine fields inputs objects only_missing) (references_from 0 objects)
+abbrev pub AreBindingsWritten : List Input → List ObjectParts → Bool → Bool → List ℕ → Type 0
+AreBindingsWritten inputs objects only_missing = AreWritten (IsLine inputs objects only_missing) (all_bindings objects)
 
 -- an item has a property, and those before it have their lines
-pub record IsAtItem {E : Type 0} {r : _} (fields : E → SymbolFields) (inputs : List Input) (objects : List (DynamicObject E r)) (only_missing : Bool) (P : Result (Binding E) (ℕ × LinkError) → Type 0) : Type 0 where
-  pub earlier : List (ℕ × Result Reference LinkError)
-  pub reference : ℕ × Result Reference LinkError
-  pub later : List (ℕ × Result Reference LinkError)
-  pub references_are : references_from 0 objects ≡ earlier ++ (reference ∷ later)
+pub record IsAtItem (inputs : List Input) (objects : List ObjectParts) (only_missing : Bool) (P : ℕ × Option (Reference × Option (Bound SymbolFields)) → Type 0) : Type 0 where
+  pub earlier : List (ℕ × Option (Reference × Option (Bound SymbolFields)))
+  pub item : ℕ × Option (Reference × Option (Bound SymbolFields))
+  pub later : List (ℕ × Option (Reference × Option (Bound SymbolFields)))
+  pub items_are : all_bindings objects ≡ earlier ++ (item ∷ later)
   pub missing : Bool
   pub text : List ℕ
-  pub lines : AreWritten (IsLine fields inputs objects only_missing) earlier missing text
-  pub here : HasItem fields objects P reference
+  pub lines : AreWritten (IsLine inputs objects only_missing) earlier missing text
+  pub here : P item
 
 -- why the lines end before the last: the first item that has an error
 abbrev pub AreBindingsRefused : {E : Type 0} → {r : _} → (E → SymbolFields) → List Input → List (DynamicObject E r) → Bool → Refused LinkError → Type 0
 AreBindingsRefused fields inputs objects only_missing refused =
-    IsAtItem fields inputs objects only_missing (λ item. IsErrorOf inputs (line_of fields inputs objects only_missing item) refused)
+    IsAtItem inputs (map (object_parts fields) objects) only_missing (λ item. IsErrorOf fields inputs objects item refused)
 
 -- an item has its line, as those before it have
-abbrev pub AreBindingsBegun : {E : Type 0} → {r : _} → (E → SymbolFields) → List Input → List (DynamicObject E r) → Bool → Type 0
-AreBindingsBegun fields inputs objects only_missing =
-    IsAtItem fields inputs objects only_missing (λ item. IsOk (line_of fields inputs objects only_missing item))
+abbrev pub AreBindingsBegun : List Input → List ObjectParts → Bool → Type 0
+AreBindingsBegun inputs objects only_missing =
+    IsAtItem inputs objects only_missing (λ item. IsSome (line_of inputs objects only_missing item))

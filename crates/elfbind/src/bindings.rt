@@ -1,21 +1,28 @@
 //! A line for each reference that is looked up, or for each that is missing its symbol: the file and
 //! the value that it gets.
 
-ghost use Rattle.std.specs.Prelude.{◌≡◌, ◌<◌, ◌&&◌, Bool, IfOk, IsOk, MatchResult, Ok, Option};
-ghost use Rattle.std.specs.Prelude.{Some, length, not};
-ghost use Rattle.elf_linking.specs.Bindings.{reference_of_item};
+ghost use Rattle.std.specs.Prelude.{◌≡◌, ◌<◌, ◌&&◌, Bool, Err, IfOk, IsSome, MatchResult, None};
+ghost use Rattle.std.specs.Prelude.{Option, Some, length, map, not, option_map, slice_get};
+ghost use Rattle.elf_linking.specs.CheckedBindings.{item_parts};
+ghost use Rattle.elf_linking.specs.CheckedScope.{bound_fields};
+ghost use Rattle.elf_linking.specs.DynamicObject.{object_file, object_view};
+ghost use Rattle.elf_linking.specs.DynamicView.{view_entries};
+ghost use Rattle.elf_linking.specs.Exports.{object_parts};
+ghost use Rattle.elf_linking.specs.References.{references_of};
 ghost use Rattle.elfbind.specs.Bindings.{AreBindingsBegun, AreBindingsRefused, AreBindingsWritten};
-ghost use Rattle.elfbind.specs.Bindings.{IsErrorOf, is_missing, is_weak, line_of, line_text};
-ghost use Rattle.elfbind.specs.Bindings.{shown_text, symbol_of, target_of, target_text};
+ghost use Rattle.elfbind.specs.Bindings.{IsErrorOf, IsItemOf, is_missing, is_weak, line_of};
+ghost use Rattle.elfbind.specs.Bindings.{line_text, path_in, shown_text, target_of, target_text};
 ghost use Rattle.elfbind.specs.Bindings.{version_text};
+ghost use Rattle.elfbind.specs.Checks.{ArePassed};
 ghost use Rattle.program_ends.specs.Appended.{AppendsSome};
 ghost use Rattle.program_ends.specs.Stops.{IsStop};
 
 use crate::files::either;
+use elf_linking::checked::{CheckedBinding, CheckedScope};
 use elf_linking::find::Wanted;
-use elf_linking::scope::{Asked, Binding, Bound, Scope};
+use elf_linking::scope::{Asked, Bound};
 use elf_linking::view::LinkedSymbol;
-use elf_linking::{DynamicObject, LinkError};
+use elf_linking::{CheckedObject, DynamicObject, LinkError};
 use linking_programs::{Input, Refused, refusal_at};
 use program_ends::Stop;
 use std::fmt::Display;
@@ -24,22 +31,25 @@ use std::{fmt, io};
 use xmas_elf::symbol_table::Entry;
 
 // A line for each reference of all files that is looked up, or, if only these are asked for, for each
-// that is missing its symbol; and whether one is.
+// that is missing its symbol; and whether one is. `checked` are the objects after their checks.
 pub(crate) fn write_bindings<'s, E: LinkedSymbol, W: Write>(
     inputs: &'s [Input<'_>],
     objects: &[DynamicObject<'_, E>],
+    checked: &[CheckedObject<'_, E>],
     only_missing: bool,
     out: &mut W,
 ) -> Result<bool, Stop<Refused<'s, LinkError>>>
     requires same { length objects.now ≡ length inputs.now }
+    requires passed { ArePassed E.fields objects.now }
+    requires checked { checked.now ≡ map (object_parts E.fields) objects.now }
     ensures { MatchResult result (λ missing. AppendsSome
-        (AreBindingsWritten E.fields inputs.now objects.now only_missing missing)
+        (AreBindingsWritten inputs.now (map (object_parts E.fields) objects.now) only_missing missing)
         (W.contents out.old) (W.contents out.new))
         (IsStop (AreBindingsRefused E.fields inputs.now objects.now only_missing)
-        (AreBindingsBegun E.fields inputs.now objects.now only_missing) ⊥) }
+        (AreBindingsBegun inputs.now (map (object_parts E.fields) objects.now) only_missing) ⊥) }
 {
     let mut missing = false;
-    for item in Scope::new(objects).bindings() {
+    for item in CheckedScope::new(checked).bindings() {
         match write_item(inputs, objects, item, only_missing, out) {
             Ok(own) => missing = either(missing, own),
             Err(stop) => return Err(stop),
@@ -52,48 +62,54 @@ pub(crate) fn write_bindings<'s, E: LinkedSymbol, W: Write>(
 fn write_item<'s, E: LinkedSymbol, W: Write>(
     inputs: &'s [Input<'_>],
     objects: &[DynamicObject<'_, E>],
-    item: Result<Binding<'_, E>, (usize, LinkError)>,
+    item: Result<CheckedBinding<E>, usize>,
     only_missing: bool,
     out: &mut W,
 ) -> Result<bool, Stop<Refused<'s, LinkError>>>
-    requires { (reference_of_item item).0 < length inputs.now }
-    ensures { let line = line_of E.fields inputs.now objects.now only_missing item.entry in
-        MatchResult result (λ missing. AppendsSome (λ text. line ≡ Ok (missing, text))
-        (W.contents out.old) (W.contents out.new))
-        (IsStop (IsErrorOf inputs.now line) (IsOk line) ⊥) }
+    requires same { length objects.now ≡ length inputs.now }
+    requires passed { ArePassed E.fields objects.now }
+    requires item { IsItemOf (map (object_parts E.fields) objects.now) (item_parts E.fields item) }
+    ensures { MatchResult result (λ missing. AppendsSome (λ text. line_of inputs.now
+        (map (object_parts E.fields) objects.now) only_missing (item_parts E.fields item)
+        ≡ Some (missing, text)) (W.contents out.old) (W.contents out.new))
+        (IsStop (IsErrorOf E.fields inputs.now objects.now (item_parts E.fields item))
+        (IsSome (line_of inputs.now (map (object_parts E.fields) objects.now) only_missing
+        (item_parts E.fields item))) ⊥) }
 {
     let binding = match item {
         Ok(binding) => binding,
-        Err((from, error)) => return Err(refusal_at(inputs, from, error)),
+        Err(from) => return Err(refusal_at(inputs, from, references_error(&objects[from]))),
     };
-    let Binding {
+    let CheckedBinding {
         from,
         reference,
-        asked,
         bound,
     } = binding;
-    let bound = match bound {
-        Ok(bound) => bound,
+    let object = objects[from];
+    let (name, wanted) = match object.asked(&reference) {
+        Ok(Asked::Own(_)) => return Ok(false),
+        Ok(Asked::Look { name, wanted, .. }) => (name, wanted),
         Err(error) => return Err(refusal_at(inputs, from, error)),
     };
-    match asked {
-        Ok(Asked::Own(_)) => Ok(false),
-        Ok(Asked::Look { name, wanted, .. }) => {
-            let weak = is_weak(&symbol_of(objects, from, reference.symbol));
-            let missing = is_missing(weak, &bound);
-            let line = Line {
-                file: inputs[from].path,
-                name,
-                version: Version(wanted),
-                target: Target {
-                    found: target_of(inputs, &bound),
-                    weak,
-                },
-            };
-            write_if(line, is_shown(only_missing, missing), out)?;
-            Ok(missing)
-        }
-        Err(error) => Err(refusal_at(inputs, from, error)),
+    let weak = is_weak(&object.symbol(reference.symbol));
+    let missing = is_missing(weak, &bound);
+    let found = target_of(inputs, &bound);
+    let line = line_at(inputs, from, name, wanted, Target { found, weak });
+    match write_if(line, is_shown(only_missing, missing), out) {
+        Ok(()) => Ok(missing),
+        Err(_) => Err(Stop::Write),
+    }
+}
+
+// Why the relocations of an object can't be read.
+fn references_error<E: LinkedSymbol>(object: &DynamicObject<'_, E>) -> LinkError
+    requires { (object_parts E.fields object.now).references ≡ None }
+    ensures { references_of (object_file object.now) (view_entries (object_view object.now))
+        ≡ Err result }
+{
+    match object.references() {
+        Ok(_) => unreachable!(),
+        Err(error) => error,
     }
 }
 
@@ -122,34 +138,23 @@ fn target_of<'s, E: Entry>(
     inputs: &'s [Input<'_>],
     bound: &Option<Bound<E>>,
 ) -> Option<(&'s str, u64)>
-    ensures { result ≡ target_of E.fields inputs.now bound.now }
+    ensures { result ≡ target_of inputs.now (bound_fields E.fields bound.now) }
 {
     let bound = bound.as_ref()?;
     let input = inputs.get(bound.object)?;
     Some((input.path, bound.symbol.value()))
 }
 
-// The symbol at an index of the object at index `from`, if there is one.
-fn symbol_of<E: LinkedSymbol>(
-    objects: &[DynamicObject<'_, E>],
-    from: usize,
-    index: u32,
-) -> Option<E>
-    ensures { result ≡ symbol_of objects.now from index }
-{
-    objects.get(from)?.symbol(index)
-}
-
 // Whether a reference is missing its symbol: it gets none, and isn't weak.
 fn is_missing<E: Entry>(weak: bool, bound: &Option<Bound<E>>) -> bool
-    ensures { result ≡ is_missing weak bound.now }
+    ensures { result ≡ is_missing weak (bound_fields E.fields bound.now) }
 {
     bound.is_none() && !weak
 }
 
 // Whether a symbol is weak, if there is one.
 fn is_weak<E: Entry>(symbol: &Option<E>) -> bool
-    ensures { result ≡ is_weak E.fields symbol.now }
+    ensures { result ≡ is_weak (option_map E.fields symbol.now) }
 {
     match symbol {
         Some(symbol) => symbol.info() / 16 == 2,
@@ -210,5 +215,27 @@ impl Display for Line<'_, '_> {
             "{} {}{} -> {}",
             self.file, self.name, self.version, self.target
         )
+    }
+}
+
+// The line of a reference of the file at an index.
+fn line_at<'s, 'n>(
+    inputs: &'s [Input<'_>],
+    from: usize,
+    name: &'n str,
+    wanted: Wanted<'n>,
+    target: Target<'s>,
+) -> Line<'s, 'n>
+    requires { from < length inputs.now }
+    ensures file { result.file.now ≡ path_in (slice_get inputs.now from) }
+    ensures name { result.name.now ≡ name.now }
+    ensures version { result.version.0 ≡ wanted.entry }
+    ensures target { result.target ≡ target.entry }
+{
+    Line {
+        file: inputs[from].path,
+        name,
+        version: Version(wanted),
+        target,
     }
 }

@@ -9,8 +9,8 @@ ghost use Rattle.program_ends.specs.Stops.{IsStop};
 
 use crate::files::either;
 use elf_linking::view::LinkedSymbol;
-use elf_linking::{DynamicObject, LinkError};
-use linking_programs::{Input, Refused, check_object};
+use elf_linking::{CheckedObject, DynamicObject, LinkError};
+use linking_programs::{Input, Refused};
 use program_ends::Stop;
 use std::fmt;
 use std::fmt::Display;
@@ -50,7 +50,10 @@ fn write_check<'s, E: LinkedSymbol, W: Write>(
         (λ failing. AppendsSome (IsCheckLine E.fields inputs.now index object failing)
         (W.contents out.old) (W.contents out.new)) (IsStop (λ _. ⊥) ⊤ ⊥)) }
 {
-    let result = check_object(&objects[index]);
+    let result = match CheckedObject::of(objects[index]) {
+        Ok(_) => Ok(()),
+        Err(error) => Err(error),
+    };
     let line = Line {
         file: inputs[index].path,
         result,

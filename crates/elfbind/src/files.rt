@@ -1,31 +1,40 @@
-//! Whether the checks of the files pass.
+//! The files after their checks.
 
-ghost use Rattle.std.specs.Prelude.{◌≡◌, ◌||◌, MatchResult, length};
-ghost use Rattle.elf_linking.specs.Scope.{AreGood};
-ghost use Rattle.elfbind.specs.Checks.{IsCheckRefused};
+ghost use Rattle.std.specs.Prelude.{◌≡◌, ◌||◌, MatchResult, length, map, ⊤};
+ghost use Rattle.elf_linking.specs.Exports.{object_parts};
+ghost use Rattle.elfbind.specs.Checks.{ArePassed, IsCheckRefused};
 ghost use Rattle.program_ends.specs.Stops.{IsStop};
 
 use elf_linking::view::LinkedSymbol;
-use elf_linking::{DynamicObject, LinkError};
-use linking_programs::{Input, Refused, check_object, refusal_at};
+use elf_linking::{CheckedObject, DynamicObject, LinkError};
+use linking_programs::{Input, Refused, refusal_at};
 use program_ends::Stop;
+use std::alloc::Global;
 
-// Checks that look-ups in the objects find what they must, and that their versions can be read.
-pub(crate) fn check_objects<'a, E: LinkedSymbol>(
+// The objects, after checks that look-ups in them find what they must, and that their versions can
+// be read.
+pub(crate) fn checked_objects<'a, 'f, E: LinkedSymbol>(
+    alloc: Global,
     inputs: &'a [Input<'_>],
-    objects: &[DynamicObject<'_, E>],
-) -> Result<(), Stop<Refused<'a, LinkError>>>
+    objects: &[DynamicObject<'f, E>],
+) -> Result<Vec<CheckedObject<'f, E>>, Stop<Refused<'a, LinkError>>>
     requires { length objects.now ≡ length inputs.now }
-    ensures { MatchResult result (λ _. AreGood E.fields objects.now)
-        (IsStop (IsCheckRefused E.fields inputs.now objects.now) ⊥ ⊥) }
+    ensures { MatchResult result (λ checked. ArePassed E.fields objects.now
+        × (checked.items ≡ map (object_parts E.fields) objects.now))
+        (IsStop (IsCheckRefused E.fields inputs.now objects.now) ⊥ ⊤) }
 {
+    let mut checked = Vec::new(alloc);
     for index in 0..objects.len() {
-        match check_object(&objects[index]) {
-            Ok(()) => {}
+        match CheckedObject::of(objects[index]) {
+            Ok(object) => {
+                if checked.push(object).is_err() {
+                    return Err(Stop::Memory);
+                }
+            }
             Err(error) => return Err(refusal_at(inputs, index, error)),
         }
     }
-    Ok(())
+    Ok(checked)
 }
 
 // Whether one of two things is wrong.

@@ -1,7 +1,8 @@
 //! Binds the references of ELF files to symbols, as a dynamic linker does when it starts a program.
 //!
-//! `elfbind FILE..` takes a program and its libraries, in the order in which names are looked up. It
-//! writes a line for each reference that is looked up, `FILE NAME@VERSION -> FILE 0xVALUE`, or `FILE
+//! `elfbind PROGRAM` finds the libraries of the program as its loader does; `elfbind --alone FILE` takes the
+//! file by itself, and `elfbind FILE..` a program and its libraries, in the order in which names are looked
+//! up. It writes a line for each reference that is looked up, `FILE NAME@VERSION -> FILE 0xVALUE`, or `FILE
 //! NAME@VERSION -> unresolved`, of a weak reference `unresolved (weak)`; a name without a version is
 //! written without `@VERSION`. `elfbind --unresolved FILE..` writes only the lines of references that
 //! are missing their symbols: those that get none and aren't weak. `elfbind --check FILE..` writes a
@@ -9,32 +10,35 @@
 #![tactic(auto)]
 
 ghost use Rattle.std.specs.Prelude.{◌≡◌, ◌≢◌, ◌≤◌, [], Bool, Err, IfErr, IfOk, List, MatchResult, Ok};
-ghost use Rattle.std.specs.Prelude.{OnOk, Result, length, ⊤};
+ghost use Rattle.std.specs.Prelude.{IsFalse, OnOk, Result, length, ⊤};
 ghost use Rattle.std.specs.Io.Buffered.{writer_buffer, writer_inner};
 ghost use Rattle.elf_linking.specs.declared.error.LinkError.{LinkError};
 ghost use Rattle.elf_linking.specs.declared.object.DynamicObject.{DynamicObject};
 ghost use Rattle.elfbind.specs.Answers.{AreFilesRefused, AreFilesWritten, IsAnswer, IsAnswerBegun};
 ghost use Rattle.elfbind.specs.Answers.{IsAnswerRefused, IsAnswerWritten, IsEnd, status_of};
 ghost use Rattle.elfbind.specs.Files.{AreAccepted};
-ghost use Rattle.elfbind.specs.declared.TheConstants.{CLOSED};
+ghost use Rattle.elfbind.specs.Found.{IsFoundEnd, with_missing};
 ghost use Rattle.linking_programs.specs.Files.{AreObjectsOf, refused_fault_of};
 ghost use Rattle.program_ends.specs.Appended.{AppendsSome};
 ghost use Rattle.program_ends.specs.Stops.{IsStop};
 ghost use Rattle.program_ends.specs.declared.Fault.{Fault};
+ghost use Rattle.program_ends.specs.declared.TheConstants.{CLOSED};
+ghost use Rattle.program_libraries.specs.Complete.{IsComplete};
 
 use crate::bindings::write_bindings;
 use crate::checks::write_checks;
-use crate::files::check_objects;
-use crate::watched::Watched;
+use crate::files::checked_objects;
 use elf_base::bytes::Record;
 use elf_linking::view::LinkedSymbol;
 use elf_linking::{DynamicObject, LinkError};
 use linking_programs::{
     Input, Refused, is_first_narrow, read_inputs, read_objects, refused_fault_of,
 };
-use program_ends::{Fault, Stop, arguments, exit_code, say, write_about};
+use program_ends::{CLOSED, Fault, Stop, Watched, arguments, exit_code, say, write_about};
+use program_libraries::{
+    Finder, Given, Settings, StoredFile, Tree, given_files, listed_inputs, say_error, say_missing,
+};
 use std::alloc::Global;
-use std::convert::AsStr;
 use std::io;
 use std::io::{BufWriter, Write};
 use std::process::ExitCode;
@@ -43,21 +47,22 @@ use xmas_elf::symbol_table::{DynEntry32, DynEntry64};
 mod bindings;
 mod checks;
 mod files;
-mod watched;
 
 const NAME: &str = "elfbind";
 
-const USAGE: &str = "elfbind [--unresolved | --check] <binary_path>..";
+const USAGE: &str =
+    "elfbind [--unresolved | --check] [--alone | [--root DIR] [--library-path LIST] [--cache FILE | --no-cache]] <binary_path>..";
 
 const HELP: &str =
-    "Prints the symbol that each reference of a program and its libraries gets, and its file. The files are
-in the order in which names are looked up.
---unresolved  only the references that are missing their symbols
---check       whether the hash table and the versions of each file pass their checks instead";
-
-/// The status if nobody reads the output to its end: that of a program which the signal SIGPIPE ends,
-/// as a shell tells it.
-pub const CLOSED: u8 = 141;
+    "Prints the symbol that each reference of a program and its libraries gets, and its file. The libraries
+of one file are found; several files are in the order in which names are looked up.
+--unresolved         only the references that are missing their symbols
+--check              whether the hash table and the versions of each file pass their checks instead
+--alone              the file without its libraries
+--root DIR           the program and its libraries are under DIR, the root of another system
+--library-path LIST  the value of LD_LIBRARY_PATH
+--cache FILE         another cache than /etc/ld.so.cache
+--no-cache           no cache";
 
 /// What is asked of the files.
 #[derive(Clone, Copy, Drop)]
@@ -96,6 +101,45 @@ pub fn run<W: Write, E: Write>(
         Err(Fault::Write) if out.is_closed() => CLOSED,
         Err(fault) => say(NAME, &fault, err),
     }
+}
+
+/// Writes what is asked of a program and its libraries that were found to `out`, as `run` does, and says
+/// to `err` which libraries are missing; returns the exit status.
+///
+/// The status is that of `run` for the files of the program and its libraries, in the order in which names
+/// are looked up. It is 1 if that is 0 and a library is missing, and if there is no memory for the list of
+/// the files. By the contract it is 0 only if each name that these files ask for, other than by an
+/// auxiliary entry, found an object.
+pub fn run_found<W: Write, E: Write>(
+    alloc: Global,
+    question: Question,
+    files: &[StoredFile],
+    tree: &Tree,
+    out: &mut Watched<W>,
+    err: &mut E,
+) -> u8
+    ensures bound { result ≢ CLOSED → result ≤ 1 }
+    ensures complete { result ≡ 0 → IsComplete files.now tree.now.objects.items }
+    ensures ends { (missing : Bool) × (end : Result Bool (Fault LinkError))
+        × (IsFalse missing → IsComplete files.now tree.now.objects.items)
+        × IsFoundEnd ⟦<DynEntry32 as Record>⟧ ⟦<DynEntry64 as Record>⟧ files.now tree.now question
+        end
+        × (result ≡ with_missing missing (status_of end out.new.closed)) }
+{
+    let missing = say_missing(NAME, files, &tree.objects, &mut *err);
+    match listed_inputs(alloc, files, tree) {
+        Some(inputs) => with_missing(missing, run(alloc, question, &inputs, out, err)),
+        None => say(NAME, &"not enough memory", err),
+    }
+}
+
+// A status, but 1 in place of 0 if a library is missing.
+fn with_missing(missing: bool, status: u8) -> u8
+    ensures value { result ≡ with_missing missing status }
+    ensures whole { result ≡ 0 → IsFalse missing }
+    ensures bound { (status ≢ CLOSED → status ≤ 1) → result ≢ CLOSED → result ≤ 1 }
+{
+    if missing && status == 0 { 1 } else { status }
 }
 
 // Writes what is asked of the files, by the class of the first; whether something is wrong.
@@ -174,7 +218,7 @@ fn print_objects<'a, E: LinkedSymbol, W: Write + Drop>(
         Ok(buffered) => buffered,
         Err(_) => return Err(Stop::Memory),
     };
-    let written = write_flushed(question, inputs, objects, &mut buffered);
+    let written = write_flushed(alloc, question, inputs, objects, &mut buffered);
     // Unlike a drop, this writes nothing more after a fault.
     let (out, _) = buffered.into_parts();
     match written {
@@ -185,6 +229,7 @@ fn print_objects<'a, E: LinkedSymbol, W: Write + Drop>(
 
 // Writes what is asked of the files, and flushes it; whether something is wrong.
 fn write_flushed<'s, E: LinkedSymbol, W: Write + Drop>(
+    alloc: Global,
     question: Question,
     inputs: &'s [Input<'_>],
     objects: &[DynamicObject<'_, E>],
@@ -196,9 +241,9 @@ fn write_flushed<'s, E: LinkedSymbol, W: Write + Drop>(
         (IsAnswer E.fields inputs.now objects.now question wrong)
         (W.contents (writer_inner buffered.old)) (W.contents (writer_inner buffered.new)))
         (IsStop (IsAnswerRefused E.fields inputs.now objects.now question)
-        (IsAnswerWritten E.fields inputs.now objects.now question) ⊥) }
+        (IsAnswerWritten E.fields inputs.now objects.now question) ⊤) }
 {
-    let wrong = match write_answer(question, inputs, objects, buffered) {
+    let wrong = match write_answer(alloc, question, inputs, objects, buffered) {
         Ok(wrong) => wrong,
         Err(stop) => return Err(stop),
     };
@@ -208,6 +253,7 @@ fn write_flushed<'s, E: LinkedSymbol, W: Write + Drop>(
 
 // Writes what is asked of the files; whether something is wrong.
 fn write_answer<'s, E: LinkedSymbol, W: Write>(
+    alloc: Global,
     question: Question,
     inputs: &'s [Input<'_>],
     objects: &[DynamicObject<'_, E>],
@@ -218,11 +264,11 @@ fn write_answer<'s, E: LinkedSymbol, W: Write>(
         (IsAnswer E.fields inputs.now objects.now question wrong)
         (W.contents out.old) (W.contents out.new))
         (IsStop (IsAnswerRefused E.fields inputs.now objects.now question)
-        (IsAnswerBegun E.fields inputs.now objects.now question) ⊥) }
+        (IsAnswerBegun E.fields inputs.now objects.now question) ⊤) }
 {
     match question {
-        Question::Bindings { only_missing } => match check_objects(inputs, objects) {
-            Ok(()) => write_bindings(inputs, objects, only_missing, out),
+        Question::Bindings { only_missing } => match checked_objects(alloc, inputs, objects) {
+            Ok(checked) => write_bindings(inputs, objects, &checked, only_missing, out),
             Err(stop) => Err(stop),
         },
         Question::Checks => write_checks(inputs, objects, out),
@@ -240,30 +286,62 @@ fn run_on_arguments(rt: &HostRuntime) -> io::Result<u8> {
     if let Some(status) = write_about(NAME, USAGE, HELP, &words, &mut out, &mut err) {
         return Ok(status);
     }
-    let Some((question, paths)) = asked(&words) else {
+    let Some((question, given)) = asked(&words) else {
         return Ok(say("usage", &USAGE, &mut out));
     };
+    match given {
+        Given::Program(settings, path) => {
+            Ok(run_on_program(rt, question, settings, path, &mut out, &mut err))
+        }
+        Given::Files(paths) => Ok(run_on_files(rt, question, paths, &mut out, &mut err)),
+    }
+}
+
+// Writes what is asked of the program at a path and its libraries, or why there is none.
+fn run_on_program<W: Write, E: Write>(
+    rt: &HostRuntime,
+    question: Question,
+    settings: Settings<'_>,
+    path: &str,
+    out: &mut Watched<W>,
+    err: &mut E,
+) -> u8 {
+    let mut finder = match Finder::new(rt, settings) {
+        Ok(finder) => finder,
+        Err(error) => return say_error(NAME, &error, err),
+    };
+    match finder.find(rt, path) {
+        Ok(tree) => run_found(rt.alloc(), question, finder.files(), &tree, out, err),
+        Err(error) => say_error(NAME, &error, err),
+    }
+}
+
+// Writes what is asked of the files at some paths, or which can't be read.
+fn run_on_files<W: Write, E: Write>(
+    rt: &HostRuntime,
+    question: Question,
+    paths: &[String],
+    out: &mut Watched<W>,
+    err: &mut E,
+) -> u8 {
     match read_inputs::<_, LinkError>(rt, paths) {
-        Ok(inputs) => Ok(run(rt.alloc(), question, &inputs, &mut out, &mut err)),
-        Err(fault) => Ok(say(NAME, &fault, &mut err)),
+        Ok(inputs) => run(rt.alloc(), question, &inputs, out, err),
+        Err(unread) => say(NAME, &unread, err),
     }
 }
 
 // What the arguments ask, and of which files, if they are as they should be.
-fn asked<S: AsStr>(arguments: &[S]) -> Option<(Question, &[S])> {
+fn asked(arguments: &[String]) -> Option<(Question, Given<'_>)> {
     let (first, others) = arguments.split_first()?;
-    let question = match first.as_str() {
-        "--check" => Question::Checks,
-        "--unresolved" => Question::Bindings { only_missing: true },
+    let (question, rest) = match first.as_str() {
+        "--check" => (Question::Checks, others),
+        "--unresolved" => (Question::Bindings { only_missing: true }, others),
         _ => {
             let question = Question::Bindings {
                 only_missing: false,
             };
-            return Some((question, arguments));
+            (question, arguments)
         }
     };
-    if others.is_empty() {
-        return None;
-    }
-    Some((question, others))
+    Some((question, given_files(rest)?))
 }

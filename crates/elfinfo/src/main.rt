@@ -4,13 +4,15 @@
 ghost use Rattle.std.specs.Borrow.{Bor};
 ghost use Rattle.std.specs.Prelude.{◌≡◌, ◌≢◌, ◌≤◌, ◌/◌, Err, IfOk, IfSome, IsOk, IsSome, IsSomeAnd};
 ghost use Rattle.std.specs.Prelude.{List, length, ℕ};
+ghost use Rattle.program_ends.specs.declared.TheConstants.{CLOSED};
 ghost use Rattle.xmas_elf.proofs.lemmas.Flushes.{report_flushed};
 ghost use Rattle.xmas_elf.specs.FileHeader.{header_of};
 ghost use Rattle.xmas_elf.specs.Report.{WritesReport};
 ghost use Rattle.xmas_elf.specs.Types.{ElfError};
 
 use program_ends::{
-    Output, Stop, arguments, exit_code, read_whole, say, write_about, write_buffered,
+    CLOSED, Output, Stop, Watched, arguments, exit_code, read_whole, say, write_about,
+    write_buffered,
 };
 use std::alloc::Global;
 use std::fs::File;
@@ -49,16 +51,17 @@ enum Fault<'a> {
 /// and returns the exit status.
 ///
 /// `file` is `None` where there is a path that does not open. The status is 0 once the whole report
-/// is written and flushed, and 1 otherwise. The contract says that the status is 0 only for a file
-/// that is accepted, and nothing of what `out` and `err` hold.
+/// is written and flushed; `CLOSED`, and nothing is said, if a write failed since nobody reads the
+/// output; and 1 otherwise. The contract says that the status is 0 only for a file that is accepted,
+/// and nothing of what `out` and `err` hold.
 pub fn run<R: Read + Drop, W: Write, E: Write>(
     alloc: Global,
     path: Option<&str>,
     file: Option<R>,
-    out: &mut W,
+    out: &mut Watched<W>,
     err: &mut E,
 ) -> u8
-    ensures bound { result ≤ 1 }
+    ensures bound { result ≢ CLOSED → result ≤ 1 }
     ensures accepted { result ≡ 0 → IsSome path.entry × IsSomeAnd file (λ reader.
         IfSome (R.remaining reader) (λ bytes. IsOk (header_of bytes))) }
 {
@@ -66,6 +69,7 @@ pub fn run<R: Read + Drop, W: Write, E: Write>(
     match printed {
         Ok(()) => 0,
         Err(Fault::Usage) => say("usage", &Fault::Usage, out),
+        Err(Fault::Write) if out.is_closed() => CLOSED,
         Err(fault) => say(NAME, &fault, err),
     }
 }
@@ -164,5 +168,6 @@ fn run_on_arguments(rt: &HostRuntime) -> io::Result<u8> {
     }
     let path = words.first().map(|path| path.as_str());
     let file = path.and_then(|path| File::open(rt, path).ok());
-    Ok(run(rt.alloc(), path, file, &mut rt.stdout(), &mut rt.stderr()))
+    let mut out = Watched::new(rt.stdout());
+    Ok(run(rt.alloc(), path, file, &mut out, &mut rt.stderr()))
 }

@@ -1,13 +1,14 @@
 -- Whether the words of files can be written to their memory (this project's own).
 use Rattle.std.specs.Prelude.{◌≡◌, ◌<◌, ℕ, true, false, List, length, IsSomeAnd, MatchOption, Some, Ok, Err, slice_get, take}
 use Rattle.std.specs.List.{AllZip}
+use Rattle.elf_linking.specs.Checked.{AreChecked}
 use Rattle.elf_linking.specs.DynamicObject.{object_dynamic_symbols, object_file}
 use Rattle.elfload.specs.Types.{DynamicObject, Input, LinkError, LoadError, LoadPlan, Refused}
 use Rattle.elf_loading.specs.FileCheck.{check_file}
 use Rattle.elf_loading.specs.ImageWords.{IsImageCheck}
 use Rattle.elf_loading.specs.Plan.{IsPlanOf}
 use Rattle.elf_loading.specs.declared.error.LoadError.TheVariants.{Link, Machine}
-use Rattle.linking_programs.specs.Checks.{AreChecked, IsGood}
+use Rattle.linking_programs.specs.Checks.{IsGood}
 use Rattle.linking_programs.specs.Files.{AreObjectsOf, IsOfInput, is_first_narrow}
 use Rattle.elfload.specs.Plans.{header_limit}
 use Rattle.xmas_elf.specs.Symbol.{SymbolFields, dyn_entry_32_fields, dyn_entry_64_fields}

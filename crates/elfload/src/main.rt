@@ -1,19 +1,21 @@
 //! Prints what memory holds once files are loaded, as Linux maps programs and glibc libraries.
 //!
-//! `elfload FILE..` takes a program and its libraries, in the order in which they are loaded. It writes
-//! for each file its header, what else a loader asks for, and its mappings by both loaders, as they are
+//! `elfload PROGRAM` finds the libraries of the program as its loader does; `elfload --alone FILE` takes the
+//! file by itself, and `elfload FILE..` a program and its libraries, in the order in which they are loaded.
+//! It writes for each file its header, what else a loader asks for, and its mappings by both loaders, as they are
 //! in /proc/PID/maps, relative to the base. If each file has a dynamic segment, then it writes for
 //! each file the words that its relocations write, as `word 0xADDRESS WIDTH TYPE = VALUE`. `--lazy`
-//! before the files: jump slots get their symbols when they are called first. `--page SIZE` after this
-//! is the size of a page, 4096 without it.
+//! before the other options: jump slots get their symbols when they are called first. `--page SIZE` after
+//! this is the size of a page, 4096 without it.
 #![tactic(auto)]
 
 ghost use Rattle.std.specs.Prelude.{◌≡◌, ◌<◌, ◌≤◌, ◌⊎◌, Err, IfErr, IfOk, IfSome, List, MatchResult, Ok};
-ghost use Rattle.std.specs.Prelude.{OnOk, Result, length, ⊤};
+ghost use Rattle.std.specs.Prelude.{IsFalse, OnOk, Result, length, ⊤};
 ghost use Rattle.elf_linking.specs.declared.object.DynamicObject.{DynamicObject};
 ghost use Rattle.elfload.specs.Ends.{AreRefused, IsBegun, IsEnd, IsFault, IsWordsEnd, load_stop};
 ghost use Rattle.elfload.specs.Ends.{words_fault_of};
 ghost use Rattle.elfload.specs.Files.{AreLoaded, HasStatic};
+ghost use Rattle.elfload.specs.Found.{IsFoundGood};
 ghost use Rattle.elfload.specs.Images.{AreImagesGood, AreInputsChecked};
 ghost use Rattle.elfload.specs.Plans.{IsInputLoaded, IsInputPlan, IsInputRefused};
 ghost use Rattle.elfload.specs.Words.{AreWordsWritten};
@@ -23,6 +25,7 @@ ghost use Rattle.program_ends.specs.Appended.{AppendsSome};
 ghost use Rattle.program_ends.specs.Ends.{status_of};
 ghost use Rattle.program_ends.specs.Stops.{IsStop};
 ghost use Rattle.program_ends.specs.declared.Fault.{Fault};
+ghost use Rattle.program_libraries.specs.Complete.{IsComplete};
 
 use crate::files::all_dynamic;
 use crate::images::{check_images, read_plans};
@@ -36,8 +39,10 @@ use linking_programs::{Input, Refused, is_first_narrow, read_inputs, read_object
 use program_ends::{
     Fault, Stop, arguments, exit_code, fault_of, say, status_of, write_about, write_buffered,
 };
+use program_libraries::{
+    Finder, Given, Settings, StoredFile, Tree, given_files, listed_inputs, say_error, say_missing,
+};
 use std::alloc::Global;
-use std::convert::AsStr;
 use std::io;
 use std::io::Write;
 use std::process::ExitCode;
@@ -51,13 +56,20 @@ mod words;
 // What messages begin with.
 const NAME: &str = "elfload";
 
-const USAGE: &str = "elfload [--lazy] [--page <size>] <binary_path>..";
+const USAGE: &str =
+    "elfload [--lazy] [--page <size>] [--alone | [--root DIR] [--library-path LIST] [--cache FILE | --no-cache]] <binary_path>..";
 
 const HELP: &str =
     "Prints the header of each file, what else a loader asks for, and what Linux (kernel) and glibc map;
-then, if each has a dynamic segment, what relocations write, for a program and its libraries in the order in which they are loaded.
---lazy         jump slots get their symbols when they are called first
---page <size>  the size of a page in bytes, a power of two; 4096 without it";
+then, if each has a dynamic segment, what relocations write, for a program and its libraries. The libraries
+of one file are found; several files are in the order in which they are loaded.
+--lazy               jump slots get their symbols when they are called first
+--page <size>        the size of a page in bytes, a power of two; 4096 without it
+--alone              the file without its libraries
+--root DIR           the program and its libraries are under DIR, the root of another system
+--library-path LIST  the value of LD_LIBRARY_PATH
+--cache FILE         another cache than /etc/ld.so.cache
+--no-cache           no cache";
 
 /// What is asked for.
 #[derive(Clone, Copy, Drop)]
@@ -96,6 +108,43 @@ pub fn run<W: Write, E: Write>(
         return 0;
     }
     run_words(alloc, asked, inputs, out, err)
+}
+
+/// Writes what `run` does of a program and its libraries that were found to `out`, and says to `err` which
+/// libraries are missing; returns the exit status.
+///
+/// The status is that of `run` for the files of the program and its libraries, in the order in which names
+/// are looked up. It is 1 if that is 0 and a library is missing, and if there is no memory for the list of
+/// the files. By the contract it is 0 only if each name that these files ask for, other than by an
+/// auxiliary entry, found an object, and if what `run` says of the status 0 is so.
+pub fn run_found<W: Write, E: Write>(
+    alloc: Global,
+    asked: Options,
+    files: &[StoredFile],
+    tree: &Tree,
+    out: &mut W,
+    err: &mut E,
+) -> u8
+    requires { 0 < asked.page }
+    ensures bound { result ≤ 1 }
+    ensures complete { result ≡ 0 → IsComplete files.now tree.now.objects.items }
+    ensures good { result ≡ 0 → IsFoundGood ⟦<DynEntry32 as Record>⟧ ⟦<DynEntry64 as Record>⟧
+        asked.page files.now tree.now }
+{
+    let missing = say_missing(NAME, files, &tree.objects, &mut *err);
+    match listed_inputs(alloc, files, tree) {
+        Some(inputs) => with_missing(missing, run(alloc, asked, &inputs, out, err)),
+        None => say(NAME, &"not enough memory", err),
+    }
+}
+
+// A status, but 1 in place of 0 if a library is missing.
+fn with_missing(missing: bool, status: u8) -> u8
+    ensures bound { status ≤ 1 → result ≤ 1 }
+    ensures whole { result ≡ 0 → IsFalse missing }
+    ensures kept { result ≡ 0 → status ≡ 0 }
+{
+    if missing && status == 0 { 1 } else { status }
 }
 
 // The plans of all files, and the status: 1 if that of one is.
@@ -346,17 +395,56 @@ fn run_on_arguments(rt: &HostRuntime) -> io::Result<u8> {
     if let Some(status) = write_about(NAME, USAGE, HELP, &words, &mut out, &mut err) {
         return Ok(status);
     }
-    let Some((asked, paths)) = asked(&words) else {
+    let Some((asked, given)) = asked(&words) else {
         return Ok(say("usage", &USAGE, &mut out));
     };
-    match read_inputs::<_, Refusal>(rt, paths) {
-        Ok(inputs) => Ok(run(rt.alloc(), asked, &inputs, &mut out, &mut err)),
-        Err(fault) => Ok(say(NAME, &fault, &mut err)),
+    match given {
+        Given::Program(settings, path) => {
+            Ok(run_on_program(rt, asked, settings, path, &mut out, &mut err))
+        }
+        Given::Files(paths) => Ok(run_on_files(rt, asked, paths, &mut out, &mut err)),
     }
 }
 
-// What the arguments ask for, and the files, if they are as they should be.
-fn asked<S: AsStr>(arguments: &[S]) -> Option<(Options, &[S])>
+// Writes what is asked of the program at a path and its libraries, or why there is none.
+fn run_on_program<W: Write, E: Write>(
+    rt: &HostRuntime,
+    asked: Options,
+    settings: Settings<'_>,
+    path: &str,
+    out: &mut W,
+    err: &mut E,
+) -> u8
+    requires { 0 < asked.page }
+{
+    let mut finder = match Finder::new(rt, settings) {
+        Ok(finder) => finder,
+        Err(error) => return say_error(NAME, &error, err),
+    };
+    match finder.find(rt, path) {
+        Ok(tree) => run_found(rt.alloc(), asked, finder.files(), &tree, out, err),
+        Err(error) => say_error(NAME, &error, err),
+    }
+}
+
+// Writes what is asked of the files at some paths, or which can't be read.
+fn run_on_files<W: Write, E: Write>(
+    rt: &HostRuntime,
+    asked: Options,
+    paths: &[String],
+    out: &mut W,
+    err: &mut E,
+) -> u8
+    requires { 0 < asked.page }
+{
+    match read_inputs::<_, Refusal>(rt, paths) {
+        Ok(inputs) => run(rt.alloc(), asked, &inputs, out, err),
+        Err(fault) => say(NAME, &fault, err),
+    }
+}
+
+// What the arguments ask for, and of which files, if they are as they should be.
+fn asked(arguments: &[String]) -> Option<(Options, Given<'_>)>
     ensures { IfSome result (λ asked. 0 < asked.0.page) }
 {
     let (first, others) = arguments.split_first()?;
@@ -365,22 +453,22 @@ fn asked<S: AsStr>(arguments: &[S]) -> Option<(Options, &[S])>
     } else {
         (Binding::Now, arguments)
     };
-    let (page, paths) = page_of(rest)?;
-    Some((Options { page, when }, paths))
+    let (page, rest) = page_of(rest)?;
+    Some((Options { page, when }, given_files(rest)?))
 }
 
-// The size of a page and the files that the arguments ask for, if they are as they should be.
-fn page_of<S: AsStr>(arguments: &[S]) -> Option<(u64, &[S])>
+// The size of a page that the arguments ask for, and those after it, if it is as it should be.
+fn page_of(arguments: &[String]) -> Option<(u64, &[String])>
     ensures { IfSome result (λ asked. 0 < asked.0) }
 {
     let (first, others) = arguments.split_first()?;
     if first.as_str() != "--page" {
         return Some((4096, arguments));
     }
-    let (size, paths) = others.split_first()?;
+    let (size, rest) = others.split_first()?;
     let page = size.as_str().parse::<u64>().ok()?;
-    if !page.is_power_of_two() || paths.is_empty() {
+    if !page.is_power_of_two() {
         return None;
     }
-    Some((page, paths))
+    Some((page, rest))
 }

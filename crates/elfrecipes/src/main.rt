@@ -29,9 +29,11 @@ fn write_places<E: Entry + Record, W: Write>(
         indices: Table::new(&[], file.byte_order())?,
         machine: file.header.pt2.machine().raw(),
     };
-    let mut words = vec![in alloc; 0u32; SymbolIndex::words(&symbols, None)]?;
-    SymbolIndex::build(&symbols, None, &mut words)?;
-    let index = SymbolIndex::lend(&symbols, None, &words);
+    let size = SymbolIndex::size(&symbols, None);
+    let mut words = vec![in alloc; 0u32; size.words()]?;
+    let mut numbers = vec![in alloc; 0u64; size.numbers()]?;
+    SymbolIndex::build(&symbols, None, &mut words, &mut numbers)?;
+    let index = SymbolIndex::lend(&symbols, None, size, &words, &numbers);
     for digits in addresses {
         match index.symbol_at(u64::from_str_radix(digits.as_str(), 16)?) {
             Some(at) => {

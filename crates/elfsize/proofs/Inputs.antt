@@ -17,12 +17,12 @@ use Rattle.program_ends.specs.declared.Stop as stops
 use Rattle.program_ends.specs.declared.Stop.TheVariants as stops_are
 use Rattle.xmas_elf.specs.Types.{ElfError, ElfFile, Header}
 
-of_header : (P : ElfFile → Type 0) (input : Bor (List ℕ)) (file : ElfFile) → file.input ≡ input → header_of input.now ≡ Ok file.header → P file → OfHeader input P
+pub of_header : (P : ElfFile → Type 0) (input : Bor (List ℕ)) (file : ElfFile) → file.input ≡ input → header_of input.now ≡ Ok file.header → P file → OfHeader input P
 of_header P input file same header holds =
     subst (λ (r : Result Header ElfError). IsOkAnd r (λ h. P (record { input = input; header = h }))) (sym header)
     (subst (λ (i : Bor (List ℕ)). P (record { input = i; header = file.header })) same holds)
 
-refused_so : (view : View) (input : Bor (List ℕ)) (file : ElfFile) → file.input ≡ input → header_of input.now ≡ Ok file.header → (refusal : Refusal) → IsFileRefused view file refusal → IsInputRefused view input refusal
+pub refused_so : (view : View) (input : Bor (List ℕ)) (file : ElfFile) → file.input ≡ input → header_of input.now ≡ Ok file.header → (refusal : Refusal) → IsFileRefused view file refusal → IsInputRefused view input refusal
 refused_so view input file same header (Elf error) why = inr (of_header (λ f. IsSymbolsRefusal view f (Elf error)) input file same header why)
 refused_so view input file same header Many why = of_header (λ f. IsSymbolsRefusal view f Many) input file same header why
 refused_so view input file same header Memory why = tt
@@ -37,7 +37,7 @@ input_ends view path input file same header result old new ends =
     (refused_so view input file same header)
     (λ there. of_header (AreThere view) input file same header there) ends
 
-short_so : (view : View) (file : ElfFile) (refusal : Refusal) → IsShort refusal → IsFileRefused view file refusal
+pub short_so : (view : View) (file : ElfFile) (refusal : Refusal) → IsShort refusal → IsFileRefused view file refusal
 short_so view file (Elf error) why = absurd why
 short_so view file Many why = absurd why
 short_so view file Memory why = tt

@@ -7,3 +7,4 @@ mod Runs
 mod Sizes
 mod SplitRuns
 mod WholeTables
+pub mod Compared

@@ -1,5 +1,5 @@
 -- How the program ends (this project's own).
-use Rattle.std.specs.Prelude.{◌≡◌, ℕ, ◌-◌, ◌<◌, ◌≤◌, ◌^◌, List, Option, Result, Ok, Err, IfSome, IsSomeAnd, if◌then◌else◌, is_err, length, min, ⊤}
+use Rattle.std.specs.Prelude.{◌≡◌, ℕ, ◌-◌, ◌<◌, ◌≤◌, ◌^◌, List, Option, Result, Ok, Err, IfSome, IsSomeAnd, if◌then◌else◌, is_err, length, min}
 use Rattle.std.specs.Borrow.{Bor}
 use Rattle.std.specs.Io.KnownBytes.{Appends}
 use Rattle.std.specs.List.{AllZip, list_any, sum_by}

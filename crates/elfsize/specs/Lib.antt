@@ -6,3 +6,4 @@ pub mod Sums
 pub mod Symbols
 pub mod Totals
 pub mod View
+pub mod Differences

@@ -131,7 +131,7 @@ fn write_all_of<W: Write>(
 }
 
 // The sizes of the parts of a file.
-fn file_sizes(
+pub(crate) fn file_sizes(
     alloc: Global,
     file: &ElfFile<'_>,
     symbols: &Symbols<'_>,
@@ -212,7 +212,7 @@ fn write_line<W: Write>(
 }
 
 // The name of a part: a section has one, and a symbol.
-fn part_name<'a>(file: &ElfFile<'a>, symbols: &'a Symbols<'_>, part: usize) -> &'a [u8]
+pub(crate) fn part_name<'a>(file: &ElfFile<'a>, symbols: &'a Symbols<'_>, part: usize) -> &'a [u8]
     ensures { result.now ≡ part_name file.now symbols.now part }
 {
     let (index, kind) = (part / 4, part % 4);
@@ -324,7 +324,7 @@ impl Display for Label {
 }
 
 // A part without an index.
-fn other_text(index: usize) -> &'static str
+pub(crate) fn other_text(index: usize) -> &'static str
     ensures { result.now ≡ other_text index }
 {
     match index {

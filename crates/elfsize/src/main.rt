@@ -4,10 +4,11 @@
 //! number of bytes, their share, and the part. The last line is their sum, which is the size of the
 //! file. After more than one file it writes their bytes by kind of part. `--segments` before the
 //! files lists the parts of each file without its section header table. `--symbols` lists the bytes
-//! of sections by the symbol of `.symtab` that owns them.
+//! of sections by the symbol of `.symtab` that owns them. `elfsize --diff OLD NEW` writes a line for
+//! each part whose size differs.
 #![tactic(auto)]
 
-ghost use Rattle.std.specs.Prelude.{◌≡◌, ◌≤◌, IfErr, IfOk, Result};
+ghost use Rattle.std.specs.Prelude.{◌≡◌, ◌≤◌, ◌<◌, ◌&&◌, ◌==◌, IfErr, IfOk, IsTrue, Result, cond, length};
 ghost use Rattle.elfsize.specs.Ends.{AreEnds, IsBegun, IsEnd, IsEndAt, IsFault, IsStatus, OfFile};
 ghost use Rattle.elfsize.specs.Ends.{fault_of, sums_after};
 ghost use Rattle.elfsize.specs.Lines.{IsInputRefused, IsInputText};
@@ -17,11 +18,15 @@ ghost use Rattle.elfsize.specs.declared.lines.Refusal.{Refusal};
 ghost use Rattle.program_ends.specs.Appended.{AppendsSome};
 ghost use Rattle.program_ends.specs.Ends.{status_of};
 ghost use Rattle.program_ends.specs.declared.Fault.{Fault};
+ghost use Rattle.program_ends.specs.declared.TheConstants.{CLOSED};
 
+use crate::difference::{compare_paths, compared, limited};
 use crate::lines::{Lines, Refusal};
 use crate::sums::{Sums, input_sums};
 use crate::view::{View, read_shown};
-use program_ends::{Fault, Stop, arguments, exit_code, say, write_about, write_buffered};
+use program_ends::{
+    CLOSED, Fault, Stop, Watched, arguments, exit_code, say, write_about, write_buffered,
+};
 use std::alloc::Global;
 use std::convert::AsStr;
 use std::fs::File;
@@ -31,8 +36,11 @@ use std::process::ExitCode;
 use std::rt::{Clock, Files};
 use std::time::Instant;
 
+mod changes;
+mod difference;
 mod lines;
 mod parts;
+mod side;
 mod split;
 mod sums;
 mod symbols;
@@ -41,12 +49,15 @@ mod view;
 
 const NAME: &str = "elfsize";
 
-const USAGE: &str = "elfsize [--segments | --symbols] <binary_path>..";
+const USAGE: &str =
+    "elfsize [--diff [--fail-above BYTES]] [--segments | --symbols] <binary_path>..";
 
 const HELP: &str = "Prints how many bytes of each file belong to which part, the largest first;
 after more than one file the bytes of all by kind of part.
 --segments  as if the file had no sections
---symbols   bytes in sections by symbol; the line of a section is for the bytes in no symbol";
+--symbols   bytes in sections by symbol; the line of a section is for the bytes in no symbol
+--diff      what changed from the first of two files to the second, the greatest change first;
+            with --fail-above the status is 2 if the second is larger by more than BYTES";
 
 /// Writes the sizes of the parts of a view of a file to `out`, or the reason why it can't to `err`, and returns
 /// the exit status.
@@ -54,14 +65,14 @@ after more than one file the bytes of all by kind of part.
 /// `file` is `None` where the path does not open. The status is 0 once all is written and flushed,
 /// and 1 otherwise. The contract says which fault there can be then: the error of the file's header or
 /// of the symbols that are asked for; a write that failed, if they have none; that the file can't be read; or that memory is short.
-/// It says nothing of what `out` and `err` hold. The bytes of the file by kind of part are added to
-/// `sums`, if the status is 0.
+/// Nothing is said of a write that failed since nobody reads the output. It says nothing of what `out`
+/// and `err` hold. The bytes of the file by kind of part are added to `sums`, if the status is 0.
 pub fn run<R: Read + Drop, W: Write, E: Write>(
     alloc: Global,
     view: View,
     path: &str,
     file: Option<R>,
-    out: &mut W,
+    out: &mut Watched<W>,
     err: &mut E,
     sums: &mut Sums,
 ) -> u8
@@ -70,11 +81,12 @@ pub fn run<R: Read + Drop, W: Write, E: Write>(
         × IsEnd view path.entry R.remaining file end × (result ≡ status_of end)
         × (sums.new ≡ sums_after sums.old end) }
 {
-    match answer(alloc, view, path, file, out) {
+    match answer(alloc, view, path, file, &mut *out) {
         Ok(own) => {
             *sums = sums.with(&own);
             0
         }
+        Err(Fault::Write) if out.is_closed() => 1,
         Err(fault) => say(NAME, &fault, err),
     }
 }
@@ -131,7 +143,7 @@ fn print_lines<'a, R: Read + Drop, W: Write + Drop>(
 }
 
 // What the program says where lines aren't written to their end.
-fn fault_of(stop: Stop<Refusal>, path: &str) -> Fault<'_, Refusal>
+pub(crate) fn fault_of(stop: Stop<Refusal>, path: &str) -> Fault<'_, Refusal>
     ensures { result ≡ fault_of path.entry stop }
 {
     match stop {
@@ -167,12 +179,64 @@ fn run_on_arguments(rt: &HostRuntime) -> io::Result<u8> {
     if let Some(status) = about {
         return Ok(status);
     }
-    let (view, paths) = asked(&words);
-    if paths.is_empty() {
-        return Ok(say("usage", &USAGE, &mut rt.stdout()));
+    let (mut out, mut err) = (Watched::new(rt.stdout()), rt.stderr());
+    let status = run_asked(rt.alloc(), rt, &words, &mut out, &mut err);
+    Ok(quiet_status(status, out.is_closed()))
+}
+
+// The exit status of the program: `CLOSED` in place of 1 where nobody reads the output.
+fn quiet_status(status: u8, closed: bool) -> u8
+    ensures { result ≡ cond (closed && status == 1) CLOSED status }
+{
+    if closed && status == 1 {
+        CLOSED
+    } else {
+        status
     }
-    let (mut out, mut err) = (rt.stdout(), rt.stderr());
-    Ok(run_on_paths(rt.alloc(), rt, view, paths, &mut out, &mut err))
+}
+
+// Writes what the arguments ask for, or how the program is used.
+fn run_asked<R: Files + Clock, S: AsStr, W: Write, E: Write + IsTerminal>(
+    alloc: Global,
+    rt: &R,
+    words: &[S],
+    out: &mut Watched<W>,
+    err: &mut E,
+) -> u8 {
+    if is_difference(words) {
+        return run_compared(alloc, rt, &words[1..], out, err);
+    }
+    let (view, paths) = asked(words);
+    if paths.is_empty() {
+        return say("usage", &USAGE, out);
+    }
+    run_on_paths(alloc, rt, view, paths, out, err)
+}
+
+// Whether the arguments ask for the difference of two files.
+fn is_difference<S: AsStr>(arguments: &[S]) -> bool
+    ensures { IsTrue result → 0 < length arguments.now }
+{
+    match arguments.first() {
+        Some(first) => first.as_str() == "--diff",
+        None => false,
+    }
+}
+
+// Writes the difference of the two files that these words ask for, or how the program is used.
+fn run_compared<S: AsStr, R: Files, W: Write, E: Write>(
+    alloc: Global,
+    rt: &R,
+    words: &[S],
+    out: &mut Watched<W>,
+    err: &mut E,
+) -> u8 {
+    let (limit, others) = limited(words);
+    let (view, paths) = asked(others);
+    match compared(view, limit, paths) {
+        Some(comparison) => compare_paths(alloc, rt, &comparison, out, err),
+        None => say("usage", &USAGE, out),
+    }
 }
 
 // The view and the files that the arguments ask for.
@@ -191,10 +255,10 @@ fn run_on_paths<R: Files + Clock, S: AsStr, W: Write, E: Write + IsTerminal>(
     rt: &R,
     view: View,
     paths: &[S],
-    out: &mut W,
+    out: &mut Watched<W>,
     err: &mut E,
 ) -> u8
-    ensures { IsStatus view R.File.Read.remaining S.text W.contents paths.now out.new result }
+    ensures { IsStatus view R.File.Read.remaining S.text (λ watched. W.contents watched.to) paths.now out.new result }
 {
     let (status, sums) = run_on_each(alloc, rt, view, paths, &mut *out, &mut *err);
     if paths.len() < 2 {
@@ -202,6 +266,7 @@ fn run_on_paths<R: Files + Clock, S: AsStr, W: Write, E: Write + IsTerminal>(
     }
     match write!(out, "{}", sums) {
         Ok(()) => status,
+        Err(_) if out.is_closed() => 1,
         Err(_) => {
             let fault: Fault<'_, Refusal> = Fault::Write;
             say(NAME, &fault, err)
@@ -215,7 +280,7 @@ fn run_on_each<R: Files + Clock, S: AsStr, W: Write, E: Write + IsTerminal>(
     rt: &R,
     view: View,
     paths: &[S],
-    out: &mut W,
+    out: &mut Watched<W>,
     err: &mut E,
 ) -> (u8, Sums)
     ensures { AreEnds view R.File.Read.remaining S.text paths.now result.0 result.1 }
@@ -235,7 +300,7 @@ fn run_on_path<R: Files + Clock, W: Write, E: Write + IsTerminal>(
     rt: &R,
     view: View,
     path: &str,
-    out: &mut W,
+    out: &mut Watched<W>,
     err: &mut E,
     sums: &mut Sums,
 ) -> u8

@@ -11,15 +11,16 @@ use elf_addresses::{Owner, Piece, Pieces};
 use std::alloc::{AllocError, Global};
 use xmas_elf::ElfFile;
 
-/// The runs of a file, in the order of their offsets. It takes three words of 32 bits for each
-/// section, and for each segment, and memory for the runs.
+/// The runs of a file, in the order of their offsets. It takes two words of 32 bits and two of 64 for
+/// each section, and for each segment, and memory for the runs.
 pub fn file_runs(alloc: Global, file: &ElfFile<'_>) -> Result<Vec<Run>, AllocError>
     ensures runs { IfOk result (λ runs. AreRuns file.now runs.items) }
     ensures numbers { IfOk result (λ runs. All (λ run. run.part < 2 ^ 40) runs.items) }
     ensures sum { IfOk result (λ runs. all_bytes runs.items ≡ byte_count file.now) }
 {
     let mut words = vec![in alloc; 0u32; Pieces::words(file)]?;
-    match Pieces::new(file, &mut words) {
+    let mut numbers = vec![in alloc; 0u64; Pieces::numbers(file)]?;
+    match Pieces::new(file, &mut words, &mut numbers) {
         Ok(pieces) => runs_of(alloc, pieces),
         Err(_) => unreachable!(),
     }

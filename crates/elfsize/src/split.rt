@@ -77,7 +77,8 @@ fn split_by<E: Entry + Record>(
     ensures sum { IfOk result (λ runs. all_bytes runs.items ≡ byte_count file.now) }
 {
     let mut words = vec![in alloc; 0u32; Pieces::words(file)]?;
-    match Pieces::new(file, &mut words) {
+    let mut numbers = vec![in alloc; 0u64; Pieces::numbers(file)]?;
+    match Pieces::new(file, &mut words, &mut numbers) {
         Ok(pieces) => split_pieces(alloc, file, groups, pieces),
         Err(_) => unreachable!(),
     }
@@ -115,9 +116,11 @@ fn listed_by_section<E: Entry + Record>(
     symbols: &AddressSymbols<'_, E>,
     ends: &mut [u32],
 ) -> Result<Vec<u32>, AllocError> {
-    let mut words = vec![in alloc; 0u32; SymbolIndex::words(symbols, None)]?;
-    let _built = SymbolIndex::build(symbols, None, &mut words);
-    let sized = SymbolIndex::lend(symbols, None, &words).sized;
+    let size = SymbolIndex::size(symbols, None);
+    let mut words = vec![in alloc; 0u32; size.words()]?;
+    let mut numbers = vec![in alloc; 0u64; size.numbers()]?;
+    let _built = SymbolIndex::build(symbols, None, &mut words, &mut numbers);
+    let sized = SymbolIndex::lend(symbols, None, size, &words, &numbers).sized;
     let mut list = vec![in alloc; 0u32; sized.len()]?;
     for index in sized {
         put(symbols, *index, ends, &mut list);
@@ -239,8 +242,17 @@ fn push_symbols<E: Entry + Record>(
     let section = (index % 0x1_0000_0000) as u32;
     let group = group_of(groups, section);
     let mut lasting = vec![in alloc; 0u32; group.len()]?;
+    let mut numbers = vec![in alloc; 0u64; 2 * group.len()]?;
     let (begin, end) = range;
-    match SymbolPieces::in_order(groups.counts, section, begin, end, group, &mut lasting) {
+    match SymbolPieces::in_order(
+        groups.counts,
+        section,
+        begin,
+        end,
+        group,
+        &mut lasting,
+        &mut numbers,
+    ) {
         Some(pieces) => push_runs(pieces, index, runs),
         None => push_slowly(alloc, groups.symbols, index, range, runs),
     }
@@ -259,8 +271,10 @@ fn push_slowly<E: Entry + Record>(
         (max range.0 range.1) runs.old.items runs.new.items) }
 {
     let within = Some((index % 0x1_0000_0000) as u32);
-    let mut words = vec![in alloc; 0u32; SymbolIndex::words(symbols, within)]?;
-    match SymbolPieces::new(symbols, within, range.0, range.1, &mut words) {
+    let size = SymbolIndex::size(symbols, within);
+    let mut words = vec![in alloc; 0u32; size.words()]?;
+    let mut numbers = vec![in alloc; 0u64; size.numbers()]?;
+    match SymbolPieces::new(symbols, within, range.0, range.1, &mut words, &mut numbers) {
         Ok(pieces) => push_runs(pieces, index, runs),
         Err(_) => unreachable!(),
     }

@@ -119,7 +119,7 @@ pub fn input_sums(alloc: Global, input: &[u8]) -> Result<Sums, AllocError>
 
 // The sums of a file.
 #[tactic(auto, using(crate::proofs::KindRuns::sums_are))]
-fn file_sums(alloc: Global, file: &ElfFile<'_>) -> Result<Sums, AllocError>
+pub(crate) fn file_sums(alloc: Global, file: &ElfFile<'_>) -> Result<Sums, AllocError>
     ensures { IfOk result (λ sums. AreSums file.now sums) }
 {
     // This tells the proof that the length is a number of 64 bits.

@@ -8,7 +8,7 @@
 //! escaped.
 #![tactic(auto)]
 
-ghost use Rattle.std.specs.Prelude.{◌≡◌, ◌≤◌, IfErr, IfOk, IfSome, IsOk, IsSomeAnd, OnOk};
+ghost use Rattle.std.specs.Prelude.{◌≡◌, ◌≢◌, ◌≤◌, IfErr, IfOk, IfSome, IsOk, IsSomeAnd, OnOk};
 ghost use Rattle.std.specs.Prelude.{Result};
 ghost use Rattle.elf_base.specs.FileHeader.{header_of};
 ghost use Rattle.elf_linking.specs.declared.error.LinkError.{LinkError};
@@ -17,15 +17,17 @@ ghost use Rattle.elfsym.specs.Libraries.{AreInputLibraries, AreInputLibrariesBeg
 ghost use Rattle.elfsym.specs.Libraries.{AreInputLibrariesRefused};
 ghost use Rattle.elfsym.specs.Lines.{AreInputLines, AreInputLinesBegun, AreInputLinesRefused};
 ghost use Rattle.program_ends.specs.Appended.{AppendsSome};
-ghost use Rattle.program_ends.specs.Ends.{IsFault, OfFile, status_of};
+ghost use Rattle.program_ends.specs.Ends.{IsFault, OfFile, quiet_status_of};
 ghost use Rattle.program_ends.specs.Stops.{HasBegun};
 ghost use Rattle.program_ends.specs.declared.Fault.{Fault};
+ghost use Rattle.program_ends.specs.declared.TheConstants.{CLOSED};
 
 use crate::libraries::Libraries;
 use crate::lines::Lines;
 use elf_linking::LinkError;
 use program_ends::{
-    Fault, arguments, exit_code, fault_of, read_whole, say, status_of, write_about, write_buffered,
+    CLOSED, Fault, Watched, arguments, exit_code, fault_of, quiet_status_of, read_whole, say,
+    write_about, write_buffered,
 };
 use std::alloc::Global;
 use std::convert::AsStr;
@@ -59,7 +61,8 @@ pub enum Question<'a, S> {
 /// and returns the exit status.
 ///
 /// `file` is `None` where the path does not open. The status is 0 once all is written and flushed,
-/// and 1 otherwise. The contract says which fault there can be then: the error of the file; a write
+/// `CLOSED`, and nothing is said, if a write failed since nobody reads the output, and 1 otherwise.
+/// The contract says which fault there can be then: the error of the file; a write
 /// that failed, if no error comes before the first line; that the file can't be read; or that
 /// memory is short. It says nothing of what `out` and `err` hold.
 pub fn run<S: AsStr, R: Read + Drop, W: Write, E: Write>(
@@ -67,17 +70,17 @@ pub fn run<S: AsStr, R: Read + Drop, W: Write, E: Write>(
     path: &str,
     question: Question<'_, S>,
     file: Option<R>,
-    out: &mut W,
+    out: &mut Watched<W>,
     err: &mut E,
 ) -> u8
-    ensures bound { result ≤ 1 }
+    ensures bound { result ≢ CLOSED → result ≤ 1 }
     ensures accepted { result ≡ 0 → IsSomeAnd file (λ reader.
         IfSome (R.remaining reader) (λ bytes. IsOk (header_of bytes))) }
     ensures ends { (end : Result (Unit {0}) (Fault LinkError))
-        × IsEnd S.text path.entry question.entry R.remaining file end × (result ≡ status_of end) }
+        × IsEnd S.text path.entry question.entry R.remaining file end × (result ≡ quiet_status_of end out.new.closed) }
 {
-    let ended = answer(alloc, path, question, file, out);
-    status_of(NAME, ended, err)
+    let ended = answer(alloc, path, question, file, &mut *out);
+    quiet_status_of(NAME, ended, out.is_closed(), err)
 }
 
 // Reads the file whole, and writes what is asked of it.
@@ -169,7 +172,7 @@ fn main(rt: HostRuntime) -> ExitCode {
 // The status, or why the arguments can't be read: for want of memory, or since one is not UTF-8.
 fn run_on_arguments(rt: &HostRuntime) -> io::Result<u8> {
     let words = arguments(rt)?;
-    let (mut out, mut err) = (rt.stdout(), rt.stderr());
+    let (mut out, mut err) = (Watched::new(rt.stdout()), rt.stderr());
     if let Some(status) = write_about(NAME, USAGE, HELP, &words, &mut out, &mut err) {
         return Ok(status);
     }

@@ -3,8 +3,9 @@
 
 ghost use Rattle.std.specs.Prelude.{◌≡◌, ◌<◌, ◌↔◌, IfErr, IfOk, IsOk, MatchResult, length, ⊤};
 ghost use Rattle.elf_base.specs.FileHeader.{header_of};
+ghost use Rattle.elf_linking.specs.Checked.{AreChecked};
 ghost use Rattle.elf_linking.specs.DynamicObject.{object_dynamic_symbols};
-ghost use Rattle.linking_programs.specs.Checks.{AreChecked, IsGood};
+ghost use Rattle.linking_programs.specs.Checks.{IsGood};
 ghost use Rattle.linking_programs.specs.Files.{AreObjectsOf, IsInputRefused, IsObjectOfBytes};
 ghost use Rattle.linking_programs.specs.Files.{IsOfInput, IsRefusedAsObject, is_first_narrow};
 ghost use Rattle.linking_programs.specs.Files.{is_narrow_header, refused_fault_of};

@@ -1,10 +1,11 @@
 -- How a program ends (this project's own).
-use Rattle.std.specs.Prelude.{◌≡◌, ℕ, List, Option, Result, Ok, Err, IfSome, IsSomeAnd, ⊤}
+use Rattle.std.specs.Prelude.{◌≡◌, ℕ, Bool, List, Option, Result, Ok, Err, IfSome, IsSomeAnd, cond, ⊤}
 use Rattle.std.specs.Borrow.{Bor}
 use Rattle.program_ends.specs.declared.Fault.{Fault}
 use Rattle.program_ends.specs.declared.Fault.TheVariants as faults
 use Rattle.program_ends.specs.declared.Stop.{Stop}
 use Rattle.program_ends.specs.declared.Stop.TheVariants as stops
+use Rattle.program_ends.specs.declared.TheConstants.{CLOSED}
 
 -- what a program says where an output isn't written to its end
 abbrev pub fault_of : {E : Type 0} → Bor (List ℕ) → Stop E → Fault E
@@ -36,3 +37,9 @@ IsEnd path remaining file Is Refuses Begun (Err fault) = IsFault path
 abbrev pub status_of : {A E : Type 0} → Result A (Fault E) → ℕ
 status_of (Ok done) = 0
 status_of (Err fault) = 1
+
+-- the same, but if a write failed since nobody reads the output, that of a closed pipe
+abbrev pub quiet_status_of : {A E : Type 0} → Result A (Fault E) → Bool → ℕ
+quiet_status_of (Ok done) closed = 0
+quiet_status_of (Err faults.Write) closed = cond closed CLOSED 1
+quiet_status_of (Err fault) closed = 1

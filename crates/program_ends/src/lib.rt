@@ -7,7 +7,7 @@ ghost use Rattle.std.specs.Io.Buffered.{writer_buffer, writer_inner};
 ghost use Rattle.std.specs.Io.KnownBytes.{Appends, Keeps};
 ghost use Rattle.std.specs.Char.{is_ascii_control};
 ghost use Rattle.std.specs.List.{position_from};
-ghost use Rattle.program_ends.specs.Ends.{fault_of, status_of};
+ghost use Rattle.program_ends.specs.Ends.{fault_of, quiet_status_of, status_of};
 ghost use Rattle.program_ends.specs.Names.{escaped};
 ghost use Rattle.program_ends.specs.Stops.{HasBegun, IsStop};
 
@@ -18,6 +18,13 @@ use std::io::{BufWriter, Read, Write};
 use std::process::ExitCode;
 use std::{env, io};
 use thiserror::Error;
+pub use watched::Watched;
+
+mod watched;
+
+/// The status if nobody reads the output to its end: that of a program which the signal SIGPIPE ends,
+/// as a shell tells it.
+pub const CLOSED: u8 = 141;
 
 /// Why an output isn't written to its end.
 #[derive(Clone, Copy, Debug, Drop)]
@@ -222,6 +229,22 @@ pub fn status_of<T: Drop, E: Display + Drop, W: Write>(
     match ended {
         Ok(_) => 0,
         Err(fault) => say(name, &fault, err),
+    }
+}
+
+/// The exit status of a program of this name: 0; `CLOSED` if a write failed and nobody reads the output;
+/// or 1 and it says why.
+pub fn quiet_status_of<T: Drop, E: Display + Drop, W: Write>(
+    name: &str,
+    ended: Result<T, Fault<'_, E>>,
+    closed: bool,
+    err: &mut W,
+) -> u8
+    ensures { result ≡ quiet_status_of ended.entry closed }
+{
+    match ended {
+        Err(Fault::Write) if closed => CLOSED,
+        ended => status_of(name, ended, err),
     }
 }
 

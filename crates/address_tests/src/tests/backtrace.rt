@@ -126,9 +126,12 @@ fn prints_a_backtrace(rt: HostRuntime) -> Result<(), Fail> {
     let bytes = table_bytes(rt.alloc(), TRACED)?;
     let symbols = symbols(&rt, &bytes, &[], 62);
     let mut words = [0; 4];
-    SymbolIndex::build(&symbols, None, &mut words)?;
+    let mut numbers = [0; 4];
+    SymbolIndex::build(&symbols, None, &mut words, &mut numbers)?;
+    let size = SymbolIndex::size(&symbols, None);
+    let index = SymbolIndex::lend(&symbols, None, size, &words, &numbers);
     let mut out = Vec::new(rt.alloc());
-    print_backtrace(&symbols, &words, &[0x1044, 0x1050, 0x2000, 0xfff], &mut out)?;
+    print_backtrace(&index, &[0x1044, 0x1050, 0x2000, 0xfff], &mut out)?;
     want_at(&rt, "lines", out.as_slice(), TRACE);
     Ok(())
 }

@@ -9,6 +9,8 @@ use worked_files::rows;
 // The places of names in the string table.
 const NONE: u32 = 0;
 
+const EMPTY: u32 = 2;
+
 const LABEL: u32 = 3;
 
 const A: u32 = 7;
@@ -44,8 +46,9 @@ const CASES: &[(u16, u32, u8, u16, Option<u32>, bool)] = rows! {
     62, F, 0x12, 0xffff, None, true; 62, F, 0x12, 0xffff, Some(7), true;
     62, F, 0x12, 0xffff, Some(0xffff), false; 62, F, 0x12, 1, Some(1), true;
     62, F, 0x12, 1, Some(2), false; 62, F, 0x12, 0, Some(0), false;
-    // No name, and labels.
-    62, NONE, 0x12, 1, None, false; 62, PAST, 0x12, 1, None, false; 62, LABEL, 0x00, 1, None, false;
+    // No name, names that `nm` prints as nothing and as `(null)`, and labels.
+    62, NONE, 0x12, 1, None, false; 62, EMPTY, 0x12, 1, None, true; 62, PAST, 0x12, 1, None, true;
+    62, EMPTY, 0x00, 1, None, true; 62, LABEL, 0x00, 1, None, false;
     62, LABEL, 0x10, 1, None, true; 62, LABEL, 0x02, 1, None, true;
     // Mapping symbols of the Arm architecture.
     40, A, 0x00, 1, None, false; 40, A, 0x10, 1, None, true; 40, D_DOT, 0x00, 1, None, false;

@@ -4,7 +4,7 @@ use crate::callers::dladdr_in;
 use crate::tests::rows::{F, Row, STRINGS, table_bytes};
 use crate::tests::want::want_at;
 use elf_addresses::dladdr::{DladdrSymbols, Reach};
-use elf_addresses::{ClaimIndex, build_index, index_words};
+use elf_addresses::{ClaimIndex, build_index, index_size};
 use std::process::Abort;
 use std::test::Fail;
 use worked_files::linked::small::SMALL;
@@ -110,11 +110,16 @@ fn the_greatest_value_and_the_first_bucket_come_first(rt: HostRuntime) -> Result
         let symbols = symbols(&rt, &bytes, Reach::Buckets(reached));
         let found = symbols.symbol_at(address).map(|at| (at.index, at.offset));
         want_at(&rt, (places, address), found, wanted);
-        let mut words = vec![in rt.alloc(); 0u32; index_words(&symbols)]?;
-        build_index(&symbols, &mut words)?;
-        let index = ClaimIndex::lend(&symbols, &words);
+        let size = index_size(&symbols);
+        let mut words = vec![in rt.alloc(); 0u32; size.words()]?;
+        let mut numbers = vec![in rt.alloc(); 0u64; size.numbers()]?;
+        build_index(&symbols, &mut words, &mut numbers)?;
+        let index = ClaimIndex::lend(&symbols, size, &words, &numbers);
         want_at(&rt, (places, address), index.check(), true);
         let found = index.innermost(address).map(|claim| claim.index);
+        want_at(&rt, (places, address), found, wanted.map(|at| at.0));
+        // Each symbol that `dladdr` finds has a size.
+        let found = index.innermost_index(address);
         want_at(&rt, (places, address), found, wanted.map(|at| at.0));
     }
     Ok(())

@@ -34,8 +34,10 @@ fn finds_the_open_symbol_below(rt: HostRuntime) -> Result<(), Fail> {
     let bytes = table_bytes(rt.alloc(), ROWS)?;
     let symbols = symbols(&rt, &bytes, &[], 62);
     let mut words = [0; 6];
-    SymbolIndex::build(&symbols, None, &mut words)?;
-    let index = SymbolIndex::lend(&symbols, None, &words);
+    let mut numbers = [0; 2];
+    SymbolIndex::build(&symbols, None, &mut words, &mut numbers)?;
+    let size = SymbolIndex::size(&symbols, None);
+    let index = SymbolIndex::lend(&symbols, None, size, &words, &numbers);
     for &(address, section, wanted) in ASKED {
         let found = open_below(&symbols, address, section, None).map(|at| (at.index, at.offset));
         want_at(&rt, (address, section), found, wanted);

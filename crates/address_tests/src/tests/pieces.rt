@@ -24,7 +24,7 @@ type Run = (usize, Owner);
 
 // A file of class 64: its size, the offset of the section headers, the sections, the offset of the
 // program headers, the segments, its pieces, and the words of an index: two for each section, and for
-// each segment, that has bytes in the file.
+// each segment, that has bytes in the file. The numbers are as many.
 type Row = (
     usize,
     usize,
@@ -126,7 +126,7 @@ fn put_segments(file: &mut [u8], from: usize, segments: &[Part]) {
     }
 }
 
-// Wants these pieces of a file, by words that hold other numbers before.
+// Wants these pieces of a file, by words and numbers that hold others before.
 fn check_pieces(
     rt: &impl Abort,
     alloc: Global,
@@ -136,8 +136,9 @@ fn check_pieces(
 ) -> Result<(), Fail> {
     let file = ElfFile::new(bytes)?;
     let mut words = vec![in alloc; u32::MAX; Pieces::words(&file)]?;
+    let mut numbers = vec![in alloc; u64::MAX; Pieces::numbers(&file)]?;
     let (mut index, mut end) = (0, 0);
-    for piece in Pieces::new(&file, &mut words)? {
+    for piece in Pieces::new(&file, &mut words, &mut numbers)? {
         want_at(rt, (row, index), piece.begin, end);
         end = piece.end;
         want_at(
@@ -151,7 +152,7 @@ fn check_pieces(
     }
     want_at(rt, row, index, wanted.len());
     want_at(rt, row, owner_of(&file, bytes.len()), None);
-    let pieces = Pieces::new(&file, &mut words)?;
+    let pieces = Pieces::new(&file, &mut words, &mut numbers)?;
     want_at(rt, row, pieces.total(), bytes.len());
     Ok(())
 }
@@ -187,12 +188,18 @@ fn words_too_few(rt: HostRuntime) -> Result<(), Fail> {
         let bytes = bytes_of(rt.alloc(), row)?;
         let file = ElfFile::new(&bytes)?;
         want_at(&rt, index, Pieces::words(&file), row.6);
-        let mut words = vec![in rt.alloc(); 0u32; row.6.saturating_sub(1)]?;
-        let error = Pieces::new(&file, &mut words).err();
+        want_at(&rt, index, Pieces::numbers(&file), row.6);
+        let mut few = vec![in rt.alloc(); 0u32; row.6.saturating_sub(1)]?;
+        let mut numbers = vec![in rt.alloc(); 0u64; row.6]?;
         let wanted = (row.6 > 0).then_some(IndexError::FewWords);
+        let error = Pieces::new(&file, &mut few, &mut numbers).err();
         want_at(&rt, index, error, wanted);
         let mut words = vec![in rt.alloc(); 0u32; row.6.saturating_add(1)]?;
-        want_at(&rt, index, Pieces::new(&file, &mut words).is_ok(), true);
+        let found = Pieces::new(&file, &mut words, &mut numbers).is_ok();
+        want_at(&rt, index, found, true);
+        let mut few = vec![in rt.alloc(); 0u64; row.6.saturating_sub(1)]?;
+        let error = Pieces::new(&file, &mut words, &mut few).err();
+        want_at(&rt, index, error, wanted);
     }
     Ok(())
 }

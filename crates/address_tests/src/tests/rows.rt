@@ -57,9 +57,11 @@ pub fn place(found: Option<At<DynEntry64>>) -> Option<(usize, u64, bool)> {
 pub fn check(rt: &impl Abort, alloc: Global, rows: &[Row], asked: &[Asked]) -> Result<(), Fail> {
     let bytes = table_bytes(alloc, rows)?;
     let symbols = symbols(rt, &bytes, &[], 62);
-    let mut words = vec![in alloc; 0u32; SymbolIndex::words(&symbols, None)]?;
-    SymbolIndex::build(&symbols, None, &mut words)?;
-    let index = SymbolIndex::lend(&symbols, None, &words);
+    let size = SymbolIndex::size(&symbols, None);
+    let mut words = vec![in alloc; 0u32; size.words()]?;
+    let mut numbers = vec![in alloc; 0u64; size.numbers()]?;
+    SymbolIndex::build(&symbols, None, &mut words, &mut numbers)?;
+    let index = SymbolIndex::lend(&symbols, None, size, &words, &numbers);
     want_at(rt, "the index", index.check(), true);
     for &(address, wanted) in asked {
         let found = place(symbol_at(&symbols, address, None));

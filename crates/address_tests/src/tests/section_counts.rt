@@ -25,7 +25,16 @@ fn check(
     wanted: &[Run],
 ) {
     let mut lasting = [0u32; 4];
-    let pieces = SymbolPieces::in_order(counts, 1, begin, end, IN_ORDER, &mut lasting);
+    let mut numbers = [0u64; 8];
+    let pieces = SymbolPieces::in_order(
+        counts,
+        1,
+        begin,
+        end,
+        IN_ORDER,
+        &mut lasting,
+        &mut numbers,
+    );
     let pieces = pieces.expect(rt, "the words are in order");
     check_runs(rt, begin, pieces, wanted);
 }
@@ -37,8 +46,10 @@ fn check_none(
     section: u32,
     list: &[u32],
     lasting: &mut [u32],
+    numbers: &mut [u64],
 ) {
-    let is_some = SymbolPieces::in_order(counts, section, 0, 1, list, lasting).is_some();
+    let pieces = SymbolPieces::in_order(counts, section, 0, 1, list, lasting, numbers);
+    let is_some = pieces.is_some();
     want_at(rt, (section, list), is_some, false);
 }
 
@@ -67,10 +78,12 @@ fn other_lists(rt: HostRuntime) -> Result<(), Fail> {
     let counts = SectionCounts::new(&symbols, &mut words)?;
     for list in OTHERS {
         let mut lasting = vec![in rt.alloc(); 0u32; list.len()]?;
-        check_none(&rt, &counts, 1, list, &mut lasting);
+        let mut numbers = vec![in rt.alloc(); 0u64; list.len().wrapping_mul(2)]?;
+        check_none(&rt, &counts, 1, list, &mut lasting, &mut numbers);
     }
-    // Too few words, and a section without a count.
-    check_none(&rt, &counts, 1, IN_ORDER, &mut [0; 3]);
-    check_none(&rt, &counts, 4, &[], &mut []);
+    // Too few words, too few numbers, and a section without a count.
+    check_none(&rt, &counts, 1, IN_ORDER, &mut [0; 3], &mut [0; 8]);
+    check_none(&rt, &counts, 1, IN_ORDER, &mut [0; 4], &mut [0; 7]);
+    check_none(&rt, &counts, 4, &[], &mut [], &mut []);
     Ok(())
 }

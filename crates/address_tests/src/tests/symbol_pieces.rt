@@ -44,8 +44,10 @@ fn check(
 ) -> Result<(), Fail> {
     let bytes = table_bytes(alloc, rows)?;
     let symbols = symbols(rt, &bytes, &[], 62);
-    let mut words = vec![in alloc; u32::MAX; SymbolIndex::words(&symbols, within)]?;
-    let pieces = SymbolPieces::new(&symbols, within, begin, end, &mut words)?;
+    let size = SymbolIndex::size(&symbols, within);
+    let mut words = vec![in alloc; u32::MAX; size.words()]?;
+    let mut numbers = vec![in alloc; u64::MAX; size.numbers()]?;
+    let pieces = SymbolPieces::new(&symbols, within, begin, end, &mut words, &mut numbers)?;
     check_runs(rt, begin, pieces, wanted);
     Ok(())
 }
@@ -88,9 +90,11 @@ fn all_sections(rt: HostRuntime) -> Result<(), Fail> {
 fn words_too_few(rt: HostRuntime) -> Result<(), Fail> {
     let bytes = table_bytes(rt.alloc(), SYMBOLS)?;
     let symbols = symbols(&rt, &bytes, &[], 62);
-    let error = SymbolPieces::new(&symbols, Some(2), 0, 1, &mut [0]).err();
+    let error = SymbolPieces::new(&symbols, Some(2), 0, 1, &mut [0], &mut [0, 0]).err();
     want_at(&rt, "one word", error, Some(IndexError::FewWords));
-    let pieces = SymbolPieces::new(&symbols, Some(2), 0, 1, &mut [0, 0]).is_ok();
-    want_at(&rt, "two words", pieces, true);
+    let error = SymbolPieces::new(&symbols, Some(2), 0, 1, &mut [0, 0], &mut [0]).err();
+    want_at(&rt, "one number", error, Some(IndexError::FewWords));
+    let pieces = SymbolPieces::new(&symbols, Some(2), 0, 1, &mut [0, 0], &mut [0, 0]).is_ok();
+    want_at(&rt, "two of both", pieces, true);
     Ok(())
 }

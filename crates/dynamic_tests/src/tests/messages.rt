@@ -44,6 +44,7 @@ const ERRORS: &[(LinkError, u32, &str)] = rows! {
     LinkError::NotMultiple, 113, "Data is not a whole number of words";
     LinkError::ShortVersion, 114, "Version record is cut off";
     LinkError::VersionCount, 115, "Version needs have more parts than bytes";
+    LinkError::VersionChain, 118, "Version records are more or fewer than told";
     LinkError::RelocationKind, 116, "Kind of relocations is neither Rel nor Rela";
     LinkError::ObjectIndex, 117, "Object index is out of range";
 };

@@ -165,9 +165,9 @@ const REFUSALS: &[(&[Change], u8, Option<LinkError>)] = &[
     (&[(0x340, 0x15)], 2, Some(LinkError::NoEntry)),
     (&[(0x369, 0xff)], 2, Some(LinkError::Address)),
     (&[(0x369, 0xff), (0x3d0, 0)], 2, Some(LinkError::Address)),
-    // d_tag of the entries VerDefNum and VerNeedNum
-    (&[(0x3d0, 0)], 2, Some(LinkError::NoEntry)),
-    (&[(0x3f0, 0)], 2, Some(LinkError::NoEntry)),
+    // d_tag of the entries VerDefNum and VerNeedNum, which only the check of the versions reads
+    (&[(0x3d0, 0)], 2, None),
+    (&[(0x3f0, 0)], 2, None),
     // d_un of VerDef and VerSym: past the end, and where the numbers of symbols are cut off
     (&[(0x3c9, 0xff)], 2, Some(LinkError::Address)),
     (&[(0x408, 0xfb), (0x409, 2)], 2, Some(LinkError::Address)),

@@ -1,13 +1,14 @@
 //! What an index is asked.
 
-ghost use Rattle.std.specs.Prelude.{◌≡◌, ◌≤◌, ◌<◌, ◌+◌, ℕ, Bool, true, false, max, length, nat_le, slice_index, IfSome, Option, IsTrue, ◌↔◌};
+ghost use Rattle.std.specs.Prelude.{◌≡◌, ◌≤◌, ◌<◌, ◌+◌, ℕ, Bool, true, false, max, length, nat_le, slice_get, slice_index, IfSome, Some};
 ghost use Rattle.elf_addresses.specs.Claims.{Among, Covers, IsForemost, begins_nearer};
 ghost use Rattle.elf_addresses.specs.Claims.{comes_before};
-ghost use Rattle.elf_addresses.specs.Index.{AreLasting, IsKind, IsWorstFirst, end_at};
+ghost use Rattle.elf_addresses.specs.Index.{AreLasting, AreRanges, IsKind, IsKnownIn, IsWorstFirst, StandsAt};
 ghost use Rattle.elf_addresses.specs.declared.claim.Claim.{Claim};
 
 use crate::claim::Claim;
-use crate::claims::{Claims, begun, covering};
+use crate::claims::{Claims, begun};
+use crate::index::near::reach_place;
 
 // How many words from the first on have ranges that begin at an address or below it, if the ranges
 // are in the order of their first addresses.
@@ -34,6 +35,7 @@ fn begins_by<C: Claims>(claims: &C, index: u32, address: u64) -> bool
 pub(crate) fn last_begun<C: Claims>(claims: &C, words: &[u32], address: u64) -> Option<Claim>
     ensures begins { IfSome result
         (Among (C.claim_of claims.now) (λ claim. claim.begin ≤ address)) }
+    ensures listed { IfSome result (IsKnownIn (C.known_of claims.now) words.now) }
     ensures nearest { (is_open : Bool) → IsWorstFirst (C.claim_of claims.now) is_open words.now
         → IsForemost begins_nearer (C.claim_of claims.now)
         (λ claim. IsKind is_open claim × (claim.begin ≤ address)) result }
@@ -49,6 +51,7 @@ pub(crate) fn last_begun<C: Claims>(claims: &C, words: &[u32], address: u64) -> 
 pub(crate) fn over<C: Claims>(claims: &C, starts: &[u32], address: u64) -> Option<Claim>
     ensures covers { IfSome result
         (Among (C.claim_of claims.now) (λ claim. Covers claim address)) }
+    ensures listed { IfSome result (IsKnownIn (C.known_of claims.now) starts.now) }
     ensures foremost { IsWorstFirst (C.claim_of claims.now) true starts.now
         → IsForemost comes_before (C.claim_of claims.now)
         (λ claim. IsKind true claim × Covers claim address) result }
@@ -61,63 +64,57 @@ pub(crate) fn over<C: Claims>(claims: &C, starts: &[u32], address: u64) -> Optio
     }
 }
 
+// The claim at the word at a place, if it covers an address. It is taken for a claim without a test.
+#[inline(always)]
+fn known_covering<C: Claims>(claims: &C, words: &[u32], place: usize, address: u64) -> Option<Claim>
+    ensures covers { IfSome result (λ claim. Covers claim address) }
+    ensures listed { IfSome result (IsKnownIn (C.known_of claims.now) words.now) }
+    ensures known { (claim : Claim) → StandsAt (C.claim_of claims.now) words.now place claim
+        → Covers claim address → result ≡ Some claim }
+{
+    match index_at(words, place) {
+        Some(index) => if_covers(claims.known(index), address),
+        None => None,
+    }
+}
+
+// A claim, if it covers an address.
+#[inline(always)]
+fn if_covers(claim: Claim, address: u64) -> Option<Claim>
+    ensures covers { IfSome result (λ found. Covers found address) }
+    ensures same { IfSome result (λ found. found ≡ claim) }
+    ensures found { Covers claim address → result ≡ Some claim }
+{
+    if claim.covers(address) {
+        Some(claim)
+    } else {
+        None
+    }
+}
+
 // The last of the sized claims that cover an address, and how many were looked at.
 pub(crate) fn reach<C: Claims>(
     claims: &C,
     sized: &[u32],
+    begins: &[u64],
+    sizes: &[u64],
     lasting: &[u32],
     address: u64,
 ) -> (Option<Claim>, usize)
-    ensures covers { IfSome result.0
-        (Among (C.claim_of claims.now) (λ claim. Covers claim address)) }
+    ensures covers { IfSome result.0 (λ claim. Covers claim address) }
+    ensures listed { IfSome result.0 (IsKnownIn (C.known_of claims.now) sized.now) }
     ensures foremost { IsWorstFirst (C.claim_of claims.now) false sized.now
+        → AreRanges (C.range_of claims.now) sized.now begins.now sizes.now
         → AreLasting (C.range_of claims.now) sized.now lasting.now
         → IsForemost comes_before (C.claim_of claims.now)
         (λ claim. IsKind false claim × Covers claim address) result.0 }
-    ensures few { result.1 ≤ length sized.now }
+    ensures few { result.1 ≤ length begins.now }
 {
-    let mut count = count_begun(claims, sized, address);
-    let mut steps = 0;
-    while count > 0 {
-        steps += 1;
-        let last = count - 1;
-        let found = covering(claims, sized[last] as usize, address);
-        if found.is_some() {
-            return (found, steps);
-        }
-        count = step_back(claims, sized, lasting, last, address);
+    let (place, steps) = reach_place(begins, sizes, lasting, address);
+    match place {
+        Some(place) => (known_covering(claims, sized, place, address), steps),
+        None => (None, steps),
     }
-    (None, steps)
-}
-
-// The number of places up to which to go on, after that of the range at `last`: at the ranges
-// between, none covers an address that the range at `last` does not cover.
-#[inline(always)]
-fn step_back<C: Claims>(
-    claims: &C,
-    sized: &[u32],
-    lasting: &[u32],
-    last: usize,
-    address: u64,
-) -> usize
-    requires { last < length sized.now }
-    ensures bound { result ≤ last }
-    ensures passed { AreLasting (C.range_of claims.now) sized.now lasting.now
-        → (j : ℕ) → result ≤ j → j < last
-        → end_at (C.range_of claims.now) sized.now j ≤ address }
-{
-    if ends_behind(claims, sized, word_at(lasting, last), address) {
-        return last;
-    }
-    (last + 1) & last
-}
-
-// Whether the range at a place ends behind an address.
-#[inline(always)]
-fn ends_behind<C: Claims>(claims: &C, words: &[u32], place: u32, address: u64) -> bool
-    ensures { IsTrue result ↔ (address < end_at (C.range_of claims.now) words.now place) }
-{
-    u128::from(address) < end_of(claims, word_at(words, place as usize))
 }
 
 // The first address after the range at an index.
@@ -137,5 +134,16 @@ pub(crate) fn word_at(words: &[u32], place: usize) -> u32
     match words.get(place) {
         Some(word) => *word,
         None => 0,
+    }
+}
+
+// The word at a place as an index, if there is one.
+#[inline(always)]
+pub(crate) fn index_at(words: &[u32], place: usize) -> Option<usize>
+    ensures { result ≡ slice_get words.now place }
+{
+    match words.get(place) {
+        Some(word) => Some(*word as usize),
+        None => None,
     }
 }

@@ -117,7 +117,7 @@ impl<'a> Definitions<'a> {
             records,
             chain: Chain {
                 place: 0,
-                left: records.count,
+                left: records.bytes.len() as u64,
             },
         }
     }

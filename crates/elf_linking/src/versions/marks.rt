@@ -11,7 +11,7 @@ use crate::versions::records::Records;
 pub(crate) struct Marked<'a> {
     pub(crate) records: Records<'a>,
     marks: [u16; 64],
-    ghost right: { AreMarks records.order records.bytes.now records.count marks },
+    ghost right: { AreMarks records.order records.bytes.now (length records.bytes.now) marks },
 }
 
 impl<'a> Marked<'a> {
@@ -25,7 +25,7 @@ impl<'a> Marked<'a> {
     {
         let mut marks = [0u16; 64];
         let mut place = 0;
-        for passed in 0..records.count {
+        for passed in 0..records.bytes.len() {
             if passed >= 64 || place >= 0xffff || !records.contain(place, 20) {
                 return Marked { records, marks };
             }

@@ -95,7 +95,7 @@ fn need_at<'a>(records: &Records<'a>, file: u32, place: usize) -> Need<'a>
 pub struct Needs<'a> {
     records: Records<'a>,
     needs: Chain,
-    // How many parts the needs from here on may have together.
+    // How many more parts there may be.
     room: usize,
     // The name of the current need's file, and its remaining parts.
     file: u32,
@@ -103,9 +103,9 @@ pub struct Needs<'a> {
 }
 
 impl<'a> Needs<'a> {
-    ghost use Rattle.std.specs.Prelude.{◌-◌, [], Err, IsTrue, nat_le};
-    ghost use Rattle.elf_linking.specs.VersionTables.{joined, part_count, parts_at, parts_within};
-    ghost use Rattle.elf_linking.specs.VersionTables.{places_left};
+    ghost use Rattle.std.specs.Prelude.{[], Err};
+    ghost use Rattle.elf_linking.specs.VersionTables.{joined, parts_at, parts_of, places_left};
+    ghost use Rattle.elf_linking.specs.VersionTables.{within_room};
 
     pub(crate) fn new(records: Records<'a>) -> Needs<'a>
         ensures longest { AreNeeds (records_data records.entry) (needs_left result) }
@@ -116,7 +116,7 @@ impl<'a> Needs<'a> {
             records,
             needs: Chain {
                 place: 0,
-                left: records.count,
+                left: records.bytes.len() as u64,
             },
             room: records.bytes.len() / 16,
             file: 0,
@@ -124,28 +124,20 @@ impl<'a> Needs<'a> {
         }
     }
 
-    // Whether there is room for the parts of the need at `place`, which are the next then.
+    // Begins with the parts of the need at `place`.
     #[inline(always)]
-    fn enter(&mut self, place: usize) -> bool
+    fn enter(&mut self, place: usize)
         requires { place + 16 ≤ length (records_data self.old.records).bytes }
-        ensures fits { result
-            ≡ nat_le (part_count (records_data self.old.records) place) self.old.room }
-        ensures entered { let records = records_data self.old.records in IsTrue result
-            → needs_left self.new ≡ joined (parts_at records place) (parts_within records
-            (self.old.room - part_count records place) (places_left records 12 self.old.needs)) }
+        ensures entered { let records = records_data self.old.records in
+            needs_left self.new ≡ within_room self.old.room (joined (parts_at records place)
+            (parts_of records (places_left records 12 self.old.needs))) }
         ensures same { (self.new.records ≡ self.old.records) × (self.new.needs ≡ self.old.needs) }
     {
-        let count = self.records.u16_at(place, 2);
-        if usize::from(count) > self.room {
-            return false;
-        }
-        self.room -= usize::from(count);
         self.file = self.records.u32_at(place, 4);
         self.parts = Chain {
             place: self.records.place_behind(place, 8),
-            left: u64::from(count),
+            left: self.records.bytes.len() as u64,
         };
-        true
     }
 
     // Ends the list with an error.
@@ -168,21 +160,23 @@ impl<'a> Iterator for Needs<'a> {
 
     ghost remaining = { item_count needs_left };
 
-    #[tactic(auto, using(crate::proofs::VersionItems::items_end, crate::proofs::VersionItems::items_first, crate::proofs::VersionItems::joined_end, crate::proofs::VersionItems::joined_first, crate::proofs::VersionItems::joined_cut, crate::proofs::VersionItems::within_end, crate::proofs::VersionItems::within_cut, crate::proofs::VersionItems::left_many, crate::proofs::VersionItems::left_fits))]
+    #[tactic(auto, using(crate::proofs::VersionItems::items_end, crate::proofs::VersionItems::items_first, crate::proofs::VersionItems::joined_end, crate::proofs::VersionItems::joined_first, crate::proofs::VersionItems::joined_cut, crate::proofs::VersionItems::parts_end, crate::proofs::VersionItems::parts_cut, crate::proofs::VersionItems::parts_more, crate::proofs::VersionItems::room_end, crate::proofs::VersionItems::room_cut, crate::proofs::VersionItems::room_full, crate::proofs::VersionItems::room_first))]
     #[inline(always)]
     fn next(&mut self) -> Option<Result<Need<'a>, LinkError>> {
         loop {
             match self.parts.next(&self.records, 12) {
-                Some(Ok(place)) => return Some(Ok(need_at(&self.records, self.file, place))),
+                Some(Ok(place)) => {
+                    if self.room == 0 {
+                        return Some(self.end(LinkError::VersionCount));
+                    }
+                    self.room -= 1;
+                    return Some(Ok(need_at(&self.records, self.file, place)));
+                }
                 Some(Err(error)) => return Some(self.end(error)),
                 None => {}
             }
             match self.needs.next(&self.records, 12)? {
-                Ok(place) => {
-                    if !self.enter(place) {
-                        return Some(self.end(LinkError::VersionCount));
-                    }
-                }
+                Ok(place) => self.enter(place),
                 Err(error) => return Some(self.end(error)),
             }
         }

@@ -7,11 +7,12 @@ ghost use Rattle.elf_linking.specs.VersionTables.{field, places_left, records_da
 use crate::LinkError;
 use elf_base::bytes::{Order, read_u16, read_u32};
 
-// Records: their bytes from the first on, their number, and the string table with their names.
+// Records: their bytes from the first on, how many the file tells, and the string table with their
+// names.
 #[derive(Clone, Copy, Debug)]
 pub(crate) struct Records<'a> {
     pub(crate) bytes: &'a [u8],
-    pub(crate) count: u64,
+    pub(crate) told: Option<u64>,
     pub(crate) order: Order,
     pub(crate) strings: Result<&'a [u8], LinkError>,
 }
@@ -54,7 +55,8 @@ impl Records<'_> {
     }
 }
 
-// The place of the next record of a list, and how many records there may be from it on.
+// The place of the next record of a list, and how many records there may be from it on. A list has no
+// more records than there are bytes.
 #[derive(Clone, Copy, Debug)]
 pub(crate) struct Chain {
     pub(crate) place: usize,
@@ -92,5 +94,48 @@ impl Chain {
             self.place = records.place_behind(place, offset);
         }
         Some(Ok(place))
+    }
+}
+
+// The places of needs, or of the parts of a need: an iterator over a list whose `next` lies 12 bytes
+// after a record.
+#[derive(Clone, Debug, Drop)]
+pub(crate) struct Places<'a> {
+    records: Records<'a>,
+    chain: Chain,
+}
+
+impl<'a> Places<'a> {
+    ghost use Rattle.std.specs.Prelude.{◌^◌};
+    ghost use Rattle.elf_linking.specs.VersionTables.{iterator_places, places_of};
+
+    // The places of the list from a place on.
+    pub(crate) fn new(records: Records<'a>, place: usize) -> Places<'a>
+        ensures items { let records = records_data records.entry in
+            iterator_places result ≡ places_of records 12 place (length records.bytes) }
+        ensures fits { length (iterator_places result) < 2 ^ 64 }
+    {
+        Places {
+            records,
+            chain: Chain {
+                place,
+                left: records.bytes.len() as u64,
+            },
+        }
+    }
+}
+
+impl Iterator for Places<'_> {
+    ghost use Rattle.std.specs.Iterator.{item_count};
+    ghost use Rattle.elf_linking.specs.VersionTables.{iterator_places};
+
+    type Item = Result<usize, LinkError>;
+
+    ghost next_gives = { YieldsFirst iterator_places };
+
+    ghost remaining = { item_count iterator_places };
+
+    fn next(&mut self) -> Option<Result<usize, LinkError>> {
+        self.chain.next(&self.records, 12)
     }
 }

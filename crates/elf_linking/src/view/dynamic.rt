@@ -3,7 +3,8 @@
 ghost use Rattle.std.specs.Prelude.{◌≡◌, ◌<◌, ◌^◌, Ok, Err, IfOk, MatchResult, length, map};
 ghost use Rattle.elf_linking.specs.DynamicView.{LiesAsFileStrings, LiesAsStrings, entries_left};
 ghost use Rattle.elf_linking.specs.DynamicView.{strings_by, dynamic_segment_of, dynamic_strings_of};
-ghost use Rattle.elf_linking.specs.DynamicView.{number_with, pairs_of, until_null};
+ghost use Rattle.elf_linking.specs.DynamicView.{LiesAsDynamic, dynamic_bytes_of, number_with};
+ghost use Rattle.elf_linking.specs.DynamicView.{pairs_of, until_null};
 ghost use Rattle.elf_linking.specs.Loaded.{lent};
 ghost use Rattle.elf_linking.specs.declared.view.tags.TheConstants.{DT_RPATH};
 ghost use Rattle.elf_linking.specs.declared.view.tags.TheConstants.{DT_RUNPATH, DT_SONAME};
@@ -11,7 +12,7 @@ ghost use Rattle.elf_linking.specs.declared.view.tags.TheConstants.{DT_RUNPATH, 
 use crate::LinkError;
 use crate::segments::{Segment, Segments};
 use crate::view::entries::{DynamicEntries, Pairs};
-use crate::view::first_numbers::Entries;
+use crate::view::last_numbers::Entries;
 use crate::view::loaded::bytes_at;
 use crate::view::needed::{Needed, text_by};
 use crate::view::needed_bytes::NeededBytes;
@@ -29,17 +30,36 @@ pub struct DynamicView<'a> {
 
 const PT_DYNAMIC: u32 = 2;
 
-/// The dynamic segment: the first of type Dynamic.
-#[tactic(auto, unfolding(crate::specs::DynamicView::dynamic_segment_of), using(crate::proofs::Firsts::find_none, crate::proofs::Firsts::find_hit, crate::proofs::Firsts::find_other))]
+/// The dynamic segment: as in glibc, the last of type Dynamic.
+#[tactic(auto, unfolding(crate::specs::DynamicView::dynamic_segment_of), using(crate::proofs::Lasts::last_none, crate::proofs::Lasts::last_hit, crate::proofs::Lasts::last_other))]
 pub fn dynamic_segment(file: &ElfFile<'_>) -> Option<Segment>
     ensures { result ≡ dynamic_segment_of file.now }
 {
+    let mut found = None;
     for segment in Segments::of(file) {
         if segment.kind == PT_DYNAMIC {
-            return Some(segment);
+            found = Some(segment);
         }
     }
-    None
+    found
+}
+
+/// The bytes of the dynamic segment, at its address, which live as long as the input.
+///
+/// Errors: `NoDynamic` if there is no such segment, or if it has no bytes in the file (p_filesz 0);
+/// those of `bytes_at` for its bytes.
+#[tactic(auto, unfolding(crate::specs::DynamicView::dynamic_bytes_of))]
+pub fn dynamic_bytes<'a>(file: &ElfFile<'a>) -> Result<&'a [u8], LinkError>
+    ensures exact { lent result ≡ dynamic_bytes_of file.now }
+    ensures place { IfOk result (LiesAsDynamic file.now) }
+{
+    let Some(segment) = dynamic_segment(file) else {
+        return Err(LinkError::NoDynamic);
+    };
+    if segment.file_size == 0 {
+        return Err(LinkError::NoDynamic);
+    }
+    bytes_at(file, segment.address, segment.file_size)
 }
 
 impl<'a> DynamicView<'a> {
@@ -48,12 +68,11 @@ impl<'a> DynamicView<'a> {
     ghost use Rattle.elf_linking.specs.DynamicView.{dynamic_entries_of, needed_bytes_left};
     ghost use Rattle.elf_linking.specs.DynamicView.{is_symbolic, view_entries, view_strings};
 
-    /// Reads the first segment of type Dynamic. Its entries end before the first with tag Null, or
-    /// at the end of the segment.
+    /// Reads the result of `dynamic_bytes`. The entries end before the first with tag Null, or at the
+    /// end of the segment.
     ///
-    /// Errors: `NoDynamic` if there is no such segment; `Elf` with those of `Segment::bytes`,
-    /// `UnknownClass` if the class is neither 1 nor 2, and `NotMultiple` if the segment is no whole
-    /// number of entries.
+    /// Errors: those of `dynamic_bytes`; `Elf` with `UnknownClass` if the class is neither 1 nor 2, and
+    /// `NotMultiple` if the segment is no whole number of entries.
     #[tactic(auto, unfolding(crate::specs::DynamicView::dynamic_entries_of))]
     pub fn read(file: &ElfFile<'a>) -> Result<DynamicView<'a>, LinkError>
         ensures exact { MatchResult result
@@ -63,10 +82,7 @@ impl<'a> DynamicView<'a> {
         ensures place { IfOk result (λ view.
             IfOk (view_table view) (LiesAsStrings file.now (view_entries view))) }
     {
-        let Some(segment) = dynamic_segment(file) else {
-            return Err(LinkError::NoDynamic);
-        };
-        let entries = Entries::new(Pairs::new(segment.bytes(file)?, file)?);
+        let entries = Entries::new(Pairs::new(dynamic_bytes(file)?, file)?);
         let strings = strings_by(file, &entries);
         Ok(DynamicView { entries, strings })
     }
@@ -79,7 +95,7 @@ impl<'a> DynamicView<'a> {
         self.entries.iter()
     }
 
-    /// The number in the first entry with this tag.
+    /// The number in the last entry with this tag.
     pub fn entry(&self, tag: u64) -> Option<u64>
         ensures { result ≡ number_with tag (view_entries self.now) }
     {
@@ -151,7 +167,7 @@ impl<'a> DynamicView<'a> {
         self.strings
     }
 
-    // The text at the offset in the first entry with this tag.
+    // The text at the offset in the last entry with this tag.
     fn text_with(&self, tag: u64) -> Option<Result<&'a str, LinkError>>
         ensures { IsTextWith self.now tag result }
     {

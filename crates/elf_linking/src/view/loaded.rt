@@ -1,11 +1,10 @@
 //! The bytes at addresses in the loaded segments (gABI, "Program Header": PT_LOAD).
 
-ghost use Rattle.std.specs.Prelude.{◌≡◌, ◌≢◌, ◌↔◌, IfNone, IfOk, IfSome, IsErrOf, length};
-ghost use Rattle.elf_linking.specs.Loaded.{IsAt, IsFirstWithBytes, LiesAsLoaded, NoneHasFileBytes};
+ghost use Rattle.std.specs.Prelude.{◌≡◌, ◌≢◌, ◌↔◌, IfNone, IfOk, IfSome, IsErrOf};
+ghost use Rattle.elf_linking.specs.Loaded.{IsAt, IsLastWithBytes, LiesAsLoaded, NoneHasFileBytes};
 ghost use Rattle.elf_linking.specs.Loaded.{bytes_at_of, bytes_from_of, has_file_bytes, lent};
 ghost use Rattle.elf_linking.specs.Loaded.{segment_at_of, word_at_of};
 ghost use Rattle.elf_linking.specs.declared.error.LinkError.TheVariants.{Address};
-ghost use Rattle.elf_linking.specs.Segments.{segments_of};
 
 use crate::LinkError;
 use crate::segments::{Segment, Segments};
@@ -26,23 +25,24 @@ fn has_file_bytes(segment: &Segment, address: u64, count: u64) -> bool
     skipped <= segment.file_size && count <= segment.file_size - skipped
 }
 
-/// The first loaded segment for which the file contains the bytes at `address .. address + count`.
-#[tactic(auto, unfolding(crate::specs::Loaded::segment_at_of), using(crate::proofs::Firsts::find_none, crate::proofs::Firsts::find_hit, crate::proofs::Firsts::find_other))]
+/// The last loaded segment for which the file contains the bytes at `address .. address + count`:
+/// Linux and glibc map the segments in order, each over those before it.
+#[tactic(auto, unfolding(crate::specs::Loaded::segment_at_of), using(crate::proofs::Lasts::last_none, crate::proofs::Lasts::last_hit, crate::proofs::Lasts::last_other))]
 pub fn segment_at(file: &ElfFile<'_>, address: u64, count: u64) -> Option<Segment>
-    ensures found { IfSome result (IsFirstWithBytes file.now address count) }
-    ensures missing { IfNone result
-        (NoneHasFileBytes file.now address count (length (segments_of file.now))) }
+    ensures found { IfSome result (IsLastWithBytes file.now address count) }
+    ensures missing { IfNone result (NoneHasFileBytes file.now address count 0) }
     ensures exact { result ≡ segment_at_of file.now address count }
 {
+    let mut found = None;
     for segment in Segments::of(file) {
         if has_file_bytes(&segment, address, count) {
-            return Some(segment);
+            found = Some(segment);
         }
     }
-    None
+    found
 }
 
-/// The file bytes for `address .. address + count`, in the first loaded segment with all of them.
+/// The file bytes for `address .. address + count`, in the last loaded segment with all of them.
 /// They live as long as the input.
 ///
 /// Errors: `Address` if no loaded segment has all of them in the file; those of
@@ -51,8 +51,7 @@ pub fn segment_at(file: &ElfFile<'_>, address: u64, count: u64) -> Option<Segmen
 pub fn bytes_at<'a>(file: &ElfFile<'a>, address: u64, count: u64) -> Result<&'a [u8], LinkError>
     ensures found { IfOk result (λ part. IsAt file.now address count part.now) }
     ensures place { IfOk result (LiesAsLoaded file.now address count) }
-    ensures missing { IsErrOf result Address
-        ↔ NoneHasFileBytes file.now address count (length (segments_of file.now)) }
+    ensures missing { IsErrOf result Address ↔ NoneHasFileBytes file.now address count 0 }
     ensures exact { lent result ≡ bytes_at_of file.now address count }
 {
     let Some(segment) = segment_at(file, address, count) else {
@@ -66,7 +65,7 @@ pub fn bytes_at<'a>(file: &ElfFile<'a>, address: u64, count: u64) -> Result<&'a 
     Ok(&data[start..start + count as usize])
 }
 
-/// The file bytes from `address` on, in the first loaded segment with a byte there, up to the last
+/// The file bytes from `address` on, in the last loaded segment with a byte there, up to the last
 /// that the segment has in the file. They live as long as the input.
 ///
 /// The errors are those of `bytes_at` for one byte.

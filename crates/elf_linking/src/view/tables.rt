@@ -60,7 +60,7 @@ impl<'a> DynamicView<'a> {
         }
     }
 
-    // The bytes from the address in the first entry with this tag on.
+    // The bytes from the address in the last entry with this tag on.
     fn bytes_with(&self, tag: u64, file: &ElfFile<'a>) -> Result<&'a [u8], LinkError>
         ensures { lent result ≡ and_then (ok_or (number_with tag (view_entries self.now))
             LinkError.NoEntry) (bytes_from_of file.now) }

@@ -330,6 +330,10 @@ fn accepts_a_symbol_by_its_index(rt: HostRuntime) -> Result<(), LinkError> {
 const CHECKED: &[(&[Field], Result<(), LinkError>)] = rows! {
     &[], Ok(()); &[CUT], Err(SHORT); &[PAST_STRINGS], Err(PAST); &[CUT_NAME], Err(SHORT);
     &[NO_HASH], Ok(()); &[SAME_HASH], Ok(());
+    // more or fewer definitions, needs and parts than told, which is no error of glibc's linker
+    &[(16, 4, 56)], Err(LinkError::VersionChain); &[(44, 4, 0)], Err(LinkError::VersionChain);
+    &[(100, 4, 0)], Err(LinkError::VersionChain); &[(90, 2, 1)], Err(LinkError::VersionChain);
+    &[(90, 2, 3)], Err(LinkError::VersionChain); &[(116, 4, 0)], Err(LinkError::VersionChain);
 };
 
 #[test]

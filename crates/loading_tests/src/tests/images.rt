@@ -9,15 +9,15 @@ use elf_linking::view::LinkedSymbol;
 use elf_linking::{DynamicObject, LinkError};
 use elf_loading::{LoadError, LoadPlan, LoadScope};
 use std::process::Abort;
-use worked_files::places::{Place, header_32, header_64, program_32, program_64, set};
+use worked_files::places::{Place, header_64, program_64, set};
 use xmas_elf::bytes::Order;
-use xmas_elf::symbol_table::{DynEntry32, DynEntry64};
+use xmas_elf::symbol_table::DynEntry64;
 
 // A field that is changed: its offset in the file, its place after that, and its new value.
-type Change = (usize, Place, u64);
+pub type Change = (usize, Place, u64);
 
 // Changes of a file, and the result of the check.
-type Row = (&'static [Change], Result<(), LoadError>);
+pub type Row = (&'static [Change], Result<(), LoadError>);
 
 // The size of a page: the load fills its pages.
 pub const PAGE: u64 = 128;
@@ -49,9 +49,11 @@ const PACKED_SIZE: usize = 0x3b8;
 
 const PACKED_EACH: usize = 0x3c8;
 
-const OTHER: usize = 0x3d8;
+const GOT: usize = 0x3d8;
 
-// Tables of two relocations, of one slot, and of one packed relocation.
+const OTHER: usize = 0x3e8;
+
+// Tables of two relocations, of one slot, and of one packed relocation; and one that isn't read.
 const ENTRIES_64: &[(u64, u64)] = &[
     (7, 0x1240),
     (8, 48),
@@ -62,6 +64,7 @@ const ENTRIES_64: &[(u64, u64)] = &[
     (36, 0x12a0),
     (35, 8),
     (37, 8),
+    (3, 0),
 ];
 
 const WIDE: Place = Place(0, 8);
@@ -87,7 +90,7 @@ const SYMBOL_SIZE: usize = 0x138 + 16;
 
 pub const BUCKETS: usize = 0x1e0;
 
-const NARROW: Place = Place(0, 4);
+pub const NARROW: Place = Place(0, 4);
 
 // A file for x86-64 whose words are at 0x1600, 0x1608, 0x1610 and 0x1618, of 8 bytes each.
 pub fn file_64() -> [u8; SIZE] {
@@ -127,7 +130,7 @@ fn checked<E: LinkedSymbol>(
 }
 
 // Wants these results of a file with changes.
-fn check_rows<E: LinkedSymbol>(rt: &impl Abort, good: [u8; SIZE], rows: &[Row]) {
+pub fn check_rows<E: LinkedSymbol>(rt: &impl Abort, good: [u8; SIZE], rows: &[Row]) {
     for (row, (changes, wanted)) in rows.iter().enumerate() {
         let mut bytes = good;
         for &(start, place, value) in changes.iter() {
@@ -142,13 +145,9 @@ fn check_rows<E: LinkedSymbol>(rt: &impl Abort, good: [u8; SIZE], rows: &[Row]) 
 
 const TABLES_64: &[Row] = &[
     (&[], Ok(())),
-    // the dynamic segment is past the end, or not where the file has it
+    // the dynamic segment is not where the file has it
     (
-        &[(DYNAMIC, program_64::VIRTUAL_ADDR, 0x3300)],
-        Err(LoadError::Dynamic),
-    ),
-    (
-        &[(DYNAMIC, program_64::VIRTUAL_ADDR, 0x1310)],
+        &[(DYNAMIC, program_64::OFFSET, 0x310)],
         Err(LoadError::Dynamic),
     ),
     // a dynamic segment to the end of the file has the words in it
@@ -175,6 +174,26 @@ const TABLES_64: &[Row] = &[
         ],
         Err(LoadError::Dynamic),
     ),
+    // versions of no symbols, and no table for slots: glibc crashes
+    (
+        &[(OTHER - 8, TAG, 0x6fff_fffc), (OTHER, WIDE, 0x1620)],
+        Err(LoadError::NoEntry),
+    ),
+    (
+        &[(OTHER - 8, TAG, 0x6fff_fffe), (OTHER, WIDE, 0x1620)],
+        Err(LoadError::NoEntry),
+    ),
+    (&[(OTHER - 8, TAG, 0x6fff_ffff)], Ok(())),
+    (&[(GOT - 8, TAG, 0x70)], Err(LoadError::NoEntry)),
+    (
+        &[
+            (GOT - 8, TAG, 0x70),
+            (SLOTS - 8, TAG, 0x70),
+            (SLOTS_KIND - 8, TAG, 0x70),
+        ],
+        Ok(()),
+    ),
+    (&[(GOT - 8, TAG, 0x70), (OTHER - 8, TAG, 24)], Ok(())),
     (&[(RELA_EACH, WIDE, 16)], Err(LoadError::RelocationSize)),
     (
         &[(RELA_EACH - 8, TAG, 0x70)],
@@ -191,13 +210,134 @@ const TABLES_64: &[Row] = &[
     (&[(SLOTS, WIDE, 0x1669)], Err(LoadError::Unreadable)),
     (&[(SLOTS_KIND, WIDE, 8)], Err(LoadError::SlotKind)),
     (&[(SLOTS_KIND - 8, TAG, 0x70)], Err(LoadError::SlotKind)),
-    // 1 kind of 24 bytes, and no whole number of 16 bytes
-    (&[(SLOTS_KIND, WIDE, 17)], Err(LoadError::NotMultiple)),
+    // with these glibc 2.36 ends by an assertion, applies none, and crashes
+    (&[(SLOTS_KIND, WIDE, 17)], Err(LoadError::NoAddends)),
+    (&[(OTHER - 8, TAG, 17)], Err(LoadError::NoAddends)),
+    (&[(SLOTS - 8, TAG, 0x70)], Err(LoadError::NoSlots)),
+    // a bitmap before any address: glibc crashes
+    (&[(ADDRESS, WIDE, 0x1619)], Err(LoadError::FirstPacked)),
     // a hash table to the end of the file, with the words in it, and 4 bytes more
     (&[(BUCKETS, NARROW, 0x120)], Err(LoadError::WordInTable)),
     (&[(BUCKETS, NARROW, 0x121)], Err(LoadError::Unreadable)),
     (&[(0, header_64::MACHINE, 3)], Err(LoadError::Machine)),
     (&[(0, header_64::MACHINE, 40)], Err(LoadError::Machine)),
+];
+
+// Changes of the last entry: a tag, and its number.
+const TAG_AT: usize = OTHER - 8;
+
+const COUNT: u64 = 0x6fff_fff9;
+
+pub const COUNT_OF_REL: u64 = 0x6fff_fffa;
+
+// What glibc 2.36 does with such a library stands in oracle/relocations.py.
+const RECORDS_64: &[Row] = &[
+    // one relative relocation, and two
+    (&[(TAG_AT, TAG, COUNT), (OTHER, WIDE, 0)], Ok(())),
+    (&[(TAG_AT, TAG, COUNT), (OTHER, WIDE, 1)], Ok(())),
+    (
+        &[(TAG_AT, TAG, COUNT), (OTHER, WIDE, 2)],
+        Err(LoadError::RelativeCount),
+    ),
+    (
+        &[(TAG_AT, TAG, COUNT), (OTHER, WIDE, 2), (SECOND, KIND, 8)],
+        Ok(()),
+    ),
+    (
+        &[(TAG_AT, TAG, COUNT), (OTHER, WIDE, 3), (SECOND, KIND, 8)],
+        Err(LoadError::RelativeCount),
+    ),
+    (
+        &[(TAG_AT, TAG, COUNT), (OTHER, WIDE, 2), (FIRST, KIND, 1)],
+        Err(LoadError::RelativeCount),
+    ),
+    (
+        &[(TAG_AT, TAG, COUNT), (OTHER, WIDE, u64::MAX)],
+        Err(LoadError::RelativeCount),
+    ),
+    // the table is shorter
+    (
+        &[
+            (TAG_AT, TAG, COUNT),
+            (OTHER, WIDE, 2),
+            (SECOND, KIND, 8),
+            (RELA_SIZE, WIDE, 24),
+        ],
+        Err(LoadError::RelativeCount),
+    ),
+    // the third is of the procedure linkage table again
+    (
+        &[
+            (TAG_AT, TAG, COUNT),
+            (OTHER, WIDE, 3),
+            (SECOND, KIND, 8),
+            (SLOT, KIND, 8),
+            (RELA_SIZE, WIDE, 72),
+        ],
+        Err(LoadError::RelativeCount),
+    ),
+    // there is no table for the count
+    (&[(TAG_AT, TAG, COUNT_OF_REL), (OTHER, WIDE, 9)], Ok(())),
+    (
+        &[
+            (TAG_AT, TAG, COUNT),
+            (OTHER, WIDE, 9),
+            (RELA - 8, TAG, 0x70),
+        ],
+        Ok(()),
+    ),
+    // types of the procedure linkage table: a descriptor and what a function returns are allowed
+    (&[(SLOT, KIND, 1)], Err(LoadError::SlotType)),
+    (&[(SLOT, KIND, 6)], Err(LoadError::SlotType)),
+    (&[(SLOT, KIND, 0)], Err(LoadError::SlotType)),
+    (&[(SLOT, KIND, 9)], Err(LoadError::SlotType)),
+    (
+        &[(SLOT, KIND, 36), (SLOT, SYMBOL, 3), (SLOT, WIDE, 0x1620)],
+        Ok(()),
+    ),
+    (&[(SLOT, KIND, 37), (SLOT, SYMBOL, 0)], Ok(())),
+    (&[(SLOT, KIND, 37)], Err(LoadError::CallSymbol)),
+    // the file asks for its symbols before it runs
+    (&[(SLOT, KIND, 1), (TAG_AT, TAG, 24)], Ok(())),
+    (
+        &[(SLOT, KIND, 1), (TAG_AT, TAG, 30), (OTHER, WIDE, 8)],
+        Ok(()),
+    ),
+    (
+        &[(SLOT, KIND, 1), (TAG_AT, TAG, 30), (OTHER, WIDE, 2)],
+        Err(LoadError::SlotType),
+    ),
+    // sizes and copies
+    (&[(SECOND, KIND, 33)], Ok(())),
+    (
+        &[(SECOND, KIND, 33), (SECOND, SYMBOL, 2)],
+        Err(LoadError::NoSize),
+    ),
+    (
+        &[(FIRST, KIND, 5), (FIRST, SYMBOL, 4)],
+        Err(LoadError::CopyKind),
+    ),
+    (
+        &[(FIRST, KIND, 5), (FIRST, SYMBOL, 5)],
+        Err(LoadError::CopyKind),
+    ),
+    // the first of two errors
+    (
+        &[
+            (TAG_AT, TAG, COUNT),
+            (OTHER, WIDE, 2),
+            (0, header_64::MACHINE, 40),
+        ],
+        Err(LoadError::Machine),
+    ),
+    (
+        &[(TAG_AT, TAG, COUNT), (OTHER, WIDE, 2), (SLOT, KIND, 1)],
+        Err(LoadError::RelativeCount),
+    ),
+    (
+        &[(SLOT, KIND, 1), (FIRST, KIND, 9)],
+        Err(LoadError::SlotType),
+    ),
 ];
 
 const WORDS_64: &[Row] = &[
@@ -320,6 +460,18 @@ const TWO_64: &[Row] = &[
         Err(LoadError::Unreadable),
     ),
     (
+        &[(SLOTS_KIND, WIDE, 17), (SLOTS - 8, TAG, 0x70)],
+        Err(LoadError::NoAddends),
+    ),
+    (
+        &[(SLOTS - 8, TAG, 0x70), (RELA_EACH, WIDE, 16)],
+        Err(LoadError::NoSlots),
+    ),
+    (
+        &[(ADDRESS, WIDE, 0x1619), (SLOTS_KIND, WIDE, 8)],
+        Err(LoadError::FirstPacked),
+    ),
+    (
         &[(SLOTS_KIND, WIDE, 8), (BUCKETS, NARROW, 0x121)],
         Err(LoadError::SlotKind),
     ),
@@ -361,6 +513,11 @@ fn tables_of_class_64(rt: HostRuntime) {
 }
 
 #[test]
+fn records_of_class_64(rt: HostRuntime) {
+    check_rows::<DynEntry64>(&rt, file_64(), RECORDS_64);
+}
+
+#[test]
 fn words_of_class_64(rt: HostRuntime) {
     check_rows::<DynEntry64>(&rt, file_64(), WORDS_64);
 }
@@ -384,99 +541,10 @@ fn marks_and_objects(rt: HostRuntime) {
     want_at(&rt, "no plan", unplanned, wanted);
     let found = checked::<DynEntry64>(&rt, &file, 0, &mut [0; MARKS - 1]);
     want_at(&rt, "a byte less", found, Err(LoadError::FewMarks));
+    let mut other = file_64();
+    set(&mut other, SLOT, KIND, 1, Order::Little);
+    let found = checked::<DynEntry64>(&rt, &other, 0, &mut []);
+    want_at(&rt, "a slot and no marks", found, Err(LoadError::SlotType));
     let found = checked::<DynEntry64>(&rt, &file, 0, &mut [0; MARKS + 1]);
     want_at(&rt, "a byte more", found, Ok(()));
-}
-
-// The program headers and the entries of class 32, and the relocations, of 8 bytes each.
-const LOAD_32: usize = 64;
-
-const DYNAMIC_32: usize = 96;
-
-const ENTRIES_32: &[(u64, u64)] = &[
-    (17, 0x1240),
-    (18, 16),
-    (19, 8),
-    (23, 0x1250),
-    (2, 8),
-    (20, 17),
-    (36, 0x1260),
-    (35, 4),
-    (37, 4),
-];
-
-// The numbers of these entries.
-const REL: usize = 0x324;
-
-const REL_SIZE: usize = 0x32c;
-
-const REL_EACH: usize = 0x334;
-
-const KIND_32: usize = 0x34c;
-
-const PACKED_SIZE_32: usize = 0x35c;
-
-const PACKED_EACH_32: usize = 0x364;
-
-// A file for 386 whose words are at 0x1600, 0x1604, 0x1608 and 0x160c, of 4 bytes each.
-fn file_32() -> [u8; SIZE] {
-    let mut file = base_file(1, 3, ENTRIES_32);
-    for &(start, place, value) in &[
-        (LOAD_32, program_32::MEM_SIZE, SIZE as u64),
-        (LOAD_32, program_32::FLAGS, 6),
-        (DYNAMIC_32, program_32::MEM_SIZE, 0x200),
-        (DYNAMIC_32, program_32::FLAGS, 6),
-        (TABLE, NARROW, 0x1600),
-        (TABLE + 4, NARROW, 8),
-        (TABLE + 8, NARROW, 0x1604),
-        (TABLE + 12, NARROW, 0x101),
-        (TABLE + 16, NARROW, 0x1608),
-        (TABLE + 20, NARROW, 0x107),
-        (TABLE + 32, NARROW, 0x160c),
-    ] {
-        set(&mut file, start, place, value, Order::Little);
-    }
-    file
-}
-
-const ALL_32: &[Row] = &[
-    (&[], Ok(())),
-    (&[(REL_EACH, NARROW, 12)], Err(LoadError::RelocationSize)),
-    (
-        &[(PACKED_EACH_32, NARROW, 8)],
-        Err(LoadError::RelocationSize),
-    ),
-    (&[(REL_SIZE, NARROW, 15)], Err(LoadError::NotMultiple)),
-    (&[(PACKED_SIZE_32, NARROW, 3)], Err(LoadError::NotMultiple)),
-    // slots of 12 bytes
-    (&[(KIND_32, NARROW, 7)], Err(LoadError::NotMultiple)),
-    (&[(KIND_32, NARROW, 8)], Err(LoadError::SlotKind)),
-    (&[(REL, NARROW, 0x9000)], Err(LoadError::Unreadable)),
-    (&[(0, header_32::MACHINE, 62)], Err(LoadError::Machine)),
-    (&[(TABLE + 4, NARROW, 9)], Err(LoadError::WordType)),
-    (&[(TABLE, NARROW, 0x167c)], Ok(())),
-    // the addend is the word there
-    (
-        &[(TABLE, NARROW, 0x167d)],
-        Err(LoadError::Link(LinkError::Address)),
-    ),
-    (&[(TABLE, NARROW, 0x1601)], Err(LoadError::WordsOverlap)),
-    (&[(TABLE, NARROW, 0x15fc)], Ok(())),
-    (
-        &[(TABLE + 16, NARROW, 0x1607)],
-        Err(LoadError::WordsOverlap),
-    ),
-    (
-        &[(TABLE + 32, NARROW, 0x1606)],
-        Err(LoadError::WordsOverlap),
-    ),
-    (&[(TABLE, NARROW, 0x1268)], Ok(())),
-    (&[(TABLE, NARROW, 0x1263)], Err(LoadError::WordInTable)),
-    (&[(TABLE, NARROW, 0x1180)], Ok(())),
-    (&[(TABLE, NARROW, 0x117f)], Err(LoadError::WordInTable)),
-];
-
-#[test]
-fn class_32(rt: HostRuntime) {
-    check_rows::<DynEntry32>(&rt, file_32(), ALL_32);
 }

@@ -20,6 +20,32 @@ const ERRORS: &[(LoadError, u32, &str)] = &[
         318,
         "Image is not of the size of the span",
     ),
+    (LoadError::Version, 339, "Version of the file is not 1"),
+    (
+        LoadError::Entry,
+        342,
+        "Entry point is past the address limit",
+    ),
+    (
+        LoadError::FirstPacked,
+        345,
+        "First packed relocation is not an address",
+    ),
+    (
+        LoadError::SlotType,
+        347,
+        "Type of a relocation is not for the procedure linkage table",
+    ),
+    (
+        LoadError::CopyKind,
+        349,
+        "Symbol to copy is absolute or an indirect function",
+    ),
+    (
+        LoadError::Addends,
+        351,
+        "Relocations with addends in a file of class 32",
+    ),
 ];
 
 #[test]
@@ -32,6 +58,6 @@ fn errors_have_numbers_and_texts(rt: HostRuntime) -> Result<(), AllocError> {
         want_at(&rt, number, printed.as_str(), text);
     }
     want_at(&rt, 300, LoadError::with_number(300), None);
-    want_at(&rt, 334, LoadError::with_number(334), None);
+    want_at(&rt, 352, LoadError::with_number(352), None);
     Ok(())
 }

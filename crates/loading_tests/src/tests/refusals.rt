@@ -82,6 +82,16 @@ const CHANGES: &[(&[Change], Option<LoadError>)] = &[
         &[(1, program_64::MEM_SIZE, 0x7fff_ffff_cf01)],
         Some(LoadError::Range),
     ),
+    // No memory, at the limit: Linux kills the program.
+    (
+        &[
+            (1, program_64::FILE_SIZE, 0),
+            (1, program_64::MEM_SIZE, 0),
+            (1, program_64::OFFSET, 0),
+            (1, program_64::VIRTUAL_ADDR, LIMIT),
+        ],
+        Some(LoadError::Range),
+    ),
     (&[(1, program_64::FILE_SIZE, 0xf00)], None),
     (&[(1, program_64::FILE_SIZE, 0xf01)], Some(LoadError::Data)),
     (&[(1, program_64::FILE_SIZE, 0)], None),
@@ -156,6 +166,24 @@ const CHANGES: &[(&[Change], Option<LoadError>)] = &[
         ],
         None,
     ),
+    // Linux kills a program without an interpreter.
+    (
+        &[
+            (HEADER, header_64::ENTRY_POINT, LIMIT),
+            (2, program_64::TYPE, 0),
+            (5, program_64::TYPE, 0),
+        ],
+        Some(LoadError::Entry),
+    ),
+    (
+        &[
+            (HEADER, header_64::ENTRY_POINT, LIMIT - 1),
+            (2, program_64::TYPE, 0),
+            (5, program_64::TYPE, 0),
+        ],
+        None,
+    ),
+    (&[(HEADER, header_64::ENTRY_POINT, LIMIT)], None),
     (
         &[
             (HEADER, header_64::TYPE, 1),

@@ -66,7 +66,28 @@ fn each_type_writes_its_value(rt: HostRuntime) {
             want_at(&rt, (kind, symbol, addend), found, Ok(word));
         }
     }
-    let file = file_of(62, 9, 1, 0);
-    let found = word_of(&rt, &file, 62, Binding::Now);
-    want_at(&rt, (9, 1, 0), found, Err(LoadError::WordType));
+}
+
+// The machine, the type and the symbol of a relocation whose word has an error: symbol 2 is in no
+// object, 4 is absolute, and 5 is an indirect function.
+const ERRORS: &[(u64, u64, u64, LoadError)] = &[
+    (62, 9, 1, LoadError::WordType),
+    (62, 33, 2, LoadError::NoSize),
+    (62, 32, 2, LoadError::NoSize),
+    (3, 38, 2, LoadError::NoSize),
+    (62, 5, 4, LoadError::CopyKind),
+    (62, 5, 5, LoadError::CopyKind),
+    (3, 5, 4, LoadError::CopyKind),
+    (183, 1024, 5, LoadError::CopyKind),
+    (62, 37, 1, LoadError::CallSymbol),
+    (183, 1032, 2, LoadError::CallSymbol),
+];
+
+#[test]
+fn words_of_no_value_have_an_error(rt: HostRuntime) {
+    for &(machine, kind, symbol, error) in ERRORS {
+        let file = file_of(machine, kind, symbol, 0);
+        let found = word_of(&rt, &file, machine, Binding::Now);
+        want_at(&rt, (kind, symbol), found, Err(error));
+    }
 }

@@ -7,10 +7,12 @@ use Rattle.elf_addresses.proofs.pieces.section_words.Goals as goal
 pub returns-clause-count : goal.returns-clause-count
 returns-clause-count c =
     let few = section_words c.new.result.file.now in
-    let same : c.index_words.result ≡ word_count (section_claim c.new.result.file.now) (length (section_parts c.new.result.file.now)) = omega (arith, few, c.index_words.ensures) in
-    subst (λ f. c.index_words.result ≡ word_count (section_claim f) (length (section_parts f))) c.new.ensures same
+    let sized = c.index_size.ensures.sized in
+    let open_ones = c.index_size.ensures.open in
+    let same : c.words.result ≡ word_count (section_claim c.new.result.file.now) (length (section_parts c.new.result.file.now)) = omega (arith, few, sized, open_ones, c.words.ensures) in
+    subst (λ f. c.words.result ≡ word_count (section_claim f) (length (section_parts f))) c.new.ensures same
 
 pub returns-clause-few : goal.returns-clause-few
 returns-clause-few c =
     let few = section_words c.new.result.file.now in
-    omega (arith, few, c.index_words.ensures)
+    omega (arith, few, c.index_size.ensures.sized, c.index_size.ensures.open, c.words.ensures)

@@ -11,4 +11,4 @@ invariant-loop-place g l =
     let claim_of = claim_of_symbols g.E.Entry.fields symbols l.index.claims.within in
     AreSoFar (IsAnswer claim_of (map g.E.Entry.fields (symbol_items symbols))
     (IsWellBuilt claim_of (range_of_symbols g.E.Entry.fields symbols)
-    l.index.sized.now l.index.lasting.now l.index.starts.now)) l.addresses l.initial.out l.place l.out
+    l.index.sized.now l.index.begins.now l.index.sizes.now l.index.lasting.now l.index.starts.now)) l.addresses l.initial.out l.place l.out

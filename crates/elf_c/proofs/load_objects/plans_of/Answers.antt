@@ -2,7 +2,7 @@ use Rattle.std.proofs.Common.{◌≡◌, [], length, refl, subst, ◌∙◌, ari
 use Rattle.std.proofs.lemmas.List.{length-set}
 use Rattle.std.proofs.lemmas.Option.{slice_get_read}
 use Rattle.elf_c.specs.LoadObjects.{AreFirstMade, IsPlanFor, LacksPlan}
-use Rattle.elf_c.proofs.LoadObjects.{all_made, first_made, one_more_made, unmade_at}
+use Rattle.elf_c.proofs.LoadObjects.{all_made, first_made, one_more_made, unmade_first}
 use Rattle.elf_c.proofs.load_objects.plans_of.Goals as goal
 
 pub returns-in-Err : goal.returns-in-Err
@@ -10,7 +10,7 @@ returns-in-Err g c =
     let objects = c.args.objects.now in
     let object = c.index-objects-0.result in
     let there = slice_get_read objects (length objects) 0 object refl c.requires.some c.index-objects-0.is in
-    unmade_at (IsPlanFor c.args.page c.args.limit) objects (LacksPlan c.args.page c.args.limit) 0 object [] c.in-Err.error there (λ index load below is. absurd (omega (arith, below))) c.in-Err.ensures
+    unmade_first (IsPlanFor c.args.page c.args.limit) objects (LacksPlan c.args.page c.args.limit) 0 object [] c.in-Err.error there (λ index load below is. absurd (omega (arith, below))) c.in-Err.ensures
 
 pub loop-index-init : goal.loop-index-init
 loop-index-init g c =
@@ -27,7 +27,7 @@ returns-in-Err-read_plan g c =
     let index = c.loop-index.index in
     let object = c.index-objects-index.result in
     let there = slice_get_read objects (length objects) index object refl c.loop-index-test.true c.index-objects-index.is in
-    unmade_at (IsPlanFor c.args.page c.args.limit) objects (LacksPlan c.args.page c.args.limit) index object c.loop-index.plans c.in-Err-read_plan.error there c.loop-index.invariant.first c.in-Err-read_plan.ensures
+    unmade_first (IsPlanFor c.args.page c.args.limit) objects (LacksPlan c.args.page c.args.limit) index object c.loop-index.plans c.in-Err-read_plan.error there c.loop-index.invariant.first c.in-Err-read_plan.ensures
 
 pub loop-index-preserved : goal.loop-index-preserved
 loop-index-preserved g c =

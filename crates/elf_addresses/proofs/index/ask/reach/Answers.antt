@@ -1,41 +1,36 @@
-use Rattle.std.proofs.Common.{◌≡◌, ◌+◌, ◌-◌, ◌<◌, true, false, length, is_some, arith}
-use Rattle.elf_addresses.proofs.Ask.{among_at, none_at_first, none_from, none_from_next, none_reached, reached}
+use Rattle.std.proofs.Common.{◌≡◌, ◌≤◌, ◌<◌, ◌+◌, max, length, slice_index, IfSome, MatchOption, refl, subst}
+use Rattle.elf_addresses.specs.Index.{NoneCovers}
+use Rattle.elf_addresses.proofs.Ask.{none_reached}
+use Rattle.elf_addresses.proofs.Near.{foremost_there, none_there, rising_begins}
 use Rattle.elf_addresses.proofs.index.ask.reach.Goals as goal
 
-pub loop-count-init : goal.loop-count-init
-loop-count-init g c =
-    let claims = c.args.claims.now in (
-      omega arith,
-      λ wf are. none_at_first (g.C.Claims.claim_of claims) (g.C.Claims.range_of claims) (λ i claim is. g.C.Claims.ranged claims i claim is) c.args.sized.now c.count_begun-count.result c.args.address (c.count_begun-count.ensures.rest false wf),
-    )
-
-pub returns-then-is_some-clause-covers : goal.returns-then-is_some-clause-covers
-returns-then-is_some-clause-covers g c =
+pub returns-in-Some-clause-foremost : goal.returns-in-Some-clause-foremost
+returns-in-Some-clause-foremost g c = λ wf are blocks.
     let claims = c.args.claims.now in
-    among_at (g.C.Claims.claim_of claims) (g.C.Claims.range_of claims) (λ i claim is. g.C.Claims.ranged claims i claim is) _ c.args.address c.covering-found.result c.covering-found.ensures
+    let claim_of = g.C.Claims.claim_of claims in
+    let range_of = g.C.Claims.range_of claims in
+    let words = c.args.sized.now in
+    let begins = c.args.begins.now in
+    let sizes = c.args.sizes.now in
+    let address = c.args.address in
+    let place = c.in-Some.place in
+    let rising = rising_begins claim_of range_of (λ i claim is. g.C.Claims.ranged claims i claim is) words begins sizes are wf in
+    let covers = subst (λ o. IfSome o (λ k. (k < length begins) × (slice_index begins k ≤ address) × (address < slice_index begins k + max (slice_index sizes k) 1))) c.in-Some.is c.reach_place-place.ensures.covers in
+    let none = subst (λ o. MatchOption o (NoneCovers begins sizes 0 address) (λ k. NoneCovers begins sizes (k + 1) address)) c.in-Some.is (c.reach_place-place.ensures.last range_of words are blocks rising) in
+    let within : place < length words = subst (λ n. place < n) are.begin_count covers.0 in
+    foremost_there claim_of range_of (λ i claim is. g.C.Claims.ranged claims i claim is) words begins sizes are (λ i claim is. g.C.Claims.own claims i claim is) place address wf within covers.1 covers.2 none c.known_covering.result
+    (λ claim is covering. c.known_covering.ensures.known claim (within, is) covering)
 
-pub returns-then-is_some-clause-foremost : goal.returns-then-is_some-clause-foremost
-returns-then-is_some-clause-foremost g c = λ wf are.
+pub returns-in-None-clause-foremost : goal.returns-in-None-clause-foremost
+returns-in-None-clause-foremost g c = λ wf are blocks.
     let claims = c.args.claims.now in
-    let h : is_some c.covering-found.result ≡ true = cc in
-    let last = c.loop-count.count - 1 in
-    let at : c.loop-count.count ≡ last + 1 = omega arith in
-    let within : last < length c.args.sized.now = omega arith in
-    reached (g.C.Claims.claim_of claims) (g.C.Claims.range_of claims) (λ i claim is. g.C.Claims.ranged claims i claim is) c.args.sized.now c.loop-count.count last c.args.address at within wf (c.loop-count.invariant.1 wf are) c.covering-found.result h c.covering-found.ensures
-
-pub loop-count-preserved : goal.loop-count-preserved
-loop-count-preserved g c =
-    let claims = c.args.claims.now in
-    let h : is_some c.covering-found.result ≡ false = cc in
-    let last = c.loop-count.count - 1 in
-    let at : c.loop-count.count ≡ last + 1 = omega arith in (
-      omega arith,
-      λ wf are. none_from_next (g.C.Claims.claim_of claims) (g.C.Claims.range_of claims) (λ i claim is. g.C.Claims.ranged claims i claim is) c.args.sized.now c.loop-count.count last c.step_back-count.result c.args.address at (c.loop-count.invariant.1 wf are)
-          (none_from _ _ c.covering-found.result h c.covering-found.ensures)
-          (c.step_back-count.ensures.passed are),
-    )
-
-pub returns-clause-foremost : goal.returns-clause-foremost
-returns-clause-foremost g c = λ wf are.
-    let claims = c.args.claims.now in
-    none_reached (g.C.Claims.claim_of claims) (g.C.Claims.range_of claims) (λ i claim is. g.C.Claims.ranged claims i claim is) c.args.sized.now c.loop-count.count c.args.address (omega arith) wf (c.loop-count.invariant.1 wf are)
+    let claim_of = g.C.Claims.claim_of claims in
+    let range_of = g.C.Claims.range_of claims in
+    let words = c.args.sized.now in
+    let begins = c.args.begins.now in
+    let sizes = c.args.sizes.now in
+    let address = c.args.address in
+    let rising = rising_begins claim_of range_of (λ i claim is. g.C.Claims.ranged claims i claim is) words begins sizes are wf in
+    let none = subst (λ o. MatchOption o (NoneCovers begins sizes 0 address) (λ k. NoneCovers begins sizes (k + 1) address)) c.in-None.is (c.reach_place-place.ensures.last range_of words are blocks rising) in
+    none_reached claim_of range_of (λ i claim is. g.C.Claims.ranged claims i claim is) words 0 address refl wf
+    (none_there claim_of range_of (λ i claim is. g.C.Claims.ranged claims i claim is) words begins sizes are 0 address none)

@@ -1,6 +1,6 @@
-use Rattle.std.proofs.Common.{◌≡◌, false, true, length, refl, arith}
+use Rattle.std.proofs.Common.{◌≡◌, ◌++◌, ℕ, false, true, List, length, refl, ap, ◌∙◌, arith}
 use Rattle.elf_addresses.specs.Index.{listed}
-use Rattle.elf_addresses.proofs.Build.{built}
+use Rattle.elf_addresses.proofs.Build.{built, numbers_kept, words_kept}
 use Rattle.elf_addresses.proofs.index.build.build_index.Goals as goal
 
 pub returns-clause-built : goal.returns-clause-built
@@ -12,4 +12,39 @@ returns-clause-built g c =
     let one : length c.fill_orders.new.sized ≡ length (listed claim_of false (g.C.Claims.count claims)) = omega (arith, sized) in
     let other : length c.fill_lasting.new.lasting ≡ length (listed claim_of false (g.C.Claims.count claims)) = omega (arith, one, c.fill_lasting.ensures.count) in
     let last : length c.fill_orders.new.starts ≡ length (listed claim_of true (g.C.Claims.count claims)) = omega (arith, opens) in
-    built claim_of (g.C.Claims.range_of claims) (g.C.Claims.count claims) c.fill_orders.new.sized c.fill_lasting.new.lasting c.fill_orders.new.starts c.split_at_mut-starts.result.1.now _ refl one other last c.fill_orders.ensures.sized c.fill_lasting.ensures c.fill_orders.ensures.starts
+    let ranges = c.fill_ranges.ensures.ranges in
+    let begins : length c.fill_ranges.new.begins ≡ length (listed claim_of false (g.C.Claims.count claims)) = omega (arith, one, ranges.begin_count) in
+    let sizes : length c.fill_ranges.new.sizes ≡ length (listed claim_of false (g.C.Claims.count claims)) = omega (arith, one, ranges.size_count) in
+    built claim_of (g.C.Claims.range_of claims) (g.C.Claims.count claims) c.fill_orders.new.sized c.fill_lasting.new.lasting c.fill_orders.new.starts c.split_at_mut-starts.result.1.now _ c.fill_ranges.new.begins c.fill_ranges.new.sizes c.split_at_mut-sizes.result.1.now _ refl refl one other last begins sizes c.fill_orders.ensures.sized ranges c.fill_lasting.ensures c.fill_orders.ensures.starts
+
+pub returns-clause-rest : goal.returns-clause-rest
+returns-clause-rest g c =
+    let claims = c.args.claims.now in
+    let claim_of = g.C.Claims.claim_of claims in
+    let m = length (listed claim_of false (g.C.Claims.count claims)) in
+    let n = length (listed claim_of true (g.C.Claims.count claims)) in
+    let sized = c.count_kinds-sized.ensures.sized in
+    let opens = c.count_kinds-sized.ensures.starts in
+    let one : length c.fill_orders.new.sized ≡ m = omega (arith, sized) in
+    let other : length c.fill_lasting.new.lasting ≡ m = omega (arith, one, c.fill_lasting.ensures.count) in
+    let last : length c.fill_orders.new.starts ≡ n = omega (arith, opens) in
+    let first = c.split_at_mut-order in
+    let second = c.split_at_mut-lasting in
+    let third = c.split_at_mut-starts in
+    let was : c.args.words.now ≡ first.result.0.now ++ (second.result.0.now ++ (third.result.0.now ++ third.result.1.now)) = first.ensures.value ∙ ap (λ (xs : List ℕ). first.result.0.now ++ xs) (second.ensures.value ∙ ap (λ (xs : List ℕ). second.result.0.now ++ xs) third.ensures.value) in
+    words_kept m n c.fill_orders.new.sized c.fill_lasting.new.lasting c.fill_orders.new.starts third.result.1.now first.result.0.now second.result.0.now third.result.0.now _ c.args.words.now refl was one other last (first.ensures.front_len ∙ sized) (second.ensures.front_len ∙ sized) (third.ensures.front_len ∙ opens)
+
+pub returns-clause-rest_numbers : goal.returns-clause-rest_numbers
+returns-clause-rest_numbers g c =
+    let claims = c.args.claims.now in
+    let claim_of = g.C.Claims.claim_of claims in
+    let m = length (listed claim_of false (g.C.Claims.count claims)) in
+    let sized = c.count_kinds-sized.ensures.sized in
+    let one : length c.fill_orders.new.sized ≡ m = omega (arith, sized) in
+    let ranges = c.fill_ranges.ensures.ranges in
+    let begins : length c.fill_ranges.new.begins ≡ m = omega (arith, one, ranges.begin_count) in
+    let sizes : length c.fill_ranges.new.sizes ≡ m = omega (arith, one, ranges.size_count) in
+    let first = c.split_at_mut-begins in
+    let second = c.split_at_mut-sizes in
+    let was : c.args.numbers.now ≡ first.result.0.now ++ (second.result.0.now ++ second.result.1.now) = first.ensures.value ∙ ap (λ (xs : List ℕ). first.result.0.now ++ xs) second.ensures.value in
+    numbers_kept m c.fill_ranges.new.begins c.fill_ranges.new.sizes second.result.1.now first.result.0.now second.result.0.now _ c.args.numbers.now refl was begins sizes (first.ensures.front_len ∙ sized) (second.ensures.front_len ∙ sized)

@@ -10,5 +10,5 @@ returns-clause-built c =
     let self = c.args.self.now in
     let file = self.sections.file.now in
     let words = self.segment_words in
-    let built = well_built (segment_claim file) (segment_range_at file) (length (segment_parts file)) (λ i claim is. range_index i (segment_range_at file i) claim is) (λ i claim is. range_within segment_range (byte_count file) (segment_parts file) i claim is) words.sized.now words.lasting.now words.starts.now self.segments_held in
-    subst (λ f. IsWellBuilt (segment_claim f) (segment_range_at f) words.sized.now words.lasting.now words.starts.now) (sym self.same_file) built
+    let built = well_built (segment_claim file) (segment_range_at file) (length (segment_parts file)) (λ i claim is. range_index i (segment_range_at file i) claim is) (λ i claim is. range_within segment_range (byte_count file) (segment_parts file) i claim is) words.sized.now words.begins.now words.sizes.now words.lasting.now words.starts.now self.segments_held in
+    subst (λ f. IsWellBuilt (segment_claim f) (segment_range_at f) words.sized.now words.begins.now words.sizes.now words.lasting.now words.starts.now) (sym self.same_file) built

@@ -28,7 +28,7 @@ returns-in-Some-clause-open_below g c = λ wb.
     let fields = g.E.Entry.fields in
     let claims = c.args.self.now.claims in
     let there = c.index.result in
-    let wb' : IsWellBuilt (claim_of_symbols fields there.claims.now.symbols.now there.claims.now.within) (range_of_symbols fields there.claims.now.symbols.now) there.sized.now there.lasting.now there.starts.now = rw (c.index.ensures.claims, c.index.ensures.sized, c.index.ensures.lasting, c.index.ensures.starts) wb in
+    let wb' : IsWellBuilt (claim_of_symbols fields there.claims.now.symbols.now there.claims.now.within) (range_of_symbols fields there.claims.now.symbols.now) there.sized.now there.begins.now there.sizes.now there.lasting.now there.starts.now = rw (c.index.ensures.claims, c.index.ensures.sized, c.index.ensures.begins, c.index.ensures.sizes, c.index.ensures.lasting, c.index.ensures.starts) wb in
     let below = subst (λ k. FindsOpenBelow (claim_of_symbols fields k.symbols.now k.within) c.args.address (Some c.in-Some.claim)) c.index.ensures.claims (c.in-Some.ensures.open_below wb') in
     open_symbol fields claims.symbols.now claims.within c.args.address c.args.section c.in-Some.claim c.told.result c.if_in_section.result below c.told.ensures.claim c.told.ensures.tells c.if_in_section.ensures
 
@@ -36,6 +36,6 @@ pub returns-in-None-clause-open_below : goal.returns-in-None-clause-open_below
 returns-in-None-clause-open_below g c = λ wb.
     let fields = g.E.Entry.fields in
     let there = c.index.result in
-    let wb' : IsWellBuilt (claim_of_symbols fields there.claims.now.symbols.now there.claims.now.within) (range_of_symbols fields there.claims.now.symbols.now) there.sized.now there.lasting.now there.starts.now = rw (c.index.ensures.claims, c.index.ensures.sized, c.index.ensures.lasting, c.index.ensures.starts) wb in
+    let wb' : IsWellBuilt (claim_of_symbols fields there.claims.now.symbols.now there.claims.now.within) (range_of_symbols fields there.claims.now.symbols.now) there.sized.now there.begins.now there.sizes.now there.lasting.now there.starts.now = rw (c.index.ensures.claims, c.index.ensures.sized, c.index.ensures.begins, c.index.ensures.sizes, c.index.ensures.lasting, c.index.ensures.starts) wb in
     let none = subst (λ k. FindsOpenBelow (claim_of_symbols fields k.symbols.now k.within) c.args.address None) c.index.ensures.claims (c.in-None.ensures.open_below wb') in
     λ at is. none _ is.below

@@ -1,0 +1,5 @@
+//! Tests of separate debug files.
+#![tactic(auto)]
+
+#[cfg(test)]
+mod tests;

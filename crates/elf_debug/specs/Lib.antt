@@ -1,0 +1,3 @@
+pub mod Crc
+pub mod Paths
+pub mod Wanted

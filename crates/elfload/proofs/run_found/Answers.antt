@@ -1,0 +1,23 @@
+use Rattle.std.proofs.Common.{◌≡◌, List, subst}
+use Rattle.std.specs.Prelude.{◌⊎◌}
+use Rattle.elfload.specs.Files.{AreLoaded, HasStatic}
+use Rattle.elfload.specs.Images.{AreImagesGood}
+use Rattle.elfload.proofs.run_found.Goals as goal
+use Rattle.linking_programs.specs.declared.Input.{Input}
+use Rattle.program_libraries.specs.Complete.{IsComplete}
+use Rattle.program_libraries.specs.declared.objects.Object.{Object}
+
+pub returns-in-Some-clause-complete : goal.returns-in-Some-clause-complete
+returns-in-Some-clause-complete g c = λ zero. subst (λ (objects : List Object). IsComplete c.args.files.now objects) c.deref.ensures.value
+    (c.say_missing-missing.ensures (c.with_missing.ensures.whole zero))
+
+pub returns-in-Some-clause-good : goal.returns-in-Some-clause-good
+returns-in-Some-clause-good g c = λ zero.
+    let page = c.args.asked.page in
+    let kept : c.run.result ≡ 0 = c.with_missing.ensures.kept zero in
+    record {
+      inputs = c.in-Some.inputs.items;
+      inputs_are = c.in-Some.ensures;
+      loaded = subst (λ (inputs : List Input). AreLoaded page inputs) c.deref-in-Some.ensures.value (c.run.ensures.loaded kept);
+      checked = subst (λ (inputs : List Input). HasStatic inputs ⊎ AreImagesGood _ _ page inputs) c.deref-in-Some.ensures.value (c.run.ensures.checked kept);
+    }

@@ -1,0 +1,16 @@
+//! A file of two that are compared.
+
+ghost use Rattle.elfsize.specs.Symbols.{AreFew};
+
+use crate::symbols::Symbols;
+use xmas_elf::ElfFile;
+
+/// A file with the symbols that own its bytes.
+#[derive(Drop)]
+pub struct Side<'a> {
+    /// The file.
+    pub file: ElfFile<'a>,
+    /// Its symbols.
+    pub symbols: Symbols<'a>,
+    ghost few: { AreFew symbols },
+}

@@ -1,0 +1,3 @@
+pub mod FoundNames
+pub mod ListedInputs
+pub mod Served
