@@ -16,6 +16,19 @@ type Wanted = (&'static str, i32, u64, u64);
 
 type Row = (&'static [Part], &'static [Part], &'static [Wanted]);
 
+// Symbols, the largest first.
+const SYMBOLS: &[Part] = &[
+    (2, "table", 6, 32),
+    (2, "helper", 5, 30),
+    (2, "two", 9, 29),
+    (2, "one", 7, 23),
+    (2, "gone", 8, 12),
+    (2, "helper", 3, 5),
+];
+
+// One name in two kinds.
+const TWO_KINDS: &[Part] = &[(0, "a", 0, 5), (2, "a", 2, 6)];
+
 const ROWS: &[Row] = rows! {
     // sections
     &[(0, ".text", 1, 87), (0, ".rela.text", 2, 24), (0, ".eh_frame", 3, 152),
@@ -30,15 +43,14 @@ const ROWS: &[Row] = rows! {
         (".data", 0, 44, 32), (".shstrtab", 0, 89, 97), (".comment", 0, 80, 80),
         (".rela.text", 0, 24, 24)];
     // symbols, two of one name, with the largest first as a report of sizes has them
-    &[(2, "table", 6, 32), (2, "helper", 5, 30), (2, "two", 9, 29), (2, "one", 7, 23),
-        (2, "gone", 8, 12), (2, "helper", 3, 5)],
+    SYMBOLS,
         &[(2, "two", 11, 54), (2, "helper", 5, 46), (2, "table", 7, 32), (2, "three", 12, 30),
         (2, "note", 10, 24), (2, "one", 8, 19), (2, "third", 6, 18), (2, "helper", 3, 5)],
         &[("three", 1, 0, 30), ("two", 0, 29, 54), ("note", 1, 0, 24), ("third", 1, 0, 18),
         ("helper", 0, 30, 46), ("gone", -1, 12, 0), ("one", 0, 23, 19), ("helper", 0, 5, 5),
         ("table", 0, 32, 32)];
     // one name in two kinds
-    &[(0, "a", 0, 5), (2, "a", 2, 6)], &[(2, "a", 3, 7), (3, "a", 4, 4)],
+    TWO_KINDS, &[(2, "a", 3, 7), (3, "a", 4, 4)],
         &[("a", -1, 5, 0), ("a", 1, 0, 4), ("a", 0, 6, 7)];
     // more of a name in one file than in the other, without a name, and of one size
     &[(1, "", 0, 8), (1, "", 4, 8), (1, "", 8, 8)], &[(1, "", 0, 8)],
@@ -115,17 +127,9 @@ fn rows_of_two_files(rt: HostRuntime) -> Result<(), Fail> {
     Ok(())
 }
 
-// The parts of the old file of a row.
-fn old_parts(index: usize) -> &'static [Part] {
-    match ROWS.get(index) {
-        Some(row) => row.0,
-        None => &[],
-    }
-}
-
 #[test]
 fn too_little_room(rt: HostRuntime) -> Result<(), Fail> {
-    let mut old = parts_of(rt.alloc(), old_parts(2))?;
+    let mut old = parts_of(rt.alloc(), TWO_KINDS)?;
     let mut changes = vec![in rt.alloc(); Change::New(NO_PART); 1]?;
     let found = differences(&mut old, &mut [], &mut changes).is_some();
     want_at(&rt, 2, found, false);
@@ -142,7 +146,7 @@ fn want_places(rt: &impl Abort, parts: &[SizedPart<'_>], places: &[usize]) {
 
 #[test]
 fn parts_are_sorted_if_there_is_room(rt: HostRuntime) -> Result<(), Fail> {
-    let mut old = parts_of(rt.alloc(), old_parts(1))?;
+    let mut old = parts_of(rt.alloc(), SYMBOLS)?;
     let mut changes = vec![in rt.alloc(); Change::New(NO_PART); 5]?;
     let found = differences(&mut old, &mut [], &mut changes).is_some();
     want_at(&rt, "5 of 6", found, false);
