@@ -282,7 +282,9 @@ BIND.add("only those that are missing", "--unresolved --alone libsecond.so", 1, 
 BIND.add("such a table to check", f"--check {CHAINED} caller", 1, f"{CHAINED}: Chain index is out of range\ncaller: ok\n")
 BIND.add("such definitions to check", "--check --alone cut.so", 1, "cut.so: Version record is cut off\n")
 
-LOAD_USAGE = f"elfload [--lazy] [--page <size>] [--alone | {SEARCH_USAGE}] <binary_path>.."
+LOAD_USAGE = (
+    f"elfload [--lazy] [--page <size>] [--alone | {SEARCH_USAGE}] <binary_path>.. | "
+    "elfload (--kernel | --glibc) [--page <size>] <binary_path>..")
 PLANS_ALONE = PLANS[: PLANS.index(b"words ")]
 # In pages of 16 KB the library takes more room, and its parts lie in others.
 LIBRARY_HEAD = PLANS[PLANS.index(b"library.so\n") : PLANS.rindex(b"kernel\n")]
@@ -326,6 +328,25 @@ LOAD.add("a file for aarch64", "--alone aarch64.elf", 1, COUNTER_PLAN.replace(b"
     "elfload: aarch64.elf: Type of a relocation is not supported\n")
 LOAD.add("a word in pages that cannot be written", "--alone word.elf", 1, COUNTER_PLAN.replace(b"counter", b"word.elf"),
     "elfload: word.elf: Word is in a load segment that is not writable\n")
+
+# What one loader maps. Linux reads no dynamic segment, glibc no interpreter, and neither asks that zeros can be written.
+LOAD.misused({
+    "no file for Linux": "--kernel", "no file for glibc after a size": "--glibc --page 4096", "both loaders": "--kernel --glibc counter",
+    "both loaders the other way": "--glibc --kernel counter", "a loader after a size": "--page 4096 --kernel counter",
+    "a loader with lazy slots": "--kernel --lazy counter", "a loader with a size that is zero": "--glibc --page 0 counter"})
+LOAD.prints({
+    "files that Linux maps": ("--kernel counter static.elf shut.elf", "counter: loads: yes\nstatic.elf: loads: yes\nshut.elf: loads: yes\n"),
+    "files that glibc maps": (
+        "--glibc --page 4096 library.so interpreter.elf shut.elf",
+        "library.so: loads: yes\ninterpreter.elf: loads: yes\nshut.elf: loads: yes\n")})
+LOAD.fails({
+    "a path that Linux does not take": ("--kernel interpreter.elf", "interpreter.elf: Path of the interpreter is not valid"),
+    "a machine without a limit for glibc": ("--glibc arm.elf", "arm.elf: Limit of addresses is not known for this machine"),
+    "pages that are too large for Linux": (
+        "--kernel --page 16384 counter", "counter: Address and offset of a load segment differ modulo the page size"),
+    "a missing file for Linux": ("--kernel counter missing.so", "cannot read missing.so")})
+LOAD.add("files between which glibc does not map two", "--glibc counter zeros.elf static.elf library.so", 1,
+    "counter: loads: yes\nlibrary.so: loads: yes\n", f"elfload: zeros.elf: {NO_MAGIC}\nelfload: static.elf: No dynamic segment\n")
 
 # places.so without its section headers, by what `readelf -lW` shows of its segments; the same with the bytes of sections by symbol,
 # by `readelf -SW` and `-sW`: `alias` has the range of `last`; and a file whose section headers are cut off, by `readelf -hlW`.

@@ -10,4 +10,5 @@ pub mod ObjectWords
 pub mod Checks
 pub mod FilePlans
 pub mod WordsEnds
+pub mod Statuses
 pub mod Prefixes

@@ -5,4 +5,5 @@ pub mod Images
 pub mod Plans
 pub mod Texts
 pub mod Types
+pub mod Verdicts
 pub mod Words

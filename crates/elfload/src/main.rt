@@ -7,6 +7,8 @@
 //! each file the words that its relocations write, as `word 0xADDRESS WIDTH TYPE = VALUE`. `--lazy`
 //! before the other options: jump slots get their symbols when they are called first. `--page SIZE` after
 //! this is the size of a page, 4096 without it.
+//!
+//! `elfload --kernel FILE..` and `elfload --glibc FILE..` write only whether one loader maps each file.
 #![tactic(auto)]
 
 ghost use Rattle.std.specs.Prelude.{◌≡◌, ◌<◌, ◌≤◌, ◌⊎◌, Err, IfErr, IfOk, IfSome, List, MatchResult, Ok};
@@ -18,6 +20,7 @@ ghost use Rattle.elfload.specs.Files.{AreLoaded, HasStatic};
 ghost use Rattle.elfload.specs.Found.{IsFoundGood};
 ghost use Rattle.elfload.specs.Images.{AreImagesGood, AreInputsChecked};
 ghost use Rattle.elfload.specs.Plans.{IsInputLoaded, IsInputPlan, IsInputRefused};
+ghost use Rattle.elfload.specs.Verdicts.{option_of};
 ghost use Rattle.elfload.specs.Words.{AreWordsWritten};
 ghost use Rattle.elfload.specs.declared.plans.Refusal.{Refusal};
 ghost use Rattle.linking_programs.specs.Files.{AreObjectsOf};
@@ -30,11 +33,12 @@ ghost use Rattle.program_libraries.specs.Complete.{IsComplete};
 use crate::files::all_dynamic;
 use crate::images::{check_images, read_plans};
 use crate::plans::{Plan, Refusal};
+use crate::verdicts::run_verdicts;
 use crate::words::WordsText;
 use elf_base::bytes::Record;
 use elf_linking::view::LinkedSymbol;
 use elf_linking::{DynamicObject, LinkError};
-use elf_loading::{Binding, LoadError};
+use elf_loading::{Binding, LoadError, Loader};
 use linking_programs::{Input, Refused, is_first_narrow, read_inputs, read_objects, refusal};
 use program_ends::{
     Fault, Stop, arguments, exit_code, fault_of, say, status_of, write_about, write_buffered,
@@ -51,13 +55,14 @@ use xmas_elf::symbol_table::{DynEntry32, DynEntry64};
 mod files;
 mod images;
 mod plans;
+mod verdicts;
 mod words;
 
 // What messages begin with.
 const NAME: &str = "elfload";
 
 const USAGE: &str =
-    "elfload [--lazy] [--page <size>] [--alone | [--root DIR] [--library-path LIST] [--cache FILE | --no-cache]] <binary_path>..";
+    "elfload [--lazy] [--page <size>] [--alone | [--root DIR] [--library-path LIST] [--cache FILE | --no-cache]] <binary_path>.. | elfload (--kernel | --glibc) [--page <size>] <binary_path>..";
 
 const HELP: &str =
     "Prints the header of each file, what else a loader asks for, and what Linux (kernel) and glibc map;
@@ -69,7 +74,10 @@ of one file are found; several files are in the order in which they are loaded.
 --root DIR           the program and its libraries are under DIR, the root of another system
 --library-path LIST  the value of LD_LIBRARY_PATH
 --cache FILE         another cache than /etc/ld.so.cache
---no-cache           no cache";
+--no-cache           no cache
+--kernel             only whether Linux maps each file as a program, by its own list of errors
+--glibc              only whether glibc maps each file as a library, by its own list of errors
+Without these two a file must pass a list that is stricter than both.";
 
 /// What is asked for.
 #[derive(Clone, Copy, Drop)]
@@ -395,6 +403,9 @@ fn run_on_arguments(rt: &HostRuntime) -> io::Result<u8> {
     if let Some(status) = write_about(NAME, USAGE, HELP, &words, &mut out, &mut err) {
         return Ok(status);
     }
+    if let Some((by, page, paths)) = asked_of_loader(&words) {
+        return Ok(run_on_each(rt, by, page, paths, &mut out, &mut err));
+    }
     let Some((asked, given)) = asked(&words) else {
         return Ok(say("usage", &USAGE, &mut out));
     };
@@ -440,6 +451,48 @@ fn run_on_files<W: Write, E: Write>(
     match read_inputs::<_, Refusal>(rt, paths) {
         Ok(inputs) => run(rt.alloc(), asked, &inputs, out, err),
         Err(fault) => say(NAME, &fault, err),
+    }
+}
+
+// Writes whether a loader maps each of the files at some paths, or which can't be read.
+fn run_on_each<W: Write, E: Write>(
+    rt: &HostRuntime,
+    by: Loader,
+    page: u64,
+    paths: &[String],
+    out: &mut W,
+    err: &mut E,
+) -> u8
+    requires { 0 < page }
+{
+    match read_inputs::<_, Refusal>(rt, paths) {
+        Ok(inputs) => run_verdicts(by, page, &inputs, out, err),
+        Err(fault) => say(NAME, &fault, err),
+    }
+}
+
+// The loader that is asked for, the size of a page, and the files, if one loader is asked for as it should be.
+fn asked_of_loader(arguments: &[String]) -> Option<(Loader, u64, &[String])>
+    ensures { IfSome result (λ asked. 0 < asked.1) }
+{
+    let (first, others) = arguments.split_first()?;
+    let by = loader_of(first.as_str())?;
+    let (page, paths) = page_of(others)?;
+    let (path, _) = paths.split_first()?;
+    if path.as_str().starts_with("--") {
+        return None;
+    }
+    Some((by, page, paths))
+}
+
+// The loader that an option names.
+fn loader_of(option: &str) -> Option<Loader>
+    ensures { IfSome result (λ by. option.now ≡ option_of by) }
+{
+    match option {
+        "--kernel" => Some(Loader::Kernel),
+        "--glibc" => Some(Loader::Glibc),
+        _ => None,
     }
 }
 

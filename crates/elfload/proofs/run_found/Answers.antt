@@ -1,4 +1,4 @@
-use Rattle.std.proofs.Common.{◌≡◌, List, subst}
+use Rattle.std.proofs.Common.{◌≡◌, ℕ, List, subst}
 use Rattle.std.specs.Prelude.{◌⊎◌}
 use Rattle.elfload.specs.Files.{AreLoaded, HasStatic}
 use Rattle.elfload.specs.Images.{AreImagesGood}
@@ -6,6 +6,11 @@ use Rattle.elfload.proofs.run_found.Goals as goal
 use Rattle.linking_programs.specs.declared.Input.{Input}
 use Rattle.program_libraries.specs.Complete.{IsComplete}
 use Rattle.program_libraries.specs.declared.objects.Object.{Object}
+
+-- the checks of the same inputs
+same_checked : (narrow_record wide_record : _) (page : ℕ) (one other : List Input) → one ≡ other → HasStatic one ⊎ AreImagesGood narrow_record wide_record page one → HasStatic other ⊎ AreImagesGood narrow_record wide_record page other
+same_checked narrow_record wide_record page one other same is =
+    subst (λ (inputs : List Input). HasStatic inputs ⊎ AreImagesGood narrow_record wide_record page inputs) same is
 
 pub returns-in-Some-clause-complete : goal.returns-in-Some-clause-complete
 returns-in-Some-clause-complete g c = λ zero. subst (λ (objects : List Object). IsComplete c.args.files.now objects) c.deref.ensures.value
@@ -19,5 +24,5 @@ returns-in-Some-clause-good g c = λ zero.
       inputs = c.in-Some.inputs.items;
       inputs_are = c.in-Some.ensures;
       loaded = subst (λ (inputs : List Input). AreLoaded page inputs) c.deref-in-Some.ensures.value (c.run.ensures.loaded kept);
-      checked = subst (λ (inputs : List Input). HasStatic inputs ⊎ AreImagesGood _ _ page inputs) c.deref-in-Some.ensures.value (c.run.ensures.checked kept);
+      checked = same_checked _ _ page _ _ c.deref-in-Some.ensures.value (c.run.ensures.checked kept);
     }
