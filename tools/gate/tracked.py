@@ -1,16 +1,19 @@
 #!/usr/bin/env python3
 """Fails for a tracked file above 300 kB whose name is on no page, and for a folder at the top that `docs/README.md` and
-CONTRIBUTING.md don't name. Such files are mostly the output of a tool, committed by mistake.
+CONTRIBUTING.md don't name: such files are mostly the output of a tool, committed by mistake. Fails for a line that git writes where
+two branches can't be merged.
 
     tools/gate/tracked.py
 """
 import pathlib
+import re
 import sys
 
 sys.path.insert(0, str(pathlib.Path(__file__).resolve().parents[1]))
 from pages.sources import ROOT, ended, git
 
 LIMIT = 300_000
+CONFLICT = re.compile(rb"^(<{7}|>{7}) ", re.M)
 
 
 if __name__ == "__main__":
@@ -21,4 +24,5 @@ if __name__ == "__main__":
     folders = sorted({it.parts[0] for it in files if len(it.parts) > 1})
     found = [f"{it}: more than {LIMIT} bytes, and no page names it" for it in large]
     found += [f"{it}/: neither docs/README.md nor CONTRIBUTING.md names it" for it in folders if f"{it}/" not in guides]
+    found += [f"{it}: a merge is not finished" for it in files if CONFLICT.search((ROOT / it).read_bytes())]
     sys.exit(ended(found, f"{len(found)} of {len(files)} files and {len(folders)} folders shouldn't be tracked"))

@@ -498,13 +498,17 @@ def test_why_a_file_is_not_loaded(tmp_path):
         assert raised.value.status == status
 
 
+def build(folder, *words):
+    """Compiles without the C library."""
+    subprocess.run(["gcc", "-O1", "-nostdlib", *words], check=True, cwd=folder)
+
+
 def program_and_library(folder):
     """A program with a copy of its library's number, the library, and both as objects."""
     (folder / "b.c").write_text("int number = 7; int *number_at = &number; int twice(void) { return 2 * *number_at; }\n")
     (folder / "a.c").write_text("extern int number; int twice(void); void _start(void) { number += twice(); }\n")
-    build = lambda *words: subprocess.run(["gcc", "-O1", "-nostdlib", *words], check=True, cwd=folder)  # noqa: E731
-    build("-shared", "-fPIC", "b.c", "-o", "libb.so")
-    build("-pie", "-fno-stack-protector", "a.c", "-o", "a", "-L.", "-lb")
+    build(folder, "-shared", "-fPIC", "b.c", "-o", "libb.so")
+    build(folder, "-pie", "-fno-stack-protector", "a.c", "-o", "a", "-L.", "-lb")
     program, library = (ElfFile.load_from_path(folder / it) for it in ("a", "libb.so"))
     objects = [LoadObject(program, 0x10000), LoadObject(library, 0x20000)]
     return program, library, objects
@@ -549,9 +553,9 @@ def test_words_of_all_objects_in_one_call(tmp_path):
     assert (raised.value.status, raised.value.of) == (Status.LOAD_UNRESOLVED, 0)
     # A library that needs what no object has is the third.
     (tmp_path / "c.c").write_text("int none(void); int asks(void) { return none(); }\n")
-    build("-shared", "-fPIC", "c.c", "-o", "libc.so", "-Wl,-z,undefs")
+    build(tmp_path, "-shared", "-fPIC", "c.c", "-o", "libnone.so", "-Wl,-z,undefs")
     with pytest.raises(ElfError, match="^Symbol is in no object: none$") as raised:
-        relocate_all([*objects, LoadObject(ElfFile.load_from_path(tmp_path / "libc.so"))])
+        relocate_all([*objects, LoadObject(ElfFile.load_from_path(tmp_path / "libnone.so"))])
     assert (raised.value.status, raised.value.of) == (Status.LOAD_UNRESOLVED, 2)
     for wrong, status in (([], Status.LINK_OBJECT_INDEX), ([objects[0]] + [objects[1]] * 64, Status.MANY_OBJECTS)):
         with pytest.raises(ElfError) as raised:
