@@ -28,7 +28,7 @@ blank_place line place feed last first begin end order within address = record {
   path = begin;
   order = order;
   within = within;
-  word = inr (last, (feed, first, end));
+  word = inr (last, feed, first, end);
   address = address;
 }
 
