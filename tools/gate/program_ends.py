@@ -39,6 +39,9 @@ LINKED, SYMBOLS = data("elfsym/data/versions.so"), data("elfsym/stdout")
 # its command are.
 NEEDS = data("elfsym/data/needs.so")
 PLACES, SIZES = data("elfaddr/data/places.so"), data("elfsize/stdout")
+# A file without a symbol table, and its debug file, by the link to it or by the build id, as crates/elfaddr/data/make.sh makes them.
+BARE, BARE_DEBUG = data("elfaddr/data/bare.so"), data("elfaddr/data/bare.debug")
+BY_ID = ".build-id/ab/cdef1234567890.debug"
 PLACES_SIZES = SIZES[: SIZES.index(b"counter\n")]
 # The same of counter alone, before the sums over both.
 COUNTER_SIZES = SIZES[len(PLACES_SIZES) : SIZES.index(b"all files\n")]
@@ -97,6 +100,10 @@ FILES = {
     "short.so": PLACES[: 0x450 + 9 * 64],
     # A dynamic entry more: a hash table of the ELF standard too, with a bucket and without chains.
     "both.so": with_number(PLACES, 0x260, 16, 0x2C0 << 64 | 4),
+    # In folders of their own: alone, with its debug file in `.debug`, and with other files in place of this one.
+    "bare.so": BARE, "bare.debug": BARE_DEBUG, "alone/bare.so": BARE, "sub/bare.so": BARE, "sub/.debug/bare.debug": BARE_DEBUG,
+    "other/bare.so": BARE, "other/bare.debug": PLACES,
+    f"ids/{BY_ID}": BARE_DEBUG, f"others/{BY_ID}": PLACES, f"bare/{BY_ID}": BARE, f"zeros/{BY_ID}": bytes(16),
     # The versions with a record of their definitions that leads out of its segment.
     "cut.so": with_number(LINKED, 0x238 + 16, 1, 0xFF),
     **{f"damaged-{place}.so": with_number(NEEDS, place, 1, byte) for place, byte, _ in NEEDS_ERRORS},
@@ -199,7 +206,7 @@ SYM.prints({
 
 # What crates/elfaddr/data/places.s says of these addresses.
 ADDR = Program(
-    "elfaddr", "elfaddr --stack | [--dynamic | --dladdr] <binary_path> (<address>.. | -)", ["0"],
+    "elfaddr", "elfaddr [--debug DIR | --no-debug] (--stack | [--dynamic | --dladdr] <binary_path> (<address>.. | -))", ["0"],
     ["places.so", "206", "0x208", "20A", "20c", "20f", "2c8"], b"outer+0x0\ninner+0x0\nouter+0x4\nlabel+0x0\n?\n.data+0x8\n", PLACES)
 ADDR.misused({
     "no address": "places.so", "a word that is no address": "places.so 206 main", "an option without a path": "--dladdr",
@@ -214,7 +221,23 @@ ADDR.prints({
     "sections of other types": ("types.so 120 2c8", ".gnu.hash+0x0\n.data+0x8\n"),
     "a file without section headers": ("needs.so 230 243", "ab+0x0\n?\n"),
     "what dladdr finds in a file without section headers": ("--dladdr needs.so 242 243", "cd+0x2\n?\n")})
-ADDR.misused({"a stack with a file": "--stack places.so"})
+ADDR.misused({"a stack with a file": "--stack places.so", "no folder of debug files": "--debug", "no file after a folder": "--debug ids"})
+# What these addresses are by the debug file of `bare.so`, and by its dynamic symbols.
+BARE_WORDS, BARE_NAMES = "256 25c 318 25f", "outer+0x0\nlabel+0x0\n.data+0x8\n?\n"
+BARE_PLACES = BARE_NAMES.replace("label+0x0", ".text+0x6")
+ADDR.prints({
+    "a debug file beside the file": (f"bare.so {BARE_WORDS}", BARE_NAMES),
+    "a debug file in .debug": (f"sub/bare.so {BARE_WORDS}", BARE_NAMES),
+    "a debug file by its build id": (f"--debug ids alone/bare.so {BARE_WORDS}", BARE_NAMES),
+    "no debug file": (f"--debug sub alone/bare.so {BARE_WORDS}", BARE_PLACES),
+    "a debug file that is not looked for": (f"--no-debug bare.so {BARE_WORDS}", BARE_PLACES),
+    "the dynamic symbols of a file with a debug file": (f"--debug ids --dynamic bare.so {BARE_WORDS}", BARE_PLACES),
+    "the symbol table of a file with a debug file": ("--debug ids bare.debug 25c", "label+0x0\n")})
+for folder, reason in {
+        "others": "not the debug file: no build id", "bare": "debug file without a symbol table", "zeros": NO_MAGIC}.items():
+    said = f"elfaddr: {folder}/{BY_ID}: {reason}\n"
+    ADDR.add(f"another file by the build id in {folder}", f"--debug {folder} alone/bare.so {BARE_WORDS}", 0, BARE_PLACES, said)
+    ADDR.add(f"the next file after that in {folder}", f"--debug {folder} bare.so {BARE_WORDS}", 0, BARE_NAMES, said)
 # Lines of a stack, and what becomes of each.
 STACK = {
     b"places.so(+0x206) [0x7f0206]\n": b"places.so(outer+0x0) [0x7f0206]\n", b"places.so 0x208\n": b"places.so inner+0x0\n",
@@ -456,6 +479,24 @@ def stack_ends(program, built, room):
     yield "a stack", [0, b"".join(STACK.values()), b""], run(built, ["--stack"], room, b"".join(STACK))
 
 
+def debug_ends(program, built, room):
+    """How elfaddr ends by debug files at paths that a folder of the machine is part of, and by what is no file."""
+    real, words = os.path.realpath(room), BARE_WORDS.split()
+    said = f"elfaddr: {real}/other/bare.debug: not the debug file: another CRC\n"
+    yield "another file beside the file", [0, BARE_PLACES.encode(), said.encode()], run(built, ["other/bare.so", *words], room)
+    under = pathlib.Path(f"{room}/under{real}/alone/bare.debug")
+    under.parent.mkdir(parents=True)
+    under.write_bytes(BARE_DEBUG)
+    by_folder = ["--debug", "under", "alone/bare.so", *words]
+    yield "a debug file in the same folder under another", [0, BARE_NAMES.encode(), b""], run(built, by_folder, room)
+    os.mkfifo(f"{room}/alone/bare.debug")
+    yield "a pipe in place of a debug file", [0, BARE_PLACES.encode(), b""], run(built, ["alone/bare.so", *words], room)
+    stack = b"bare.so(+0x25c) [0x1]\nalone/bare.so 0x25c\n"
+    for options, name in ((), "label+0x0"), (("--no-debug",), ".text+0x6"):
+        lines = stack.replace(b"bare.so(+0x25c)", f"bare.so({name})".encode()).replace(b" 0x25c", b" .text+0x6")
+        yield f"a stack of a file with a debug file {options}", [0, lines, b""], run(built, [*options, "--stack"], room, stack)
+
+
 def is_unlike(built: pathlib.Path, name: str, wanted, came) -> bool:
     """Prints whether a program ends as it must, and returns whether it doesn't."""
     how = "ends as it must" if came == wanted else "NOT AS IT MUST"
@@ -468,8 +509,10 @@ def unlike(program, built: pathlib.Path) -> int:
     with tempfile.TemporaryDirectory() as room:
         os.mkdir(f"{room}/folder")
         for name, held in FILES.items():
-            pathlib.Path(room, os.fsdecode(name)).write_bytes(held)
-        more = {"elfinfo": [long_ends], "elfaddr": [stack_ends]}
+            path = pathlib.Path(room, os.fsdecode(name))
+            path.parent.mkdir(parents=True, exist_ok=True)
+            path.write_bytes(held)
+        more = {"elfinfo": [long_ends], "elfaddr": [stack_ends, debug_ends]}
         kinds = [told_ends, unwritten_ends, *more.get(program.name, [])]
         return sum(is_unlike(built, *end) for ends in kinds for end in ends(program, built, room))
 

@@ -1,3 +1,4 @@
 mod AskedParts
+mod Named
 mod Printed
 pub mod Replaced

@@ -6,8 +6,10 @@ use Rattle.elf_addresses.specs.declared.claim.Claim.{Claim}
 use Rattle.elf_base.specs.FileHeader.{header_of}
 use Rattle.elf_linking.specs.declared.error.LinkError.{LinkError}
 use Rattle.elfaddr.specs.Asked.{AreLinesBy, AreOfFile, AreRefusedOfFile, AreThere}
-use Rattle.elfaddr.specs.Ends.{AreInputLines, AreInputRefused, AreInputThere, no_symbols}
+use Rattle.elfaddr.specs.Debug.{AreNaming}
+use Rattle.elfaddr.specs.Ends.{AreInputLines, AreInputRefused, AreInputThere, AreNamedLines, AreNamedThere, IsNamedRefused, no_symbols}
 use Rattle.elfaddr.specs.Lines.{AreLines}
+use Rattle.elfaddr.specs.declared.Options.{Options}
 use Rattle.elfaddr.specs.declared.Source.{Source}
 use Rattle.linking_programs.proofs.Objects.{of_header}
 use Rattle.program_ends.proofs.Ends.{fault_so}
@@ -48,3 +50,11 @@ module _ {W : Type 0} (contents : W → Option (List ℕ)) (path : Bor (List ℕ
   printed_input source input file (Err fault) same header why = fault_so path (AreRefusedOfFile file source) (AreInputRefused source input) (AreThere (AreOfFile file source)) (AreInputThere source input) fault
       (λ error refused. no_symbols error (of_header (λ f. AreRefusedOfFile f source error) input file same header refused))
       (λ there. of_header (λ f. AreThere (AreOfFile f source)) input file same header there) why
+
+  -- lines by the bytes that name the addresses of an input
+  pub printed_named : (options : Options) (input bytes : Bor (List ℕ)) (result : Result W (Fault LinkError)) → AreNaming options input bytes
+      → MatchResult result (λ back. AppendsSome (AreInputLines options.source addresses bytes) old (contents back)) (IsFault path (AreInputRefused options.source bytes) (AreInputThere options.source bytes))
+      → MatchResult result (λ back. AppendsSome (AreNamedLines options addresses input) old (contents back)) (IsFault path (IsNamedRefused options input) (AreNamedThere options input))
+  printed_named options input bytes (Ok back) naming (text, are, grown) = (text, (bytes, naming, are), grown)
+  printed_named options input bytes (Err fault) naming why = fault_so path (AreInputRefused options.source bytes) (IsNamedRefused options input) (AreInputThere options.source bytes) (AreNamedThere options input) fault
+      (λ error refused. (bytes, naming, refused)) (λ there. (bytes, naming, there)) why

@@ -5,6 +5,8 @@ use Rattle.elf_base.specs.FileHeader.{header_of}
 use Rattle.elf_linking.specs.declared.error.LinkError.{LinkError}
 use Rattle.elf_linking.specs.declared.error.LinkError.TheVariants.{Elf}
 use Rattle.elfaddr.specs.Asked.{AreLinesBy, AreOfFile, AreRefusedOfFile, AreThere}
+use Rattle.elfaddr.specs.Debug.{ByNaming}
+use Rattle.elfaddr.specs.declared.Options.{Options}
 use Rattle.elfaddr.specs.declared.Source.{Source}
 use Rattle.linking_programs.specs.Files.{OfHeader}
 use Rattle.program_ends.specs.Ends as ends
@@ -25,7 +27,17 @@ pub data AreInputRefused (source : Source) (input : Bor (List ℕ)) : LinkError 
   no_symbols : (error : LinkError) → OfHeader input (λ file. AreRefusedOfFile file source error)
       → AreInputRefused source input error
 
+-- the same by the bytes that name the addresses of an input
+abbrev pub AreNamedLines : Options → List ℕ → Bor (List ℕ) → List ℕ → Type 0
+AreNamedLines options addresses input text = ByNaming options input (λ bytes. AreInputLines options.source addresses bytes text)
+
+abbrev pub AreNamedThere : Options → Bor (List ℕ) → Type 0
+AreNamedThere options input = ByNaming options input (AreInputThere options.source)
+
+abbrev pub IsNamedRefused : Options → Bor (List ℕ) → LinkError → Type 0
+IsNamedRefused options input error = ByNaming options input (λ bytes. AreInputRefused options.source bytes error)
+
 -- how the program ends for the file at a path: there is a text of its lines, or the fault
-abbrev pub IsEnd : {R : Type 0} → Bor (List ℕ) → Source → List ℕ → (R → Option (List ℕ)) → Option R → Result (Unit {0}) (Fault LinkError) → Type 0
-IsEnd path source addresses remaining file =
-    ends.IsEnd path remaining file (AreInputLines source addresses) (AreInputRefused source) (AreInputThere source)
+abbrev pub IsEnd : {R : Type 0} → Bor (List ℕ) → Options → List ℕ → (R → Option (List ℕ)) → Option R → Result (Unit {0}) (Fault LinkError) → Type 0
+IsEnd path options addresses remaining file =
+    ends.IsEnd path remaining file (AreNamedLines options addresses) (IsNamedRefused options) (AreNamedThere options)

@@ -1,4 +1,5 @@
 pub mod Asked
+pub mod Debug
 pub mod Ends
 pub mod Lines
 pub mod Tables

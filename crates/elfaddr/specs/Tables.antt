@@ -1,15 +1,12 @@
 -- The dynamic symbols of a file, and those of them that its hash table reaches.
-use Rattle.std.specs.Prelude.{◌≡◌, ℕ, List, [], length, Some, Result, Ok, Err}
-use Rattle.elf_base.specs.Table.{table_data}
+use Rattle.std.specs.Prelude.{◌≡◌, ℕ, List, length, Some, Result, Ok, Err}
 use Rattle.elf_addresses.specs.Reached.{AreReached}
 use Rattle.elf_addresses.specs.declared.dladdr.Reach.{Reach}
 use Rattle.elf_addresses.specs.declared.dladdr.Reach.TheVariants.{Buckets, Chains}
-use Rattle.elf_addresses.specs.declared.symbols.AddressSymbols.{AddressSymbols}
 use Rattle.elf_linking.specs.AnyTable.{IsLinkedTable}
-use Rattle.elf_linking.specs.DynamicObject.{IsObject, IsObjectFor, IsObjectRefusedFor, object_records}
-use Rattle.elf_linking.specs.DynamicView.{dynamic_entries_of, dynamic_strings_of}
+use Rattle.elf_linking.specs.DynamicObject.{IsObjectFor, IsObjectRefusedFor}
+use Rattle.elf_linking.specs.DynamicView.{dynamic_entries_of}
 use Rattle.elf_linking.specs.GnuCount.{IsGnuCount}
-use Rattle.elf_linking.specs.References.{file_machine}
 use Rattle.elf_linking.specs.declared.any_table.AnyTable.{AnyTable}
 use Rattle.elf_linking.specs.declared.any_table.AnyTable.TheVariants.{Gnu, Sysv}
 use Rattle.elf_linking.specs.declared.error.LinkError.{LinkError}

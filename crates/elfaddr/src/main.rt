@@ -3,10 +3,11 @@
 //! `elfaddr PATH ADDRESS..` writes a line for each address, which is a number in hexadecimal:
 //! `NAME+0xOFFSET`, or `SECTION+0xOFFSET` if no symbol covers it, or `?` if no section contains it
 //! either. `elfaddr PATH -` reads the addresses from standard input, one on a line. The symbols are
-//! those of `.symtab` if the file has it, otherwise those of the dynamic segment. `--dynamic`
-//! before the path asks for the latter, and `--dladdr` for the symbols that `dladdr` finds.
-//! `elfaddr --stack` copies standard input, with such a name in place of the address in each line
-//! that glibc's `backtrace_symbols` wrote.
+//! those of `.symtab` if the file has it, otherwise those of its separate debug file, if there is one,
+//! otherwise those of the dynamic segment. `--debug DIR` before the path is the folder of debug files,
+//! and `--no-debug` looks for none. `--dynamic` asks for the symbols of the dynamic segment, and
+//! `--dladdr` for those that `dladdr` finds. `elfaddr --stack` copies standard input, with such a name
+//! in place of the address in each line that glibc's `backtrace_symbols` wrote.
 #![tactic(auto)]
 
 ghost use Rattle.std.specs.Prelude.{◌≡◌, ◌≢◌, ◌≤◌, IfErr, IfOk, IfSome, IsOk, IsSomeAnd};
@@ -14,11 +15,13 @@ ghost use Rattle.std.specs.Prelude.{MatchResult, OnOk, Result};
 ghost use Rattle.elf_base.specs.FileHeader.{header_of};
 ghost use Rattle.elf_linking.specs.declared.error.LinkError.{LinkError};
 ghost use Rattle.elfaddr.specs.Ends.{AreInputLines, AreInputRefused, AreInputThere, IsEnd};
+ghost use Rattle.elfaddr.specs.Ends.{AreNamedLines, AreNamedThere, IsNamedRefused};
 ghost use Rattle.program_ends.specs.Appended.{AppendsSome};
 ghost use Rattle.program_ends.specs.Ends.{IsFault, OfFile, quiet_status_of};
 ghost use Rattle.program_ends.specs.declared.Fault.{Fault};
 ghost use Rattle.program_ends.specs.declared.TheConstants.{CLOSED};
 
+use crate::debug::debug_bytes;
 use crate::print::print_file;
 use crate::stack::{path_of, write_stack_line};
 use elf_linking::LinkError;
@@ -33,6 +36,7 @@ use std::process::ExitCode;
 use std::{fs, io};
 use xmas_elf::ElfFile;
 
+mod debug;
 mod lines;
 mod names;
 mod print;
@@ -40,14 +44,22 @@ mod stack;
 
 const NAME: &str = "elfaddr";
 
-const USAGE: &str = "elfaddr --stack | [--dynamic | --dladdr] <binary_path> (<address>.. | -)";
+const USAGE: &str =
+    "elfaddr [--debug DIR | --no-debug] (--stack | [--dynamic | --dladdr] <binary_path> (<address>.. | -))";
+
+// The folder of debug files where no option names another.
+const DEBUG_FOLDER: &str = "/usr/lib/debug";
 
 const HELP: &str =
     "Prints the symbol that each address of a file is in, and the offset there; otherwise the section.
 Addresses are in hexadecimal; - reads them from standard input, one on a line.
---dynamic  by the dynamic symbols, also if the file has a symbol table
---dladdr   by the symbols that dladdr finds
---stack    copies standard input, with names in lines PATH(+0xOFFSET) and PATH 0xOFFSET";
+A file without a symbol table has the symbols of its separate debug file, if there is one. Symbols in
+.gnu_debugdata and on servers (debuginfod) are left out.
+--dynamic    by the dynamic symbols, also if the file has a symbol table
+--dladdr     by the symbols that dladdr finds
+--debug DIR  the folder of debug files, /usr/lib/debug without it
+--no-debug   no debug file
+--stack      copies standard input, with names in lines PATH(+0xOFFSET) and PATH 0xOFFSET";
 
 /// The symbols that name addresses.
 #[derive(Clone, Copy, Debug)]
@@ -60,18 +72,28 @@ pub enum Source {
     Dladdr,
 }
 
+/// What the options ask for.
+#[derive(Clone, Copy, Debug)]
+pub struct Options<'a> {
+    /// The symbols that name addresses.
+    pub source: Source,
+    /// The folder of debug files; `None` if no debug file is looked for.
+    pub debug: Option<&'a str>,
+}
+
 /// Writes what is at each address to `out`, or the reason why it can't to `err`, and returns the
 /// exit status.
 ///
-/// `file` is `None` where the path does not open. The status is 0 once all is written and flushed,
-/// `CLOSED`, and nothing is said, if a write failed since nobody reads the output, and 1 otherwise.
-/// The contract says which fault there can be then: the error of the file or of its symbols; a write
-/// that failed, if they have none; that the file can't be read; or that memory is short. It says
-/// nothing of what `out` and `err` hold.
+/// `file` is `None` where the path does not open. If it has no symbol table, and the options ask for this
+/// and for a debug file, one is looked for, and `err` is told of other files in its place. The status is 0
+/// once all is written and flushed, `CLOSED`, and nothing is said, if a write failed since nobody reads
+/// the output, and 1 otherwise. The contract says by which bytes the lines are, and which fault there can
+/// be: the error of these bytes or of their symbols; a write that failed, if they have none; that the file
+/// can't be read; or that memory is short. It says nothing of what `out` and `err` hold.
 pub fn run<R: Read + Drop, W: Write, E: Write>(
-    alloc: Global,
+    rt: &HostRuntime,
     path: &str,
-    source: Source,
+    options: Options<'_>,
     addresses: &[u64],
     file: Option<R>,
     out: &mut Watched<W>,
@@ -81,27 +103,28 @@ pub fn run<R: Read + Drop, W: Write, E: Write>(
     ensures accepted { result ≡ 0 → IsSomeAnd file (λ reader.
         IfSome (R.remaining reader) (λ bytes. IsOk (header_of bytes))) }
     ensures ends { (end : Result (Unit {0}) (Fault LinkError))
-        × IsEnd path.entry source addresses.now R.remaining file end
+        × IsEnd path.entry options.entry addresses.now R.remaining file end
         × (result ≡ quiet_status_of end out.new.closed) }
 {
-    let ended = answer(alloc, path, source, addresses, file, &mut *out);
+    let ended = answer(rt, path, options, addresses, file, &mut *out, &mut *err);
     quiet_status_of(NAME, ended, out.is_closed(), err)
 }
 
 // Reads the file whole, and writes a line for each address.
-fn answer<'a, R: Read + Drop, W: Write>(
-    alloc: Global,
+fn answer<'a, R: Read + Drop, W: Write, E: Write>(
+    rt: &HostRuntime,
     path: &'a str,
-    source: Source,
+    options: Options<'_>,
     addresses: &[u64],
     file: Option<R>,
     out: &mut W,
+    err: &mut E,
 ) -> Result<(), Fault<'a, LinkError>>
     ensures accepted { OnOk result (IsSomeAnd file (λ reader.
         IfSome (R.remaining reader) (λ bytes. IsOk (header_of bytes)))) }
-    ensures end { IsEnd path.entry source addresses.now R.remaining file result }
+    ensures end { IsEnd path.entry options.entry addresses.now R.remaining file result }
 {
-    match print_addresses(alloc, path, source, addresses, file, &mut *out) {
+    match print_addresses(rt, path, options, addresses, file, &mut *out, err) {
         Ok(_) => Ok(()),
         Err(fault) => Err(fault),
     }
@@ -109,27 +132,52 @@ fn answer<'a, R: Read + Drop, W: Write>(
 
 // Writes a line for each address by the file that is all that the reader has left, and gives the
 // writer back.
-fn print_addresses<'a, R: Read + Drop, W: Write + Drop>(
-    alloc: Global,
+fn print_addresses<'a, R: Read + Drop, W: Write + Drop, E: Write>(
+    rt: &HostRuntime,
     path: &'a str,
-    source: Source,
+    options: Options<'_>,
     addresses: &[u64],
     file: Option<R>,
     out: W,
+    err: &mut E,
 ) -> Result<W, Fault<'a, LinkError>>
     ensures written { IfOk result (λ back. OfFile R.remaining file (λ input.
-        AppendsSome (AreInputLines source addresses.now input)
+        AppendsSome (AreNamedLines options.entry addresses.now input)
         (W.contents out) (W.contents back))) }
     ensures fault { IfErr result (IsFault path.entry
-        (λ error. OfFile R.remaining file (λ input. AreInputRefused source input error))
-        (OfFile R.remaining file (λ input. AreInputThere source input))) }
+        (λ error. OfFile R.remaining file (λ input. IsNamedRefused options.entry input error))
+        (OfFile R.remaining file (λ input. AreNamedThere options.entry input))) }
 {
-    let Some(input) = read_whole(alloc, file) else {
+    let Some(input) = read_whole(rt.alloc(), file) else {
         return Err(Fault::Read { path });
     };
-    match print_input(alloc, path, &input, source, addresses, out) {
+    match print_named(rt, path, &input, options, addresses, out, err) {
         Ok(out) => Ok(out),
         Err(fault) => Err(fault),
+    }
+}
+
+// Writes a line for each address by the bytes that name the addresses of a file, and gives the writer
+// back.
+fn print_named<'a, W: Write + Drop, E: Write>(
+    rt: &HostRuntime,
+    path: &'a str,
+    input: &[u8],
+    options: Options<'_>,
+    addresses: &[u64],
+    out: W,
+    err: &mut E,
+) -> Result<W, Fault<'a, LinkError>>
+    ensures { MatchResult result
+        (λ back. AppendsSome (AreNamedLines options.entry addresses.now input.entry)
+        (W.contents out) (W.contents back))
+        (IsFault path.entry (IsNamedRefused options.entry input.entry)
+        (AreNamedThere options.entry input.entry)) }
+{
+    match debug_bytes(rt, path, options, input, err) {
+        Ok(Some(debug)) => print_input(rt.alloc(), path, &debug, options.source, addresses, out),
+        Ok(None) => print_input(rt.alloc(), path, input, options.source, addresses, out),
+        Err(_) => Err(Fault::Memory),
     }
 }
 
@@ -175,12 +223,12 @@ fn run_on_arguments(rt: &HostRuntime) -> io::Result<u8> {
     if let Some(status) = about {
         return Ok(status);
     }
-    let (source, words) = source_of(&words);
+    let (options, words) = options_of(&words);
     match words.split_first() {
-        Some((word, [])) if word.as_str() == "--stack" => run_on_stack(rt),
+        Some((word, [])) if word.as_str() == "--stack" => run_on_stack(rt, options),
         Some((path, [word])) if word.as_str() == "-" => {
             let text = io::read_to_string(rt.alloc(), rt.stdin())?;
-            run_on_lines(rt, path.as_str(), source, &text)
+            run_on_lines(rt, path.as_str(), options, &text)
         }
         Some((path, words)) if !words.is_empty() => {
             let mut addresses = Vec::new(rt.alloc());
@@ -190,13 +238,13 @@ fn run_on_arguments(rt: &HostRuntime) -> io::Result<u8> {
                     None => return Ok(say("usage", &USAGE, &mut rt.stdout())),
                 }
             }
-            Ok(run_on_file(rt, path.as_str(), source, &addresses))
+            Ok(run_on_file(rt, path.as_str(), options, &addresses))
         }
         _ => Ok(say("usage", &USAGE, &mut rt.stdout())),
     }
 }
 
-// A file that lines of a stack name, and its bytes.
+// A file that lines of a stack name, and its bytes, or those of its debug file.
 #[derive(Drop)]
 struct Opened {
     path: String,
@@ -205,7 +253,7 @@ struct Opened {
 
 // Copies standard input line by line, with names in place of addresses. The status is 1 if a write
 // fails, and `CLOSED` if nobody reads the output.
-fn run_on_stack(rt: &HostRuntime) -> io::Result<u8> {
+fn run_on_stack(rt: &HostRuntime, options: Options<'_>) -> io::Result<u8> {
     let mut out = Watched::new(rt.stdout());
     let mut reader = BufReader::new(rt.alloc(), rt.stdin())?;
     let (mut opened, mut line) = (Vec::new(rt.alloc()), Vec::new(rt.alloc()));
@@ -214,7 +262,7 @@ fn run_on_stack(rt: &HostRuntime) -> io::Result<u8> {
         if reader.read_until(b'\n', &mut line)? == 0 {
             break;
         }
-        let written = copy_line(rt, &mut opened, &line)?;
+        let written = copy_line(rt, options, &mut opened, &line)?;
         if out.write_all(&written).is_err() {
             let ended: Result<(), Fault<'_, LinkError>> = Err(Fault::Write);
             return Ok(quiet_status_of(NAME, ended, out.is_closed(), &mut rt.stderr()));
@@ -224,10 +272,15 @@ fn run_on_stack(rt: &HostRuntime) -> io::Result<u8> {
 }
 
 // What is written of a line. The file that it names is read if no line before has named it.
-fn copy_line(rt: &HostRuntime, opened: &mut Vec<Opened>, line: &[u8]) -> io::Result<Vec<u8>> {
+fn copy_line(
+    rt: &HostRuntime,
+    options: Options<'_>,
+    opened: &mut Vec<Opened>,
+    line: &[u8],
+) -> io::Result<Vec<u8>> {
     let mut written = Vec::new(rt.alloc());
     let input = match path_of(line) {
-        Some(path) => input_at(rt, opened, path)?,
+        Some(path) => input_at(rt, options, opened, path)?,
         None => None,
     };
     match input {
@@ -237,10 +290,11 @@ fn copy_line(rt: &HostRuntime, opened: &mut Vec<Opened>, line: &[u8]) -> io::Res
     Ok(written)
 }
 
-// The bytes of the file at a path, if it is one and can be read. A pipe or a device is not opened: the text before an
-// address is any text. What can't be read is not kept.
+// The bytes of the file at a path, if it is one and can be read, or those of its debug file. A pipe or a
+// device is not opened: the text before an address is any text. What can't be read is not kept.
 fn input_at<'o>(
     rt: &HostRuntime,
+    options: Options<'_>,
     opened: &'o mut Vec<Opened>,
     path: &str,
 ) -> io::Result<Option<&'o [u8]>> {
@@ -253,6 +307,8 @@ fn input_at<'o>(
             let Some(input) = read_whole(rt.alloc(), File::open(rt, path).ok()) else {
                 return Ok(None);
             };
+            let debug = debug_bytes(rt, path, options, &input, &mut rt.stderr())?;
+            let input = debug.unwrap_or(input);
             let path = String::from_str(rt.alloc(), path)?;
             opened.push(Opened { path, input })?;
             opened.len().saturating_sub(1)
@@ -265,7 +321,7 @@ fn input_at<'o>(
 }
 
 // Whether there is a regular file at a path.
-fn is_file(rt: &HostRuntime, path: &str) -> bool {
+pub(crate) fn is_file(rt: &HostRuntime, path: &str) -> bool {
     match fs::metadata(rt, path) {
         Ok(known) => known.is_file(),
         Err(_) => false,
@@ -273,7 +329,7 @@ fn is_file(rt: &HostRuntime, path: &str) -> bool {
 }
 
 // The status for the addresses on the lines of a text.
-fn run_on_lines(rt: &HostRuntime, path: &str, source: Source, text: &str) -> io::Result<u8> {
+fn run_on_lines(rt: &HostRuntime, path: &str, options: Options<'_>, text: &str) -> io::Result<u8> {
     let mut addresses = Vec::new(rt.alloc());
     for line in text.lines() {
         match address_of(line) {
@@ -281,31 +337,52 @@ fn run_on_lines(rt: &HostRuntime, path: &str, source: Source, text: &str) -> io:
             None => return Ok(say("usage", &USAGE, &mut rt.stdout())),
         }
     }
-    Ok(run_on_file(rt, path, source, &addresses))
+    Ok(run_on_file(rt, path, options, &addresses))
 }
 
 // The status for these addresses.
-fn run_on_file(rt: &HostRuntime, path: &str, source: Source, addresses: &[u64]) -> u8 {
+fn run_on_file(rt: &HostRuntime, path: &str, options: Options<'_>, addresses: &[u64]) -> u8 {
     let file = File::open(rt, path).ok();
     let (mut out, mut err) = (Watched::new(rt.stdout()), rt.stderr());
-    run(
-        rt.alloc(),
-        path,
-        source,
-        addresses,
-        file,
-        &mut out,
-        &mut err,
-    )
+    run(rt, path, options, addresses, file, &mut out, &mut err)
 }
 
-// The symbols that the first argument asks for, and the arguments after it.
-fn source_of<S: AsStr>(words: &[S]) -> (Source, &[S]) {
-    match words.split_first() {
-        Some((first, rest)) if first.as_str() == "--dynamic" => (Source::Dynamic, rest),
-        Some((first, rest)) if first.as_str() == "--dladdr" => (Source::Dladdr, rest),
-        _ => (Source::Symtab, words),
+// What the options before the path ask for, and the arguments after them.
+fn options_of<S: AsStr>(words: &[S]) -> (Options<'_>, &[S]) {
+    let mut options = Options {
+        source: Source::Symtab,
+        debug: Some(DEBUG_FOLDER),
+    };
+    let mut rest = words;
+    for _ in 0..words.len() {
+        let Some((next, after)) = with_option(options, rest) else {
+            break;
+        };
+        options = next;
+        rest = after;
     }
+    (options, rest)
+}
+
+// The options with the one that comes first, and the arguments after it; `None` if none comes first.
+fn with_option<'w, S: AsStr>(
+    options: Options<'w>,
+    words: &'w [S],
+) -> Option<(Options<'w>, &'w [S])> {
+    let (first, mut rest) = words.split_first()?;
+    let mut options = options;
+    match first.as_str() {
+        "--dynamic" => options.source = Source::Dynamic,
+        "--dladdr" => options.source = Source::Dladdr,
+        "--no-debug" => options.debug = None,
+        "--debug" => {
+            let (folder, after) = rest.split_first()?;
+            options.debug = Some(folder.as_str());
+            rest = after;
+        }
+        _ => return None,
+    }
+    Some((options, rest))
 }
 
 // The address that a word is in hexadecimal, with or without `0x`.

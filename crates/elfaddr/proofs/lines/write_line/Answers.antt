@@ -1,4 +1,4 @@
-use Rattle.std.proofs.Common.{◌-◌, Some, None, subst, sym}
+use Rattle.std.proofs.Common.{Some, None, subst, sym}
 use Rattle.std.proofs.lemmas.Result.{on_ok_weaker}
 use Rattle.elf_addresses.specs.Claims.{IsInnermost}
 use Rattle.elfaddr.specs.Lines.{IsLine, in_no_symbol, in_symbol, place_text}
