@@ -181,10 +181,18 @@ INFO.prints({
     "a file with a hash table": ("hash.elf", report_text(HASH_HEADER, "ok", HASH_SECTIONS, "", "ok")),
     "further arguments": ("strtab.elf missing.elf", REPORT)})
 
+# What is said of the options of a search for libraries.
+SEARCH_USAGE, SEARCH_HELP = "[--root DIR] [--library-path LIST] [--cache FILE | --no-cache]", """\
+--root DIR           the program and its libraries are under DIR, the root of another system
+--library-path LIST  the value of LD_LIBRARY_PATH
+--cache FILE         another cache than /etc/ld.so.cache
+--no-cache           no cache
+"""
+
 ASKED = data("elfsym/args").decode().split()[1:]
 SYM = Program(
-    "elfsym", "elfsym <binary_path> <name>[@<version>].. | elfsym --needed <binary_path>", ["ab"], ["linked.so", *ASKED],
-    SYMBOLS, LINKED)
+    "elfsym", "elfsym <binary_path> <name>[@<version>].. | elfsym --needed <binary_path> | "
+    f"elfsym --scope {SEARCH_USAGE} <binary_path> <name>[@<version>]..", ["ab"], ["linked.so", *ASKED], SYMBOLS, LINKED)
 SYM.misused({
     "no name": "linked.so", "nothing whose libraries are asked for": "--needed",
     "two files whose libraries are asked for": "--needed linked.so linked.so"})
@@ -203,6 +211,31 @@ SYM.prints({
     "a name of a file whose definitions are cut": ("cut.so ab", "ab 0x2f6 0x6\n"),
     "names of a file that needs a library": ("needs.so ab cd outer ef", "ab 0x230 0xa\ncd 0x240 0x3\nouter: none\nef 0x23a 0x6\n"),
     "a name like an option": ("linked.so --needed", "--needed: none\n")})
+SYM.misused({
+    "no program in whose scope to look": "--scope", "no name to look up in a scope": "--scope caller", "no root of a scope": "--scope --root",
+    "another option of a scope": "--scope --loan caller own"})
+SYM.fails({
+    "a missing program with a scope": ("--scope missing.elf own", "cannot read missing.elf"),
+    "a program with an error and a scope": ("--scope zeros.elf own", "zeros.elf: file too short"),
+    "a missing cache for a scope": ("--scope --cache missing caller own", "cannot read missing")})
+# What `readelf -sDW` shows of the first file that defines the name. The program has an address of `taken` in its own file, and a copy
+# of `shared`; the second library has no versions.
+SCOPE_LINES = """\
+own 0x400400 0x6 caller
+taken 0x4003d0 0x0 caller
+shared@V1 0x401608 0x4 caller
+choose 0x4f5 0x6 ./libfirst.so
+version 0x4ef 0x6 ./libfirst.so
+version@V1 0x4e9 0x6 ./libfirst.so
+version@V3: none
+second@V1 0x4bf 0x34 ./libsecond.so
+unseen: none
+"""
+SCOPE_NAMES = " ".join(re.findall("(?m)^[^ :]+", SCOPE_LINES))
+SYM.prints({"names in a program and its libraries": (f"--scope --no-cache --library-path .:folder caller {SCOPE_NAMES}", SCOPE_LINES)})
+SYM.add("a name where a library is missing", "--scope --no-cache counter shared", 1, "shared: none\n", "elfsym: counter: library.so not found\n")
+for file, library, reason in (("cut.so", "libw.so", "Version record is cut off"), (f"damaged-{0x128}.so", "libneed.so", NEEDS_ERRORS[-1][2])):
+    SYM.add(f"{file}, where a library is missing", f"--scope --no-cache {file} ab", 1, "", f"elfsym: {file}: {library} not found\nelfsym: {file}: {reason}\n")
 
 # What crates/elfaddr/data/places.s says of these addresses.
 ADDR = Program(
@@ -246,14 +279,6 @@ STACK = {
         b"text (in parentheses) and a number 206\n", b"\xff(+0x206)\n", b"places.so(+0x10000000000000000)\n", b"places.so(+0x)\n")},
     b"./places.so(+0x2c8)\x01\n": b"./places.so(.data+0x8)\x01\n", b"places.so(+20a)": b"places.so(outer+0x4)"}
 ADDR.fails({"a file without symbols": ("strtab.elf 0", "strtab.elf: No dynamic segment"), **damaged("0", NEEDS_ERRORS[:-1])})
-
-# What is said of the options of a search for libraries.
-SEARCH_USAGE, SEARCH_HELP = "[--root DIR] [--library-path LIST] [--cache FILE | --no-cache]", """\
---root DIR           the program and its libraries are under DIR, the root of another system
---library-path LIST  the value of LD_LIBRARY_PATH
---cache FILE         another cache than /etc/ld.so.cache
---no-cache           no cache
-"""
 
 
 def in_folder(text):

@@ -1,4 +1,5 @@
 mod Ended
 mod LibraryLines
 mod LineLists
+mod Scopes
 mod Stops

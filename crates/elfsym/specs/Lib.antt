@@ -1,3 +1,4 @@
 pub mod Ends
 pub mod Libraries
 pub mod Lines
+pub mod Scope

@@ -168,7 +168,7 @@ fn numbers_if_serving<E: LinkedSymbol>(symbol: &E) -> Option<(u64, u64)>
 }
 
 // The name and the version that a reference asks for.
-fn asked(reference: &str) -> (&str, Wanted<'_>)
+pub(crate) fn asked(reference: &str) -> (&str, Wanted<'_>)
     ensures { Asks reference.now result.0.now result.1 }
 {
     match reference.split_once('@') {

@@ -5,7 +5,8 @@
 //! `dlsym` finds by it: `ab 0x1016 0xb`, or `ab: none`. `NAME@VERSION` asks for the symbol that
 //! `dlvsym` finds by that name and version: `ab@V1 0x1016 0xb`. `elfsym --needed PATH` writes the
 //! names of the libraries that the file needs, a line for each: their bytes, with control characters
-//! escaped.
+//! escaped. `elfsym --scope PROGRAM NAME..` looks each name up in the program and the libraries that its
+//! loader finds, and writes the path of the file that has it after its value and size.
 #![tactic(auto)]
 
 ghost use Rattle.std.specs.Prelude.{◌≡◌, ◌≢◌, ◌≤◌, IfErr, IfOk, IfSome, IsOk, IsSomeAnd, OnOk};
@@ -24,6 +25,7 @@ ghost use Rattle.program_ends.specs.declared.TheConstants.{CLOSED};
 
 use crate::libraries::Libraries;
 use crate::lines::Lines;
+use crate::scope::run_on_program;
 use elf_linking::LinkError;
 use program_ends::{
     CLOSED, Fault, Watched, arguments, exit_code, fault_of, quiet_status_of, read_whole, say,
@@ -38,15 +40,23 @@ use std::process::ExitCode;
 
 mod libraries;
 mod lines;
+mod scope;
 
 const NAME: &str = "elfsym";
 
-const USAGE: &str = "elfsym <binary_path> <name>[@<version>].. | elfsym --needed <binary_path>";
+const USAGE: &str =
+    "elfsym <binary_path> <name>[@<version>].. | elfsym --needed <binary_path> | elfsym --scope [--root DIR] [--library-path LIST] [--cache FILE | --no-cache] <binary_path> <name>[@<version>]..";
 
 const HELP: &str =
     "Prints the value and the size of the symbol that dlsym finds by each name in the dynamic segment of
 a file, and by a name and a version what dlvsym finds.
---needed  the names of the libraries that the file needs instead";
+--needed             the names of the libraries that the file needs instead
+--scope              looks the names up in a program and its libraries, which are found, and prints the file of
+                     each symbol after its size
+--root DIR           the program and its libraries are under DIR, the root of another system
+--library-path LIST  the value of LD_LIBRARY_PATH
+--cache FILE         another cache than /etc/ld.so.cache
+--no-cache           no cache";
 
 /// What is asked of a file.
 #[derive(Drop)]
@@ -176,11 +186,28 @@ fn run_on_arguments(rt: &HostRuntime) -> io::Result<u8> {
     if let Some(status) = write_about(NAME, USAGE, HELP, &words, &mut out, &mut err) {
         return Ok(status);
     }
-    let Some((path, question)) = asked(&words) else {
-        return Ok(say("usage", &USAGE, &mut out));
+    let status = match words.split_first() {
+        Some((first, others)) if first.as_str() == "--scope" => {
+            run_on_program(rt, others, &mut out, &mut err)
+        }
+        _ => run_on_file(rt, &words, &mut out, &mut err),
     };
+    match status {
+        Some(status) => Ok(status),
+        None => Ok(say("usage", &USAGE, &mut out)),
+    }
+}
+
+// The status after what the arguments ask of a file; `None` if they are not as they should be.
+fn run_on_file<W: Write, E: Write>(
+    rt: &HostRuntime,
+    arguments: &[String],
+    out: &mut Watched<W>,
+    err: &mut E,
+) -> Option<u8> {
+    let (path, question) = asked(arguments)?;
     let file = File::open(rt, path).ok();
-    Ok(run(rt.alloc(), path, question, file, &mut out, &mut err))
+    Some(run(rt.alloc(), path, question, file, out, err))
 }
 
 // What the arguments ask, and of which file, if they are as they should be.
