@@ -6,6 +6,7 @@
 With dladdr (elfaddr --dladdr): the first N shared libraries of /usr/lib/x86_64-linux-gnu that can be loaded (60), at up to N addresses
 of each: at and beside dynamic symbols, and anywhere in the segments. With each of TOOLS that is here: the files FILE, else 15 of the
 system and of this repository, at N addresses of each (--each). Names are counted by cause (`cause_of`); those of WRONG are differences.
+Where such a file has a symbol table, a stripped copy must have the same lines by its debug file.
 """
 import bisect
 import collections
@@ -184,6 +185,25 @@ def compare_others(elfaddr: str, path: str, count: int, tables: dict[str, collec
                 tally.fault(f"{path}: {address:x}: {cause}: elfaddr {own or 'none'}, {tool} {other or 'none'}")
 
 
+def compare_debug_file(elfaddr: str, path: str, count: int, tally: Tally) -> None:
+    """The lines for a file, and for a copy whose symbols are in a debug file, by its link and by its CRC."""
+    image = Image(path)
+    symbols = image.symbols(False)
+    if not symbols or not shutil.which("objcopy"):
+        return
+    addresses = image.addresses(symbols, count, path)
+    with tempfile.TemporaryDirectory() as room:
+        debug, bare = f"{room}/symbols.debug", f"{room}/bare"
+        for command in (["--only-keep-debug", path, debug], ["--strip-all", f"--add-gnu-debuglink={debug}", path, bare]):
+            run(["objcopy", *command])
+        whole, stripped = (lines_for([elfaddr, "--debug", room, it, "-"], addresses) for it in (path, bare))
+    tally["debug files"] += 1
+    tally["addresses by debug files"] += len(addresses)
+    for address, one, other in zip(addresses, whole, stripped, strict=True):
+        if one != other:
+            tally.fault(f"{path}: {address:x}: {one}, by its debug file {other}")
+
+
 if __name__ == "__main__":
     given = parser_of(__doc__, "elfaddr", files="*", libraries=60, addresses=20000, each=3000).parse_args()
     tally, tables = Tally("elfaddr", "libraries"), collections.defaultdict(collections.Counter)
@@ -194,6 +214,7 @@ if __name__ == "__main__":
     built = sorted(str(it) for it in ROOT.glob("crates/elf*/out/elf*") if it.is_file() and os.access(it, os.X_OK) and read_elf(str(it)))
     for path in given.files or [*built[:5], *libraries[5:100:10]]:
         compare_others(given.elfaddr, path, given.each, tables, tally)
+        compare_debug_file(given.elfaddr, path, given.each, tally)
     for tool, table in tables.items():
         print(f"{tool}: " + ", ".join(f"{table[it]} {it}" for it in ("same", "alias", "outer", "uncovered", "missed", *WRONG) if table[it]))
     sys.exit(tally.ended())
