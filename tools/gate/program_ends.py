@@ -468,8 +468,10 @@ def told_ends(program, built, room):
 def unwritten_ends(program, built, room):
     """How it ends where outputs fail at once."""
     arguments = {what: end[0] for what, end in program.ends.items()}
+    # elfload says it of each of its two files.
+    unwritten = program.no_write() * (2 if program is LOAD else 1)
     with open("/dev/full", "wb") as full:
-        for what, said in (("a good file", program.no_write()), ("a file with an error", program.ends["a file with an error"][3]), ("no argument", b"")):
+        for what, said in (("a good file", unwritten), ("a file with an error", program.ends["a file with an error"][3]), ("no argument", b"")):
             yield f"{what}, into a full disk", [1, None, said], run(built, arguments[what], room, stdout=full)
         yield "an error text that can't be written", [1, b"", None], run(built, arguments["a missing path"], room, stderr=full)
         for what in ("a missing path", "no argument"):
@@ -477,7 +479,7 @@ def unwritten_ends(program, built, room):
     reader, writer = os.pipe()
     os.close(reader)
     # The status of a program that SIGPIPE ends, as a shell tells it.
-    wanted = [141, None, b""] if program is not LOAD else [1, None, program.no_write()]
+    wanted = [141, None, b""] if program is not LOAD else [1, None, unwritten]
     yield "a pipe that nobody reads", wanted, run(built, arguments["a good file"], room, stdout=writer)
     os.close(writer)
 
