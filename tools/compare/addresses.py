@@ -163,7 +163,7 @@ def compare_others(elfaddr: str, path: str, count: int, tables: dict[str, collec
     by_name, found = collections.defaultdict(list), []
     for it in symbols:
         by_name[it.name].append(it)
-    for line in lines_for([elfaddr, path, "-"], addresses):
+    for line in lines_for([elfaddr, "--no-debug", path, "-"], addresses):
         name = line.rpartition("+")[0]
         found.append(name if name in by_name else "")
     tally["files beside tools"] += 1
