@@ -76,7 +76,7 @@ def by_types(rows: Rows):
 
 
 def cut_tables(rows: Rows):
-    rows.case("data::refuses_tables_that_are_cut")
+    rows.case("data::rejects_tables_that_are_cut")
     for bits, number in ((32, None), (64, None), (64, 0)):
         rows.file(f"ascending-{bits}-little")
         if number is not None:
@@ -88,7 +88,7 @@ def cut_tables(rows: Rows):
             section(rows, kind, 0 if number is None else 61)
             rows.want("made 0 get_data", ok(narrow if bits == 32 else wide, 0) if number is None else RANGE)
     # Types whose records have one size, by the size of the section, in a file of an unknown class.
-    rows.case("data::refuses_groups_and_indices_that_are_cut")
+    rows.case("data::rejects_groups_and_indices_that_are_cut")
     for number in (0, 3):
         rows.file("ascending-64-little")
         rows.class_(number)
@@ -101,7 +101,7 @@ def cut_tables(rows: Rows):
 
 
 def other_sizes(rows: Rows):
-    rows.case("data::refuses_notes_and_hash_tables_that_are_short")
+    rows.case("data::rejects_notes_and_hash_tables_that_are_short")
     for bits, number, note in ((32, None, err("Note32")), (64, None, SHORT), (64, 3, NO_CLASS)):
         rows.file(f"ascending-{bits}-little")
         if number is not None:
@@ -122,12 +122,12 @@ def other_sizes(rows: Rows):
 
 def past_the_input(rows: Rows):
     rows.file("ascending-64-little")
-    rows.case("data::refuses_data_past_the_input")
+    rows.case("data::rejects_data_past_the_input")
     for kind, shape in ALIKE:
         for size in (U64,) if shape == "Empty" else (61, U64):
             section(rows, kind, size)
             rows.want("made 0 get_data", ok("Empty") if shape == "Empty" else RANGE)
-    rows.case("data::refuses_unknown_types")
+    rows.case("data::rejects_unknown_types")
     for kind in (12, 13, 19, 0x5fffffff):
         section(rows, kind, U64)
         rows.want("made 0 get_data", err("InvalidShType"))

@@ -66,7 +66,7 @@ def numbers(rows: Rows):
     rows.file("strtab-little")
     rows.case("hash::hash_numbers")
     rows.want_all({"hash printf": 0x077905a6, "hash ZZZZZW9p": 0, "hash ": 0, "hash ab": 0x672})
-    rows.case("hash::words_are_refused_by_the_first_condition")
+    rows.case("hash::words_fail_by_the_first_condition")
     table(rows, (U32, 2, 0), ())
     rows.want_all({
         "get_bucket 0": ok(0), "get_bucket 1": SHORT, f"get_bucket {U32 - 1}": SHORT, f"get_bucket {U32}": err("BucketIndex"),

@@ -24,7 +24,7 @@ def accepted(rows: Rows):
         header_of(rows, number, size)
         rows.want("file new", result)
         rows.want("parse_header", ok("()") if result == "ok" else result)
-    rows.case("headers::refuses_by_the_first_condition")
+    rows.case("headers::rejects_by_the_first_condition")
     for number, size, result in [
         (1, 0, err("ShortPart1")), (1, 3, err("ShortPart1")), (1, 15, err("ShortPart1")), (1, 16, err("ShortHeaders")),
         (1, 51, err("ShortHeaders")), (1, 52, "ok"), (1, 53, "ok"), (2, 15, err("ShortPart1")), (2, 16, err("ShortHeaders")),

@@ -89,7 +89,7 @@ def segments(rows: Rows):
         rows.file(f"debug-link-{order}")
         note_segment(rows, order, 20)
         rows.want_all({"made 0 note type_": 3, "made 0 note name": text("GNU"), "made 0 note desc": ok(told(ID))})
-    rows.case("extensions::refuses_the_notes_of_segments")
+    rows.case("extensions::rejects_the_notes_of_segments")
     rows.file("debug-link-little")
     for number, size, error in (
         (2, 11, "ShortData"), (2, 0, "ShortData"), (2, 21, "DataRange"), (7, 20, "UnknownClass"), (7, 11, "UnknownClass"),

@@ -63,7 +63,7 @@ def names(rows: Rows):
         for numbers in ({"size": 11}, {"size": 0, "type": 1}):
             rows.of(base, ("header", 0, {"encoding": encoding}), ("section", 92, numbers))
             rows.want("get_shstr 9", text("ab"))
-    rows.case("names::names_are_refused")
+    rows.case("names::names_fail")
     rows.file("strtab-little", BASES["strtab-little"].copy().put(133, b"\xff"))
     rows.want("get_shstr 1", err("TextUtf8"))
     rows.file("strtab-little", BASES["strtab-little"].copy().put(143, b"A"))

@@ -120,7 +120,7 @@ def names(rows: Rows):
     rows.file("debug-link-little")
     rows.want("report", report(DEBUG_LINK_HEADER, "ok", DEBUG_LINK_SECTIONS))
     # An empty name is one.
-    rows.case("reports::reports_refused_names")
+    rows.case("reports::reports_failed_names")
     rows.of("debug-link-little", ("section", 128, {"name": 0}), ("section", 192, {"type": 12}), ("section", 256, {"type": 0}))
     rows.want("report", report(DEBUG_LINK_HEADER, "ok", (
         '1 Ok(StrTab) = \n2 Err("Invalid sh type") ! Invalid sh type\n3 Ok(Null) ! Attempt to get name of null section\n'

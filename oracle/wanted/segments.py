@@ -33,7 +33,7 @@ def whole(rows: Rows):
     rows.want("segment 0 raw_data", ok(told(BASES["segment"][:83])))
     rows.case("segments::iterates_over_a_segment")
     rows.want("program_iter count", 1)
-    rows.case("segments::data_may_end_past_a_segment_that_is_refused")
+    rows.case("segments::data_may_end_past_a_segment_that_fails")
     changed = rows.of("segment", ("program", 52, {"file_size": 84}))
     rows.want("segment 0 raw_data", ok(told(changed)))
     rows.case("segments::says_what_is_wrong_with_a_segment")

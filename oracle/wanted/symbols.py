@@ -151,7 +151,7 @@ def wide_indices(rows: Rows):
         rows.of("shndx-little", ("word", 199, {"word": word}))
         want_section(rows, 0xffff, result)
     # By the type and the size of the section of wide indices; the type is asked before the data is read.
-    rows.case("symbol_sections::wide_indices_are_refused")
+    rows.case("symbol_sections::wide_indices_fail")
     expected = err("ExpectedShIndex")
     for kind, size, result in (
         (18, 8, ok(1, 172)), (18, 7, err("NotMultiple")), (18, 4, err("SymbolIndex")), (18, 9, err("DataRange")), (1, 8, expected),

@@ -15,15 +15,15 @@ from pages.definitions import Reader
 PINNED = ROOT / "bindings/statuses.txt"
 FIRST, LAST = "/* The statuses, written by tools/exports/declarations.py. */", "/* End of the statuses. */"
 
-ENUMS = {"ElfError": "", "LinkError": "Link", "LoadError": "Load", "IndexError": "Index", "Refusal": ""}
+ENUMS = {"ElfError": "", "LinkError": "Link", "LoadError": "Load", "IndexError": "Index", "AnyError": ""}
 # Variants that hold an error of another enum.
-HOLDERS = {("LinkError", "Elf"), ("Refusal", "Elf"), ("Refusal", "Link"), ("Refusal", "Load"), ("Refusal", "Index"), ("LoadError", "Link")}
+HOLDERS = {("LinkError", "Elf"), ("AnyError", "Elf"), ("AnyError", "Link"), ("AnyError", "Load"), ("AnyError", "Index"), ("LoadError", "Link")}
 ERRORS = {
     "ElfError": "crates/elf_base/src/error.rt",
     "LinkError": "crates/elf_linking/src/error.rt",
     "LoadError": "crates/elf_loading/src/error.rt",
     "IndexError": "crates/elf_addresses/src/error.rt",
-    "Refusal": "crates/elf_c/src/status.rt",
+    "AnyError": "crates/elf_c/src/status.rt",
 }
 
 
@@ -33,8 +33,8 @@ def matched(path, pattern):
 
 def statuses():
     """Rows of name, number and text."""
-    texts = errors.texts() | dict(matched("crates/elf_c/src/message.rt", r'Refusal::(\w+) => "([^"]*)"'))
-    own = [matched(ERRORS["ElfError"], r"(?m)^    (\w+) = (\d+),$"), matched(ERRORS["Refusal"], r"Refusal::(\w+) => (\d+)")]
+    texts = errors.texts() | dict(matched("crates/elf_c/src/message.rt", r'AnyError::(\w+) => "([^"]*)"'))
+    own = [matched(ERRORS["ElfError"], r"(?m)^    (\w+) = (\d+),$"), matched(ERRORS["AnyError"], r"AnyError::(\w+) => (\d+)")]
     base, own = ([(name, int(number), texts[name]) for name, number in some] for some in own)
     of_library = {}
     for prefix in ("Link", "Load", "Index"):

@@ -26,11 +26,11 @@ LIBRARIES = ("elf_base", "elf_records", "xmas_elf", "elf_linking", "elf_library"
 CALLERS = ("elf_callers", "linking_callers")
 
 # Words of a clause that speak of Ok or Some alone.
-ONE_SIDE = re.compile(r"\b(IfOk|IfSome|Lends|OnOk)\b")
+ONE_SIDE = re.compile(r"\b(IfOk|IfSome|IfPart|OnOk)\b")
 # Words and clauses that say what the other results are, or when they come.
 OTHER_SIDE = re.compile(
     r"\b(Match\w+|IsOk|IsOkAnd|IsSome|IsSomeAnd|IfErr|IfNone|IsErr\w*|Answers|lent result)\b|result(\.0)? ≡|≡ result|"
-    r"ensures (exact|only|answer|missing|refused)\b"
+    r"ensures (exact|only|answer|missing|failed)\b"
 )
 # A slice in what is returned, and words that say where it lies.
 BORROWED = re.compile(r"&'a \[|-> &\[|Table<'a|Notes<'a")

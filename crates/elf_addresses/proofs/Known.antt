@@ -5,7 +5,7 @@ use Rattle.std.specs.Borrow.{Bor}
 use Rattle.std.specs.Option.{option_map_or}
 use Rattle.std.specs.Slice.{IsItemAt}
 use Rattle.elf_addresses.specs.Claims.{Covers, IsClaimAt, NoneAt}
-use Rattle.elf_addresses.specs.Index.{IsKnownIn, StandsAt, StandsOver}
+use Rattle.elf_addresses.specs.Index.{IsKnownIn, IsFoundAt, SpansOver}
 use Rattle.elf_addresses.specs.declared.claim.Claim.{Claim}
 
 -- what a slice lends at a place is its element there
@@ -30,9 +30,9 @@ known_nothing {E} claim_at items i none known is at = is ∙ ap (λ (o : Option 
 pub no_word : (words : List ℕ) (place : ℕ) → place < length words → None ≡ slice_get words place → ⊥
 no_word words place within at = none-some (get_or words place 0) (at ∙ slice_get-get_or words place 0 within)
 
-pub stands_over : (words begins sizes : List ℕ) (address place : ℕ) (found : Option ℕ) → found ≡ slice_get words place → slice_index begins place ≤ address → address < slice_index begins place + max (slice_index sizes place) 1 → IfSome found (StandsOver words begins sizes address)
-stands_over words begins sizes address place None at begun ends = tt
-stands_over words begins sizes address place (Some index) at begun ends = record {
+pub spans_over : (words begins sizes : List ℕ) (address place : ℕ) (found : Option ℕ) → found ≡ slice_get words place → slice_index begins place ≤ address → address < slice_index begins place + max (slice_index sizes place) 1 → IfSome found (SpansOver words begins sizes address)
+spans_over words begins sizes address place None at begun ends = tt
+spans_over words begins sizes address place (Some index) at begun ends = record {
   place = place;
   within = slice_get_within words place index (sym at);
   is = get_or_from_slice_get words place index 0 (sym at);
@@ -61,7 +61,7 @@ module _ (known_of : ℕ → Claim) (words : List ℕ) where
 
   module _ (claim_of : ℕ → Option Claim) (knows : (i : ℕ) (claim : Claim) → claim_of i ≡ Some claim → known_of i ≡ claim) where
     -- a claim that stands at a place is the one that is known there
-    pub known_there : (place index address : ℕ) (known : Claim) (found : Option Claim) → Some index ≡ slice_get words place → known ≡ known_of index → (Covers known address → found ≡ Some known) → (claim : Claim) → StandsAt claim_of words place claim → Covers claim address → found ≡ Some claim
+    pub known_there : (place index address : ℕ) (known : Claim) (found : Option Claim) → Some index ≡ slice_get words place → known ≡ known_of index → (Covers known address → found ≡ Some known) → (claim : Claim) → IsFoundAt claim_of words place claim → Covers claim address → found ≡ Some claim
     known_there place index address known found at is found_if claim stands covers =
         let same : known ≡ claim = is ∙ sym (ap known_of (get_or_from_slice_get words place index 0 (sym at))) ∙ knows (slice_index words place) claim stands.1 in
         found_if (subst (λ k. Covers k address) (sym same) covers) ∙ ap (λ k. Some k) same

@@ -1,7 +1,7 @@
 -- The next begin of a claim, by an index whose words are in order.
 use Rattle.std.proofs.Common.{◌≡◌, ℕ, ◌<◌, ◌≤◌, min, false, List, length, slice_index, Option, Some, subst, sym, arith, inl, inr}
 use Rattle.std.proofs.lemmas.Bool.{cases_lt}
-use Rattle.elf_addresses.specs.Index.{IsWorstFirst, StandsAt}
+use Rattle.elf_addresses.specs.Index.{IsWorstFirst, IsFoundAt}
 use Rattle.elf_addresses.specs.Owner.{ClaimBegins}
 use Rattle.elf_addresses.specs.Runs.{IsNext}
 use Rattle.elf_addresses.specs.declared.claim.Claim.{Claim}
@@ -9,7 +9,7 @@ use Rattle.elf_addresses.proofs.Ask.{begin_of, rising}
 
 module _ (claim_of : ℕ → Option Claim) (range_of : ℕ → ℕ × ℕ) (ranged : (i : ℕ) (claim : Claim) → claim_of i ≡ Some claim → range_of i ≡ (claim.begin, claim.size)) (own : (i : ℕ) (claim : Claim) → claim_of i ≡ Some claim → claim.index ≡ i) where
   -- a claim that begins after the byte stands at or after the count
-  after_count : (words : List ℕ) (byte count place : ℕ) (claim : Claim) → ((k : ℕ) → k < count → (range_of (slice_index words k)).0 ≤ byte) → StandsAt claim_of words place claim → byte < claim.begin → count ≤ place
+  after_count : (words : List ℕ) (byte count place : ℕ) (claim : Claim) → ((k : ℕ) → k < count → (range_of (slice_index words k)).0 ≤ byte) → IsFoundAt claim_of words place claim → byte < claim.begin → count ≤ place
   after_count words byte count place claim begun stands behind = elim (cases_lt place count) [
     | inl less ↦
         let p : (range_of (slice_index words place)).0 ≤ byte = begun place less in

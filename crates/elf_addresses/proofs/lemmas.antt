@@ -1,3 +1,3 @@
 pub mod FilePieces
-pub mod LentAnswers
+pub mod PartAnswers
 pub mod ObjectStrings

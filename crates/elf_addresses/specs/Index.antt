@@ -8,8 +8,8 @@ abbrev pub IsKind : Bool → Claim → Type 0
 IsKind is_open claim = (claim.size == 0) ≡ is_open
 
 -- the claim is the one at the index that the word at a place is
-abbrev pub StandsAt : (ℕ → Option Claim) → List ℕ → ℕ → Claim → Type 0
-StandsAt claim_of words place claim = (place < length words) × (claim_of (slice_index words place) ≡ Some claim)
+abbrev pub IsFoundAt : (ℕ → Option Claim) → List ℕ → ℕ → Claim → Type 0
+IsFoundAt claim_of words place claim = (place < length words) × (claim_of (slice_index words place) ≡ Some claim)
 
 -- the claim is the one known at the word at a place
 pub record IsKnownIn (known_of : ℕ → Claim) (words : List ℕ) (claim : Claim) : Type 0 where
@@ -18,7 +18,7 @@ pub record IsKnownIn (known_of : ℕ → Claim) (words : List ℕ) (claim : Clai
   pub known : known_of (slice_index words place) ≡ claim
 
 -- the number is the word at a place where the range of a first address and a size has an address
-pub record StandsOver (words begins sizes : List ℕ) (address index : ℕ) : Type 0 where
+pub record SpansOver (words begins sizes : List ℕ) (address index : ℕ) : Type 0 where
   pub place : ℕ
   pub within : place < length words
   pub is : slice_index words place ≡ index
@@ -27,14 +27,14 @@ pub record StandsOver (words begins sizes : List ℕ) (address index : ℕ) : Ty
 
 -- the word at a place is the index of an open claim, or of a sized one
 abbrev pub IsWord : (ℕ → Option Claim) → Bool → List ℕ → ℕ → Type 0
-IsWord claim_of is_open words place = (claim : Claim) × StandsAt claim_of words place claim × IsKind is_open claim
+IsWord claim_of is_open words place = (claim : Claim) × IsFoundAt claim_of words place claim × IsKind is_open claim
 
 -- the words are the indices of the open claims, or of the sized ones: each is there, and the one that is further in is
 -- later
 pub record IsWorstFirst (claim_of : ℕ → Option Claim) (is_open : Bool) (words : List ℕ) : Type 0 where
   pub each : (place : ℕ) → place < length words → IsWord claim_of is_open words place
-  pub all : (claim : Claim) → Among claim_of (IsKind is_open) claim → (place : ℕ) × StandsAt claim_of words place claim
-  pub order : (j k : ℕ) (c d : Claim) → j < k → StandsAt claim_of words j c → StandsAt claim_of words k d → comes_before d c ≡ true
+  pub all : (claim : Claim) → Among claim_of (IsKind is_open) claim → (place : ℕ) × IsFoundAt claim_of words place claim
+  pub order : (j k : ℕ) (c d : Claim) → j < k → IsFoundAt claim_of words j c → IsFoundAt claim_of words k d → comes_before d c ≡ true
 
 -- no number is greater than a later one
 abbrev pub IsRising : List ℕ → Type 0

@@ -3,11 +3,11 @@
 use Rattle.std.specs.Prelude.{◌≡◌, ◌≢◌, ℕ, List, [], Ok, None, Some}
 use Rattle.elf_base.specs.FileHeader.{file_class}
 use Rattle.elf_base.specs.Table.{table_data}
-use Rattle.elf_addresses.specs.Symtab.{IsSymtab, IsSymtabRefused, IsSymtabSection, LieAsSymtab}
+use Rattle.elf_addresses.specs.Symtab.{IsSymtab, IsSymtabFailed, IsSymtabSection, LieAsSymtab}
 use Rattle.elf_addresses.specs.declared.file_symbols.AnyAddressSymbols.{AnyAddressSymbols}
 use Rattle.elf_addresses.specs.declared.file_symbols.AnyAddressSymbols.TheVariants.{Narrow, Wide}
 use Rattle.elf_addresses.specs.declared.symbols.AddressSymbols.{AddressSymbols}
-use Rattle.elf_linking.specs.DynamicObject.{IsObject, IsObjectRefused, object_records}
+use Rattle.elf_linking.specs.DynamicObject.{IsObject, IsObjectError, object_records}
 use Rattle.elf_linking.specs.DynamicView.{LiesAsFileStrings, dynamic_strings_of}
 use Rattle.elf_linking.specs.References.{file_machine}
 use Rattle.elf_linking.specs.declared.error.LinkError.{LinkError}
@@ -39,10 +39,10 @@ pub data AreAddressSymbols {E : Type 0} {r : _} (class size : ℕ) (file : ElfFi
 pub data HasNoSymbols (class size : ℕ) (file : ElfFile) : LinkError → Type 0 where
   other_class : file_class file.header ≢ class → HasNoSymbols class size file UnknownClass
   by_symtab : (index : ℕ) (error : ElfError) → file_class file.header ≡ class
-      → FindsFirstAt IsSymtabSection (section_list file) (Some index) → IsSymtabRefused size file index error
+      → FindsFirstAt IsSymtabSection (section_list file) (Some index) → IsSymtabFailed size file index error
       → HasNoSymbols class size file (Elf error)
   by_dynamic : (error : LinkError) → file_class file.header ≡ class
-      → FindsFirstAt IsSymtabSection (section_list file) None → IsObjectRefused class size file error
+      → FindsFirstAt IsSymtabSection (section_list file) None → IsObjectError class size file error
       → HasNoSymbols class size file error
 
 -- the symbols of a file of either class

@@ -3,7 +3,7 @@
 use Rattle.std.specs.Prelude.{◌≡◌, ◌≢◌, ℕ, ◌%◌, ◌==◌, List, [], length, Option, None, Some, Result, Ok, Err, IsOkAnd, IsSomeAnd, if◌then◌else◌}
 use Rattle.std.specs.Borrow.{Bor}
 use Rattle.elf_base.specs.FileHeader.{file_order}
-use Rattle.elf_base.specs.Refusal.{and_then}
+use Rattle.elf_base.specs.FirstError.{and_then}
 use Rattle.elf_base.specs.Table.{table_bytes, table_data, table_order}
 use Rattle.elf_base.specs.declared.error.ElfError.TheVariants.{NotMultiple}
 use Rattle.elf_addresses.specs.declared.symbols.AddressSymbols.{AddressSymbols}
@@ -87,7 +87,7 @@ LieAsSymtab file index symbols = LieAsParts file index (table_bytes symbols.tabl
     × LieAsIndices file index (table_bytes symbols.indices)
 
 -- why the section at an index has no symbols: an error of a section, or its data is not a whole number of symbols
-pub data IsSymtabRefused (size : ℕ) (file : ElfFile) (index : ℕ) : ElfError → Type 0 where
-  no_parts : (error : ElfError) → parts_of file index ≡ Err error → IsSymtabRefused size file index error
+pub data IsSymtabFailed (size : ℕ) (file : ElfFile) (index : ℕ) : ElfError → Type 0 where
+  no_parts : (error : ElfError) → parts_of file index ≡ Err error → IsSymtabFailed size file index error
   not_whole : (parts : List ℕ × List ℕ) → parts_of file index ≡ Ok parts → length parts.0 % size ≢ 0
-      → IsSymtabRefused size file index NotMultiple
+      → IsSymtabFailed size file index NotMultiple

@@ -4,7 +4,7 @@
 ghost use Rattle.std.specs.Prelude.{MatchResult};
 ghost use Rattle.elf_addresses.specs.OfFile.{AreDynamic, AreAddressSymbols, AreOfEitherClass};
 ghost use Rattle.elf_addresses.specs.OfFile.{HasNoSymbols, HasNoneOfEitherClass};
-ghost use Rattle.elf_linking.specs.DynamicObject.{IsObjectRefused};
+ghost use Rattle.elf_linking.specs.DynamicObject.{IsObjectError};
 
 use crate::symbols::AddressSymbols;
 use crate::symtab::{symtab_at, symtab_index};
@@ -40,7 +40,7 @@ impl<'a, E: LinkedSymbol> AddressSymbols<'a, E> {
     /// counts, with no section header. The errors are those of `DynamicObject::read`.
     pub fn of_dynamic(file: &ElfFile<'a>) -> Result<Self, LinkError>
         ensures { MatchResult result (AreDynamic E.CLASS E.SIZE file.now)
-            (IsObjectRefused E.CLASS E.SIZE file.now) }
+            (IsObjectError E.CLASS E.SIZE file.now) }
     {
         let object = DynamicObject::<E>::read(file)?;
         let Ok(strings) = strings(file) else {

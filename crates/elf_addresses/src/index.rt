@@ -2,7 +2,7 @@
 
 ghost use Rattle.std.specs.Prelude.{◌≡◌, ◌≤◌, ◌↔◌, false, ◌⊎◌, length, take, drop, IfSome, IsTrue, MatchOption, Some};
 ghost use Rattle.elf_addresses.specs.Claims.{Among, Covers, FindsOpenBelow, IsForemost, IsInnermost, comes_before};
-ghost use Rattle.elf_addresses.specs.Index.{IsKind, IsKnownIn, IsWellBuilt, StandsOver};
+ghost use Rattle.elf_addresses.specs.Index.{IsKind, IsKnownIn, IsWellBuilt, SpansOver};
 ghost use Rattle.elf_addresses.specs.declared.claim.Claim.{Claim};
 
 mod ask;
@@ -116,7 +116,7 @@ impl<'c, 'w, C: Claims> ClaimIndex<'c, 'w, C> {
     /// built, without a look at the claims. Otherwise an index in `sized` at whose place the range in
     /// `begins` and `sizes` covers the address, or none.
     pub fn innermost_index(&self, address: u64) -> Option<usize>
-        ensures listed { IfSome result (StandsOver self.now.sized.now self.now.begins.now
+        ensures listed { IfSome result (SpansOver self.now.sized.now self.now.begins.now
             self.now.sizes.now address) }
         ensures innermost { IsWellBuilt (C.claim_of self.now.claims.now)
             (C.range_of self.now.claims.now) self.now.sized.now self.now.begins.now

@@ -3,7 +3,7 @@
 ghost use Rattle.std.specs.Prelude.{◌≡◌, ◌≢◌, ◌↔◌, ◌%◌, IfOk, IsTrue, MatchResult, Ok, Err, length};
 ghost use Rattle.elf_base.specs.Lent.{Answers};
 ghost use Rattle.elf_addresses.specs.Symtab.{IsIndexData, IsIndexSection, IsSymtab};
-ghost use Rattle.elf_addresses.specs.Symtab.{IsSymtabRefused, IsSymtabSection, data_at};
+ghost use Rattle.elf_addresses.specs.Symtab.{IsSymtabFailed, IsSymtabSection, data_at};
 ghost use Rattle.elf_addresses.specs.Symtab.{LieAsIndices, LieAsParts, LieAsSymtab, LieAsWords};
 ghost use Rattle.elf_addresses.specs.Symtab.{LiesAsDataAt, lent_bytes, parts_of, whole_words, words_at};
 ghost use Rattle.xmas_elf.specs.First.{FindsFirstAt};
@@ -44,7 +44,7 @@ pub fn symtab_at<'a, E: Entry + Record>(
     index: usize,
 ) -> Result<AddressSymbols<'a, E>, ElfError>
     ensures symbols { MatchResult result (IsSymtab file.now index)
-        (IsSymtabRefused E.SIZE file.now index) }
+        (IsSymtabFailed E.SIZE file.now index) }
     ensures place { IfOk result (LieAsSymtab file.now index) }
 {
     let parts = match parts_of(file, index) {

@@ -8,7 +8,7 @@ use Rattle.std.proofs.lemmas.Str.{IsUtf8-from_is_utf8, is_utf8-from_IsUtf8}
 use Rattle.memchr.specs.Find.{Nowhere, NoneBefore, Passes, is_byte}
 use Rattle.elf_base.specs.declared.error.ElfError.{ElfError}
 use Rattle.elf_base.specs.declared.error.ElfError.TheVariants.{TextStart, TextEnd, TextUtf8}
-use Rattle.elf_base.specs.Text.{BytesRefused, EndsInZero, IsText, NoZeroFrom, TextRefused, as_text, before_zero, bytes_up_to_zero_of, text_of}
+use Rattle.elf_base.specs.Text.{BytesError, EndsInZero, IsText, NoZeroFrom, TextError, as_text, before_zero, bytes_up_to_zero_of, text_of}
 use Rattle.elf_base.proofs.Numbers.{rest}
 
 -- a search of `&bytes[start..]` that found no zero byte
@@ -85,19 +85,19 @@ bytes-ended bytes start t ended =
     let before : before_zero (drop start bytes) ≡ Some t = before_zero-ended bytes start t ended in
     rw (low, before) refl
 
--- if the bytes at `start` are refused, `bytes_up_to_zero_of` is that error
-pub bytes-refused : (bytes : List ℕ) (start : ℕ) (e : ElfError) → BytesRefused bytes start e → bytes_up_to_zero_of bytes start ≡ Err e
+-- if the bytes at `start` have an error, `bytes_up_to_zero_of` is that error
+pub bytes-failed : (bytes : List ℕ) (start : ℕ) (e : ElfError) → BytesError bytes start e → bytes_up_to_zero_of bytes start ≡ Err e
 unfolding bytes_up_to_zero_of
-bytes-refused bytes start TextStart refused =
-    let low : ltb (length bytes) start ≡ true = lt-ltb (length bytes) start refused in
+bytes-failed bytes start TextStart failed =
+    let low : ltb (length bytes) start ≡ true = lt-ltb (length bytes) start failed in
     rw low refl
-bytes-refused bytes start TextEnd refused =
-    let within = refused.0 in
+bytes-failed bytes start TextEnd failed =
+    let within = failed.0 in
     let low : ltb (length bytes) start ≡ false = le-ltb (length bytes) start (omega arith) in
     let all = length-drop start bytes in
-    let before : before_zero (drop start bytes) ≡ None = before_zero-none (drop start bytes) (λ k h is. refused.1 (start + k) (omega arith) (omega arith) (sym (get_or-drop start bytes k 0) ∙ is)) in
+    let before : before_zero (drop start bytes) ≡ None = before_zero-none (drop start bytes) (λ k h is. failed.1 (start + k) (omega arith) (omega arith) (sym (get_or-drop start bytes k 0) ∙ is)) in
     rw (low, before) refl
-bytes-refused bytes start _ refused = absurd refused
+bytes-failed bytes start _ failed = absurd failed
 
 -- if there is a text at `start`, `text_of` is that text
 pub text_of-text : (bytes : List ℕ) (start : ℕ) (t : List ℕ) → IsText bytes start t → text_of bytes start ≡ Ok t
@@ -107,17 +107,17 @@ text_of-text bytes start t is =
     let utf8 : is_utf8 t ≡ true = is_utf8-from_IsUtf8 t is.utf8 in
     rw (ended, utf8) refl
 
--- if the text at `start` is refused, `text_of` is that error
-pub text_of-refused : (bytes : List ℕ) (start : ℕ) (e : ElfError) → TextRefused bytes start e → text_of bytes start ≡ Err e
+-- if the text at `start` has an error, `text_of` is that error
+pub text_of-failed : (bytes : List ℕ) (start : ℕ) (e : ElfError) → TextError bytes start e → text_of bytes start ≡ Err e
 unfolding text_of
-text_of-refused bytes start TextStart refused = rw (bytes-refused bytes start TextStart refused) refl
-text_of-refused bytes start TextEnd refused = rw (bytes-refused bytes start TextEnd refused) refl
-text_of-refused bytes start TextUtf8 refused =
-    let (t, ended, never) = refused in
+text_of-failed bytes start TextStart failed = rw (bytes-failed bytes start TextStart failed) refl
+text_of-failed bytes start TextEnd failed = rw (bytes-failed bytes start TextEnd failed) refl
+text_of-failed bytes start TextUtf8 failed =
+    let (t, ended, never) = failed in
     let found = bytes-ended bytes start t ended in
     let utf8 : is_utf8 t ≡ false = not_utf8 t (is_utf8 t) refl never in
     rw (found, utf8) refl
-text_of-refused bytes start _ refused = absurd refused
+text_of-failed bytes start _ failed = absurd failed
 
 -- `text_of` is the bytes as a text, or the error for the bytes
 pub text_of-bytes : (bytes : List ℕ) (start : ℕ) (t : List ℕ) → bytes_up_to_zero_of bytes start ≡ Ok t → text_of bytes start ≡ as_text t

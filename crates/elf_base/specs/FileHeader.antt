@@ -19,7 +19,7 @@ use Rattle.elf_base.specs.declared.header.HeaderPt1.{HeaderPt1}
 use Rattle.elf_base.specs.declared.header.HeaderPt2_.{HeaderPt2_}
 use Rattle.elf_base.specs.declared.header.HeaderPt2.{HeaderPt2}
 use Rattle.elf_base.specs.declared.header.HeaderPt2.TheVariants.{Header32, Header64}
-use Rattle.elf_base.specs.Refusal.{unless}
+use Rattle.elf_base.specs.FirstError.{unless}
 use Rattle.elf_base.specs.declared.error.ElfError.{ElfError}
 use Rattle.elf_base.specs.declared.header.Header.{Header}
 use lib.Pointwise.{pointwise}

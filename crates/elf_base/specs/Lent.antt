@@ -4,8 +4,8 @@ use Rattle.std.specs.Borrow.{Bor}
 use Rattle.elf_base.specs.declared.error.ElfError.{ElfError}
 
 -- if the result is Ok, the returned bytes have the property
-abbrev pub Lends : (List ℕ → Type 0) → Result (Bor (List ℕ)) ElfError → Type 0
-Lends Is result = IfOk result (λ part. Is part.now)
+abbrev pub IfPart : (List ℕ → Type 0) → Result (Bor (List ℕ)) ElfError → Type 0
+IfPart Is result = IfOk result (λ part. Is part.now)
 
 -- `part` lies in memory at byte `place` of `whole`: a reference points into a block of memory
 pub record LiesAt (whole : Bor (List ℕ)) (place : ℕ) (part : Bor (List ℕ)) : Type 0 where

@@ -1,5 +1,5 @@
 pub mod Number
-pub mod Refusal
+pub mod FirstError
 pub mod Message
 pub mod FileHeader
 pub mod Printed

@@ -2,7 +2,7 @@
 use Rattle.std.specs.Prelude.{◌≡◌, ◌≢◌, ◌↔◌, ℕ, ◌==◌, ◌<◌, ◌≤◌, nat_lt, List, [], ◌∷◌, ◌++◌, length, drop, slice_index, not, is_none, unwrap_or, option_map, Option, None, Some, Result, Ok, Err, IsOkAnd, if◌then◌else◌}
 use Rattle.std.specs.Borrow.{Bor}
 use Rattle.std.specs.Str.{IsUtf8, is_utf8}
-use Rattle.elf_base.specs.Refusal.{and_then, unless}
+use Rattle.elf_base.specs.FirstError.{and_then, unless}
 use Rattle.elf_base.specs.declared.error.ElfError.{ElfError}
 use Rattle.elf_base.specs.declared.error.ElfError.TheVariants.{TextStart, TextEnd, TextUtf8}
 
@@ -22,17 +22,17 @@ abbrev pub NoZeroFrom : List ℕ → ℕ → Type 0
 NoZeroFrom bytes start = (k : ℕ) → start ≤ k → k < length bytes → slice_index bytes k ≢ 0
 
 -- why no zero byte ends the bytes from `start` on
-abbrev pub BytesRefused : List ℕ → ℕ → ElfError → Type 0
-BytesRefused bytes start TextStart = length bytes < start
-BytesRefused bytes start TextEnd = (start ≤ length bytes) × NoZeroFrom bytes start
-BytesRefused bytes start _ = ⊥
+abbrev pub BytesError : List ℕ → ℕ → ElfError → Type 0
+BytesError bytes start TextStart = length bytes < start
+BytesError bytes start TextEnd = (start ≤ length bytes) × NoZeroFrom bytes start
+BytesError bytes start _ = ⊥
 
 -- why there is no text at `start`
-abbrev pub TextRefused : List ℕ → ℕ → ElfError → Type 0
-TextRefused bytes start TextStart = length bytes < start
-TextRefused bytes start TextEnd = (start ≤ length bytes) × NoZeroFrom bytes start
-TextRefused bytes start TextUtf8 = (text : List ℕ) × EndsInZero bytes start text × (IsUtf8 text → ⊥)
-TextRefused bytes start _ = ⊥
+abbrev pub TextError : List ℕ → ℕ → ElfError → Type 0
+TextError bytes start TextStart = length bytes < start
+TextError bytes start TextEnd = (start ≤ length bytes) × NoZeroFrom bytes start
+TextError bytes start TextUtf8 = (text : List ℕ) × EndsInZero bytes start text × (IsUtf8 text → ⊥)
+TextError bytes start _ = ⊥
 
 -- the bytes before the first zero byte, if there is one
 abbrev pub before_zero : List ℕ → Option (List ℕ)

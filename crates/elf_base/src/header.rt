@@ -6,7 +6,7 @@ ghost use Rattle.elf_base.specs.FileHeader.{IsAccepted, class_number, class_of, 
 ghost use Rattle.elf_base.specs.FileHeader.{encoding_of, file_header, header_fields, header_of};
 ghost use Rattle.elf_base.specs.FileHeader.{order_of, os_abi_number, os_abi_of, pt2_record};
 ghost use Rattle.elf_base.specs.FileHeader.{pt2_size, version_number, version_of};
-ghost use Rattle.elf_base.specs.Refusal.{unless};
+ghost use Rattle.elf_base.specs.FirstError.{unless};
 
 mod layout;
 mod numbers;

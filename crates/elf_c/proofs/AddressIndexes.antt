@@ -15,7 +15,7 @@ use Rattle.elf_addresses.specs.declared.claim.Claim.{Claim}
 use Rattle.elf_addresses.specs.declared.find.At.{At}
 use Rattle.elf_addresses.specs.declared.symbols.AddressSymbols.{AddressSymbols}
 use Rattle.elf_base.specs.FileHeader.{order_of}
-use Rattle.elf_base.specs.Refusal.{and_then}
+use Rattle.elf_base.specs.FirstError.{and_then}
 use Rattle.elf_base.specs.Table.{records, table_items}
 use Rattle.elf_base.specs.declared.bytes.Order.{Order}
 use Rattle.elf_base.specs.declared.error.ElfError.{ElfError}
@@ -31,8 +31,8 @@ use Rattle.elf_c.specs.declared.address_index.AddressIndex.{AddressIndex}
 use Rattle.elf_c.specs.declared.address_index.Sizes.{Sizes}
 use Rattle.elf_c.specs.declared.address_index.SymbolAt.{SymbolAt}
 use Rattle.elf_c.specs.declared.names.Range.{Range}
-use Rattle.elf_c.specs.declared.status.Refusal.{Refusal}
-use Rattle.elf_c.specs.declared.status.Refusal.TheVariants.{Elf}
+use Rattle.elf_c.specs.declared.status.AnyError.{AnyError}
+use Rattle.elf_c.specs.declared.status.AnyError.TheVariants.{Elf}
 use Rattle.elf_c.specs.declared.symbol_tables.AnySymbols.{AnySymbols}
 use Rattle.elf_c.specs.declared.symbol_tables.AnySymbols.TheVariants.{Narrow, Wide}
 use Rattle.elf_c.specs.declared.symbol_tables.SymbolTable.{SymbolTable}
@@ -80,7 +80,7 @@ same_index fields symbols within sized opens words numbers is =
     subst (λ c. IsIndexWith c (range_in (addresses_of_table fields symbols)) sized opens words numbers) (same_claims fields symbols within)
     (subst (λ r. IsIndexWith (claim_of_symbols fields symbols within) r sized opens words numbers) (same_ranges fields symbols) is)
 
-pub same_built : {E : Type 0} {r : _} (fields : E → SymbolFields) (symbols : AddressSymbols E r) (within : Option ℕ) (size : ℕ) (words numbers : List ℕ) (answer : Result Sizes Refusal) → IfOk answer (λ s. s.words ≤ size → IsIndexWith (claim_of_symbols fields symbols within) (range_of_symbols fields symbols) s.sized_count s.open_count words numbers) → IfOk answer (λ s. s.words ≤ size → IsIndexIn (addresses_of_table fields symbols) within s.sized_count s.open_count words numbers)
+pub same_built : {E : Type 0} {r : _} (fields : E → SymbolFields) (symbols : AddressSymbols E r) (within : Option ℕ) (size : ℕ) (words numbers : List ℕ) (answer : Result Sizes AnyError) → IfOk answer (λ s. s.words ≤ size → IsIndexWith (claim_of_symbols fields symbols within) (range_of_symbols fields symbols) s.sized_count s.open_count words numbers) → IfOk answer (λ s. s.words ≤ size → IsIndexIn (addresses_of_table fields symbols) within s.sized_count s.open_count words numbers)
 same_built fields symbols within size words numbers (Ok s) built = λ fits. same_index fields symbols within s.sized_count s.open_count words numbers (built fits)
 same_built fields symbols within size words numbers (Err why) built = tt
 
@@ -99,7 +99,7 @@ abbrev pub items_in : AnySymbols → List SymbolFields
 items_in (Narrow table) = map dyn_entry_32_fields (table_items table)
 items_in (Wide table) = map dyn_entry_64_fields (table_items table)
 
-items_among : (narrow : Bool) (order : Order) (bytes : List ℕ) (answer : Result AnySymbols Refusal) → AreSymbolsIn narrow order bytes answer → MatchResult answer (λ symbols. symbol_records_in narrow order bytes ≡ Ok (items_in symbols)) (λ why. symbol_records_in narrow order bytes ≡ Err why)
+items_among : (narrow : Bool) (order : Order) (bytes : List ℕ) (answer : Result AnySymbols AnyError) → AreSymbolsIn narrow order bytes answer → MatchResult answer (λ symbols. symbol_records_in narrow order bytes ≡ Ok (items_in symbols)) (λ why. symbol_records_in narrow order bytes ≡ Err why)
 items_among true order bytes (Ok (Narrow table)) is = rw is.0 (ap (λ xs. Ok (map dyn_entry_32_fields xs)) (sym is.1))
 items_among true order bytes (Ok (Wide table)) is = absurd is
 items_among true order bytes (Err why) is = rw is.0 (ap (λ x. Err x) (sym is.1))
@@ -107,36 +107,36 @@ items_among false order bytes (Ok (Narrow table)) is = absurd is
 items_among false order bytes (Ok (Wide table)) is = rw is.0 (ap (λ xs. Ok (map dyn_entry_64_fields xs)) (sym is.1))
 items_among false order bytes (Err why) is = rw is.0 (ap (λ x. Err x) (sym is.1))
 
-pub items_read : (input : List ℕ) (table : SymbolTable) (answer : Result AnySymbols Refusal) → AreSymbolsBy input table answer → MatchResult answer (λ symbols. symbols_by input table ≡ Ok (items_in symbols)) (λ why. symbols_by input table ≡ Err why)
+pub items_read : (input : List ℕ) (table : SymbolTable) (answer : Result AnySymbols AnyError) → AreSymbolsBy input table answer → MatchResult answer (λ symbols. symbols_by input table ≡ Ok (items_in symbols)) (λ why. symbols_by input table ≡ Err why)
 items_read input table answer = by_range (range_of input table.symbols.offset table.symbols.size) refl
   where
-    Is : Result (List SymbolFields) Refusal → Type 0
+    Is : Result (List SymbolFields) AnyError → Type 0
     Is found = MatchResult answer (λ symbols. found ≡ Ok (items_in symbols)) (λ why. found ≡ Err why)
 
-    refused : (error : ElfError) (found : Result AnySymbols Refusal) → found ≡ Err (Elf error) → MatchResult found (λ symbols. ◌≡◌ {A = Result (List SymbolFields) Refusal} (Err (Elf error)) (Ok (items_in symbols))) (λ why. ◌≡◌ {A = Result (List SymbolFields) Refusal} (Err (Elf error)) (Err why))
-    refused error (Ok symbols) same = absurd (cc)
-    refused error (Err why) same = cc
+    failed : (error : ElfError) (found : Result AnySymbols AnyError) → found ≡ Err (Elf error) → MatchResult found (λ symbols. ◌≡◌ {A = Result (List SymbolFields) AnyError} (Err (Elf error)) (Ok (items_in symbols))) (λ why. ◌≡◌ {A = Result (List SymbolFields) AnyError} (Err (Elf error)) (Err why))
+    failed error (Ok symbols) same = absurd (cc)
+    failed error (Err why) same = cc
 
     by_range : (found : Result (List ℕ) ElfError) → range_of input table.symbols.offset table.symbols.size ≡ found → MatchResult found (λ bytes. AreSymbolsIn (table.class == 1) (order_of table.encoding) bytes answer) (λ error. answer ≡ Err (Elf error)) → Is (and_so found (symbol_records_in (table.class == 1) (order_of table.encoding)))
     by_range (Ok bytes) is are = items_among (table.class == 1) (order_of table.encoding) bytes answer are
-    by_range (Err error) is are = refused error answer are
+    by_range (Err error) is are = failed error answer are
 
 -- what the ranges of a record contain, or the first error
 module _ (input : List ℕ) (table : SymbolTable) (indices : Range) (machine : ℕ) where
   pub all_read : (symbols : AnySymbols) (strings words : List ℕ) → AreSymbolsBy input table (Ok symbols) → range_of input table.strings.offset table.strings.size ≡ Ok strings → words_by input indices (order_of table.encoding) ≡ Ok words → addresses_by input table indices machine ≡ Ok (record { items = items_in symbols; strings = strings; words = words; machine = machine })
   all_read symbols strings words are is also = rw (items_read input table (Ok symbols) are, is, also) refl
 
-  pub no_symbols : (why : Refusal) → AreSymbolsBy input table (Err why) → addresses_by input table indices machine ≡ Err why
+  pub no_symbols : (why : AnyError) → AreSymbolsBy input table (Err why) → addresses_by input table indices machine ≡ Err why
   no_symbols why are = rw (items_read input table (Err why) are) refl
 
   pub no_strings : (symbols : AnySymbols) (error : ElfError) → AreSymbolsBy input table (Ok symbols) → range_of input table.strings.offset table.strings.size ≡ Err error → addresses_by input table indices machine ≡ Err (Elf error)
   no_strings symbols error are is = rw (items_read input table (Ok symbols) are, is) refl
 
-  pub no_words : (symbols : AnySymbols) (strings : List ℕ) (why : Refusal) → AreSymbolsBy input table (Ok symbols) → range_of input table.strings.offset table.strings.size ≡ Ok strings → words_by input indices (order_of table.encoding) ≡ Err why → addresses_by input table indices machine ≡ Err why
+  pub no_words : (symbols : AnySymbols) (strings : List ℕ) (why : AnyError) → AreSymbolsBy input table (Ok symbols) → range_of input table.strings.offset table.strings.size ≡ Ok strings → words_by input indices (order_of table.encoding) ≡ Err why → addresses_by input table indices machine ≡ Err why
   no_words symbols strings why are is also = rw (items_read input table (Ok symbols) are, is, also) refl
 
 -- the symbol of an answer is the one at its index
-ok_same : (xs ys : List SymbolFields) → ◌≡◌ {A = Result (List SymbolFields) Refusal} (Ok xs) (Ok ys) → xs ≡ ys
+ok_same : (xs ys : List SymbolFields) → ◌≡◌ {A = Result (List SymbolFields) AnyError} (Ok xs) (Ok ys) → xs ≡ ys
 ok_same xs ys is = cc
 
 some_same : (a b : SymbolFields) → Some a ≡ Some b → a ≡ b
@@ -164,7 +164,7 @@ value_among false order bytes items is index symbol there = by_size (length byte
 abbrev addresses_with : List SymbolFields → List ℕ → List ℕ → ℕ → Addresses
 addresses_with items strings words machine = record { items = items; strings = strings; words = words; machine = machine }
 
-all_same : (a b : Addresses) → ◌≡◌ {A = Result Addresses Refusal} (Ok a) (Ok b) → a ≡ b
+all_same : (a b : Addresses) → ◌≡◌ {A = Result Addresses AnyError} (Ok a) (Ok b) → a ≡ b
 all_same a b is = cc
 
 one_same : (a b : SymbolAt) → Some a ≡ Some b → a ≡ b
@@ -180,7 +180,7 @@ value_by input table items index symbol is there = by_range (range_of input tabl
     by_range (Ok bytes) read = value_among (table.class == 1) (order_of table.encoding) bytes items read index symbol there
     by_range (Err error) read = absurd (cc)
 
-items_of : (items : Result (List SymbolFields) Refusal) (strings : Result (List ℕ) ElfError) (words : Result (List ℕ) Refusal) (machine : ℕ) (all : Addresses) → and_then items (λ i. and_so strings (λ s. and_then words (λ w. Ok (record { items = i; strings = s; words = w; machine = machine })))) ≡ Ok all → items ≡ Ok all.items
+items_of : (items : Result (List SymbolFields) AnyError) (strings : Result (List ℕ) ElfError) (words : Result (List ℕ) AnyError) (machine : ℕ) (all : Addresses) → and_then items (λ i. and_so strings (λ s. and_then words (λ w. Ok (record { items = i; strings = s; words = w; machine = machine })))) ≡ Ok all → items ≡ Ok all.items
 items_of (Ok i) (Ok s) (Ok w) machine all is = let same : addresses_with i s w machine ≡ all = all_same _ _ is in ap (λ (a : Addresses). Ok a.items) same
 items_of (Ok i) (Ok s) (Err why) machine all is = absurd (cc)
 items_of (Ok i) (Err error) w machine all is = absurd (cc)
@@ -201,7 +201,7 @@ answer_has all input table address (Some claim) said is numbers one = by_item (s
 abbrev pub AreThere : List ℕ → AddressIndex → List ℕ → List SymbolAt → Type 0
 AreThere input index addresses new = (k : ℕ) (one : SymbolAt) → k < length addresses → slice_get new k ≡ Some one → one.found ≡ 1 → symbol_by symbol_record input index.table one.index ≡ Ok one.symbol
 
-pub symbols_found : (input : List ℕ) (index : AddressIndex) (words numbers addresses : List ℕ) (old new : List SymbolAt) (answer : Result (Unit {0}) Refusal) → AreAnswered input index words numbers addresses old answer new → IfOk answer (λ done. AreThere input index addresses new)
+pub symbols_found : (input : List ℕ) (index : AddressIndex) (words numbers addresses : List ℕ) (old new : List SymbolAt) (answer : Result (Unit {0}) AnyError) → AreAnswered input index words numbers addresses old answer new → IfOk answer (λ done. AreThere input index addresses new)
 symbols_found input index words numbers addresses old new answer are = by_all (addresses_by input index.table index.indices index.machine) refl are
   where
     each : (all : Addresses) → addresses_by input index.table index.indices index.machine ≡ Ok all → AreStored (IsAnswerIn all index words numbers) addresses old new → AreThere input index addresses new
@@ -216,9 +216,9 @@ symbols_found input index words numbers addresses old new answer are = by_all (a
         (items_of (symbols_by input index.table) (range_of input index.table.strings.offset index.table.strings.size) (words_by input index.indices (order_of index.table.encoding)) index.machine all is)
         answered.numbers (ap (λ (s : SymbolAt). s.found) same ∙ found))
 
-    by_all : (found : Result Addresses Refusal) → addresses_by input index.table index.indices index.machine ≡ found → MatchResult found (λ all. (answer ≡ Ok tt) × AreStored (IsAnswerIn all index words numbers) addresses old new) (λ why. (answer ≡ Err why) × (new ≡ old)) → IfOk answer (λ done. AreThere input index addresses new)
-    by_all (Ok all) is here = subst (λ (r : Result (Unit {0}) Refusal). IfOk r (λ done. AreThere input index addresses new)) (sym here.0) (each all is here.1)
-    by_all (Err why) is here = subst (λ (r : Result (Unit {0}) Refusal). IfOk r (λ done. AreThere input index addresses new)) (sym here.0) tt
+    by_all : (found : Result Addresses AnyError) → addresses_by input index.table index.indices index.machine ≡ found → MatchResult found (λ all. (answer ≡ Ok tt) × AreStored (IsAnswerIn all index words numbers) addresses old new) (λ why. (answer ≡ Err why) × (new ≡ old)) → IfOk answer (λ done. AreThere input index addresses new)
+    by_all (Ok all) is here = subst (λ (r : Result (Unit {0}) AnyError). IfOk r (λ done. AreThere input index addresses new)) (sym here.0) (each all is here.1)
+    by_all (Err why) is here = subst (λ (r : Result (Unit {0}) AnyError). IfOk r (λ done. AreThere input index addresses new)) (sym here.0) tt
 
 -- the words and numbers of an index of this size begin with it
 pub built_index : (claim_of : ℕ → Option Claim) (range_of : ℕ → ℕ × ℕ) (count sized opens : ℕ) (words numbers : List ℕ) → sized ≡ length (listed claim_of false count) → opens ≡ length (listed claim_of true count) → IsBuilt claim_of range_of count words numbers → IsIndexWith claim_of range_of sized opens words numbers

@@ -6,8 +6,8 @@ use Rattle.std.proofs.lemmas.Option.{slice_get_past}
 use Rattle.std.specs.Prelude.{min, slice_get, slice_set}
 use Rattle.elf_c.specs.Batch.{IsBatch}
 use Rattle.elf_c.specs.Records.{record_in, record_or_none}
-use Rattle.elf_c.specs.declared.status.Refusal.{Refusal}
-use Rattle.elf_c.specs.declared.status.Refusal.TheVariants.{NoRecord}
+use Rattle.elf_c.specs.declared.status.AnyError.{AnyError}
+use Rattle.elf_c.specs.declared.status.AnyError.TheVariants.{NoRecord}
 
 -- the stored item is at its index, and all other items are unchanged
 pub put_there : {T : Type 0} (xs : List T) (i : ℕ) (x : T) → i < length xs → slice_get (slice_set xs i x) i ≡ Some x
@@ -23,16 +23,16 @@ put_elsewhere (y ∷ xs) (suc i) zero x other = refl
 put_elsewhere (y ∷ xs) (suc i) (suc j) x other = put_elsewhere xs i j x (λ same. other (ap suc same))
 
 -- the records below `place` are stored, and the other items are unchanged
-abbrev pub IsFilled : {T : Type 0} → (ℕ → Result T Refusal) → ℕ → List T → ℕ → List T → Type 0
+abbrev pub IsFilled : {T : Type 0} → (ℕ → Result T AnyError) → ℕ → List T → ℕ → List T → Type 0
 IsFilled item first old place new = (length new ≡ length old)
     × ((k : ℕ) → k < place → record_in (λ x. x) new k ≡ item (first + k))
     × ((k : ℕ) → place ≤ k → slice_get new k ≡ slice_get old k)
 
-pub filled_none : {T : Type 0} (item : ℕ → Result T Refusal) (first : ℕ) (old : List T) → IsFilled item first old 0 old
+pub filled_none : {T : Type 0} (item : ℕ → Result T AnyError) (first : ℕ) (old : List T) → IsFilled item first old 0 old
 filled_none item first old = (refl, λ k below. absurd (omega (arith, below)), λ k above. refl)
 
 -- after one more record is stored, the records below the next place are stored
-pub filled_more : {T : Type 0} (item : ℕ → Result T Refusal) (first : ℕ) (old : List T) (place : ℕ) (new : List T) (x : T) → place < length new → item (first + place) ≡ Ok x → IsFilled item first old place new → IsFilled item first old (place + 1) (slice_set new place x)
+pub filled_more : {T : Type 0} (item : ℕ → Result T AnyError) (first : ℕ) (old : List T) (place : ℕ) (new : List T) (x : T) → place < length new → item (first + place) ≡ Ok x → IsFilled item first old place new → IsFilled item first old (place + 1) (slice_set new place x)
 filled_more {T} item first old place new x below is filled = (length-set new place x ∙ filled.0, each, rest)
   where
     at : (k : ℕ) → k < place + 1 → ((k < place) ⊎ (k ≡ place)) → record_in (λ y. y) (slice_set new place x) k ≡ item (first + k)

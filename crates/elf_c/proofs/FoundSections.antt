@@ -5,7 +5,7 @@ use Rattle.std.proofs.lemmas.Str.{IsUtf8-from_is_utf8, is_utf8-from_IsUtf8}
 use Rattle.xmas_elf.specs.NameTable.{section_named}
 use Rattle.xmas_elf.specs.declared.ElfFile.{ElfFile}
 use Rattle.elf_c.specs.Records.{found_section, section_found}
-use Rattle.elf_c.specs.declared.status.Refusal.TheVariants.{NotFound}
+use Rattle.elf_c.specs.declared.status.AnyError.TheVariants.{NotFound}
 
 pub found_utf8 : (file : ElfFile) (name : List ℕ) → IsUtf8 name → found_section file name ≡ section_found (section_named file name)
 found_utf8 file name is = rw (is_utf8-from_IsUtf8 name is) refl

@@ -1,14 +1,14 @@
 -- The range that an export answers lies in the input.
 use Rattle.std.proofs.Common.{◌≡◌, ℕ, ◌+◌, ◌-◌, ◌<◌, ◌≤◌, ◌==◌, Bool, true, false, List, [], length, Option, None, Some, Result, Ok, Err, IfOk, if◌then◌else◌, refl, sym, subst, arith}
 use Rattle.std.proofs.lemmas.Bool.{eqb-true}
-use Rattle.elf_base.specs.Refusal.{and_then}
+use Rattle.elf_base.specs.FirstError.{and_then}
 use Rattle.elf_base.specs.declared.error.ElfError.{ElfError}
 use Rattle.elf_linking.specs.Loaded.{segment_at_of}
 use Rattle.elf_linking.proofs.LoadedBytes.{last_segment_at}
 use Rattle.elf_records.specs.ProgramNumbers.{is_ph_type}
 use Rattle.elf_records.specs.declared.program.Type.TheVariants.{Null}
 use Rattle.xmas_elf.specs.ProgramHeader.{program_fields, program_of, segment_data_of, segment_type}
-use Rattle.xmas_elf.proofs.FirstNamed.{not_refused, went_on}
+use Rattle.xmas_elf.proofs.FirstNamed.{not_failed, went_on}
 use Rattle.xmas_elf.specs.Ranges.{range_of}
 use Rattle.xmas_elf.specs.Types.{ElfFile, ProgramHeader64}
 use Rattle.elf_linking.specs.Segments.{segment_bytes}
@@ -16,13 +16,13 @@ use Rattle.elf_linking.specs.declared.segments.Segment.{Segment}
 use Rattle.elf_c.specs.Addresses.{bytes_range, range_at_address, range_in_segment}
 use Rattle.elf_c.specs.Records.{LiesIn, range_at, segment_data_range}
 use Rattle.elf_base.specs.Message.{error_number}
-use Rattle.elf_c.specs.Status.{Gives, GivesBy, GivesHere, and_so, refusal_number}
-use Rattle.elf_c.proofs.Statuses.{error_above, refusal_above}
+use Rattle.elf_c.specs.Status.{Gives, GivesBy, GivesHere, and_so, failure_number}
+use Rattle.elf_c.proofs.Statuses.{error_above, failure_above}
 use Rattle.elf_c.proofs.StoredNames.{part_within}
 use Rattle.elf_c.specs.declared.names.Range.{Range}
-use Rattle.elf_c.specs.declared.status.Refusal.{Refusal}
+use Rattle.elf_c.specs.declared.status.AnyError.{AnyError}
 
--- the record of a call that was not refused has the property that the value has
+-- the record of a call that returned Ok has the property that the value has
 gives : {T E : Type 0} (number_of : E → ℕ) (P : T → Type 0) (answer : Result T E) (old : T) (status : ℕ) (new : T) → ((error : E) → 0 < number_of error) → IfOk answer P → GivesBy number_of answer old status new → status ≡ 0 → P new
 gives number_of P (Ok value) old status new above has given zero = subst P (sym given.1) has
 gives number_of P (Err error) old status new above has given zero = absurd (omega (arith, given.0, zero, above error))
@@ -30,22 +30,22 @@ gives number_of P (Err error) old status new above has given zero = absurd (omeg
 pub given : {T : Type 0} (P : T → Type 0) (answer : Result T ElfError) (old : T) (status : ℕ) (new : T) → IfOk answer P → Gives answer old status new → status ≡ 0 → P new
 given P answer old status new has gave zero = gives error_number P answer old status new error_above has gave zero
 
-pub given_here : {T : Type 0} (P : T → Type 0) (answer : Result T Refusal) (old : T) (status : ℕ) (new : T) → IfOk answer P → GivesHere answer old status new → status ≡ 0 → P new
-given_here P answer old status new has gave zero = gives refusal_number P answer old status new refusal_above has gave zero
+pub given_here : {T : Type 0} (P : T → Type 0) (answer : Result T AnyError) (old : T) (status : ℕ) (new : T) → IfOk answer P → GivesHere answer old status new → status ≡ 0 → P new
+given_here P answer old status new has gave zero = gives failure_number P answer old status new failure_above has gave zero
 
--- the record of a call that was not refused has each property of what its value is in the file
-pub given_in : {T : Type 0} (P : ElfFile → T → Type 0) (Is : ElfFile → Result T Refusal → Type 0) (file known : ElfFile) (answer : Result T Refusal) (old : T) (status : ℕ) (new : T) → ((value : T) → Is file (Ok value) → P file value) → file ≡ known → Is file answer → GivesHere answer old status new → status ≡ 0 → P known new
+-- the record of a call that returned Ok has each property of what its value is in the file
+pub given_in : {T : Type 0} (P : ElfFile → T → Type 0) (Is : ElfFile → Result T AnyError → Type 0) (file known : ElfFile) (answer : Result T AnyError) (old : T) (status : ℕ) (new : T) → ((value : T) → Is file (Ok value) → P file value) → file ≡ known → Is file answer → GivesHere answer old status new → status ≡ 0 → P known new
 given_in {T} P Is file known answer old status new has same is gave zero =
     subst (λ f. P f new) same (given_here (P file) answer old status new (by_answer answer is) gave zero)
   where
-    by_answer : (found : Result T Refusal) → Is file found → IfOk found (P file)
+    by_answer : (found : Result T AnyError) → Is file found → IfOk found (P file)
     by_answer (Ok value) here = has value here
     by_answer (Err why) here = tt
 
 pub given_range : (file known : ElfFile) (answer : Result Range ElfError) (old : Range) (status : ℕ) (new : Range) → file ≡ known → IfOk answer (LiesIn file.input.now) → Gives answer old status new → status ≡ 0 → LiesIn known.input.now new
 given_range file known answer old status new same has gave zero = subst (λ f. LiesIn f.input.now new) same (given (LiesIn file.input.now) answer old status new has gave zero)
 
-pub given_range_here : (file known : ElfFile) (answer : Result Range Refusal) (old : Range) (status : ℕ) (new : Range) → file ≡ known → IfOk answer (LiesIn file.input.now) → GivesHere answer old status new → status ≡ 0 → LiesIn known.input.now new
+pub given_range_here : (file known : ElfFile) (answer : Result Range AnyError) (old : Range) (status : ℕ) (new : Range) → file ≡ known → IfOk answer (LiesIn file.input.now) → GivesHere answer old status new → status ≡ 0 → LiesIn known.input.now new
 given_range_here file known answer old status new same has gave zero = subst (λ f. LiesIn f.input.now new) same (given_here (LiesIn file.input.now) answer old status new has gave zero)
 
 -- the data of a segment that has some lie in the input
@@ -71,7 +71,7 @@ segment_lies file segment part is =
     let (bytes, read, answered) = went_on (segment_data_of file segment) _ part is in
     let (kind, typed, checked) = went_on (segment_type segment) _ bytes read in
     let own : range_at (if segment.file_size == 0 then 0 else segment.offset) segment.file_size ≡ part = cc in
-    part_lies file segment.offset segment.file_size part bytes (not_refused (is_ph_type Null kind) _ _ bytes checked).1 own
+    part_lies file segment.offset segment.file_size part bytes (not_failed (is_ph_type Null kind) _ _ bytes checked).1 own
 
 bytes_lie : (file : ElfFile) (segment : Segment) (part : Range) → bytes_range file segment ≡ Ok part → LiesIn file.input.now part × (part.size ≡ segment.file_size)
 bytes_lie file segment part is =

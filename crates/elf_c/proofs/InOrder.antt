@@ -4,7 +4,7 @@ use Rattle.std.proofs.lemmas.Option.{slice_get_past}
 use Rattle.std.specs.Prelude.{drop, slice_get, slice_set}
 use Rattle.elf_c.specs.Batch.{Fills, FillsBy, IsBatch}
 use Rattle.elf_c.specs.Records.{record_in, record_or_none}
-use Rattle.elf_c.specs.declared.status.Refusal.TheVariants.{NoRecord}
+use Rattle.elf_c.specs.declared.status.AnyError.TheVariants.{NoRecord}
 use Rattle.elf_c.proofs.Batches.{IsFilled, filled_more, filled_none}
 
 no_item : {T : Type 0} (x : T) (xs : List T) → x ∷ xs ≡ [] → ⊥

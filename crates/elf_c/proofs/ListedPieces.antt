@@ -17,14 +17,14 @@ use Rattle.elf_addresses.specs.declared.pieces.Pieces.{Pieces}
 use Rattle.elf_addresses.specs.declared.symbol_pieces.SymbolPiece.{SymbolPiece}
 use Rattle.elf_addresses.specs.declared.symbol_pieces.SymbolPieces.{SymbolPieces}
 use Rattle.elf_addresses.specs.declared.symbols.AddressSymbols.{AddressSymbols}
-use Rattle.elf_base.specs.Refusal.{unless}
+use Rattle.elf_base.specs.FirstError.{unless}
 use Rattle.xmas_elf.specs.Symbol.{SymbolFields}
 use Rattle.xmas_elf.specs.Types.{ElfFile}
 use Rattle.elf_c.specs.AddressIndex.{addresses_of_table, claim_in_section}
-use Rattle.elf_c.specs.Pieces.{AreListedIn, AreRuns, IsRows, IsWhole, Lists, put_from, run_record, runs_refused}
+use Rattle.elf_c.specs.Pieces.{AreListedIn, AreRuns, IsRows, IsWhole, Lists, put_from, run_record, runs_failed}
 use Rattle.elf_c.specs.declared.pieces.Piece.{Piece}
-use Rattle.elf_c.specs.declared.status.Refusal.{Refusal}
-use Rattle.elf_c.specs.declared.status.Refusal.TheVariants.{Index}
+use Rattle.elf_c.specs.declared.status.AnyError.{AnyError}
+use Rattle.elf_c.specs.declared.status.AnyError.TheVariants.{Index}
 use Rattle.elf_c.proofs.AddressIndexes.{same_claims, same_count}
 use Rattle.elf_c.proofs.Batches.{put_elsewhere, put_there}
 
@@ -113,18 +113,18 @@ pub one_longer : {P : Type 0} (xs : List P) (x : P) (count : ℕ) → count ≡ 
 one_longer xs x count is = let size = length-append xs (x ∷ []) in omega (arith, is, size)
 
 -- the pieces that an iterator returns until it ends follow each other
-walk : (xs : List addresses.Piece) (pieces : Pieces) → Drains PieceStep pieces xs → ArePieces (pieces_file pieces) (pieces_place pieces) xs
-walk [] pieces (end, (last, same, step)) =
+follow_chain : (xs : List addresses.Piece) (pieces : Pieces) → Drains PieceStep pieces xs → ArePieces (pieces_file pieces) (pieces_place pieces) xs
+follow_chain [] pieces (end, (last, same, step)) =
     subst (λ (p : Pieces). pieces_place p ≡ byte_count (pieces_file p)) (sym same) step.1.0
-walk (piece ∷ xs) pieces (end, (last, (next, step, others), ended)) =
-    let rest : ArePieces (pieces_file next) (pieces_place next) xs = walk xs next (end, (last, others, ended)) in
+follow_chain (piece ∷ xs) pieces (end, (last, (next, step, others), ended)) =
+    let rest : ArePieces (pieces_file next) (pieces_place next) xs = follow_chain xs next (end, (last, others, ended)) in
     one_more_piece (pieces_file pieces) pieces next piece xs step refl
     (subst (λ f. ArePieces f (pieces_place next) xs) step.0 rest)
 
 -- so they are all pieces of the file, if they begin at its first byte
 pub whole : (file : ElfFile) (pieces : Pieces) (all : List addresses.Piece) → Drains PieceStep pieces all → pieces_file pieces ≡ file → pieces_place pieces ≡ 0 → IsWhole file all
 whole file pieces all drained is first =
-    let follow : ArePieces file 0 all = subst (λ f. ArePieces f 0 all) is (subst (λ n. ArePieces (pieces_file pieces) n all) first (walk all pieces drained)) in
+    let follow : ArePieces file 0 all = subst (λ f. ArePieces f 0 all) is (subst (λ n. ArePieces (pieces_file pieces) n all) first (follow_chain all pieces drained)) in
     record {
       follow = follow;
       in_one = λ byte below. in_a_piece file 0 byte all follow (omega arith) below;
@@ -134,11 +134,11 @@ whole file pieces all drained is first =
 
 -- the same of a range of addresses
 module _ {E : Type 0} {r s : _} (fields : E → SymbolFields) where
-  runs_walk : (xs : List SymbolPiece) (pieces : SymbolPieces E r s) → Drains (SymbolStep fields) pieces xs → AreRuns (piece_claims fields pieces) (symbol_limit pieces) (symbol_place pieces) xs
-  runs_walk [] pieces (end, (last, same, step)) =
+  runs_chain : (xs : List SymbolPiece) (pieces : SymbolPieces E r s) → Drains (SymbolStep fields) pieces xs → AreRuns (piece_claims fields pieces) (symbol_limit pieces) (symbol_place pieces) xs
+  runs_chain [] pieces (end, (last, same, step)) =
       subst (λ (p : SymbolPieces E r s). symbol_place p ≡ symbol_limit p) (sym same) step.2.0
-  runs_walk (piece ∷ xs) pieces (end, (last, (next, step, others), ended)) =
-      let rest : AreRuns (piece_claims fields next) (symbol_limit next) (symbol_place next) xs = runs_walk xs next (end, (last, others, ended)) in
+  runs_chain (piece ∷ xs) pieces (end, (last, (next, step, others), ended)) =
+      let rest : AreRuns (piece_claims fields next) (symbol_limit next) (symbol_place next) xs = runs_chain xs next (end, (last, others, ended)) in
       let claims : piece_claims fields next ≡ piece_claims fields pieces = ap (λ c. claim_of_symbols fields c.symbols.now c.within) step.0 in (
         step.2.0,
         step.2.2,
@@ -151,7 +151,7 @@ module _ {E : Type 0} {r s : _} (fields : E → SymbolFields) where
   runs claim_of limit begin pieces all drained are last first =
       subst (λ place. AreRuns claim_of limit place all) first
       (subst (λ l. AreRuns claim_of l (symbol_place pieces) all) last
-      (subst (λ c. AreRuns c (symbol_limit pieces) (symbol_place pieces) all) are (runs_walk all pieces drained)))
+      (subst (λ c. AreRuns c (symbol_limit pieces) (symbol_place pieces) all) are (runs_chain all pieces drained)))
 
 no_error : {T E : Type 0} (value : T) (error : E) → ◌≡◌ {A = Result T E} (Ok value) (Err error) → ⊥
 no_error value error same = cc
@@ -182,10 +182,10 @@ module _ {P S : Type 0} (AreAll : List P → Type 0) (record_of : P → Piece) (
           file_listed AreAll record_of words_short numbers_short first old new answer start total is (few below) (few_numbers below) listed
 
 -- what is listed by the library's table is listed by its symbols
-pub same_listed : {E : Type 0} {r : _} (fields : E → SymbolFields) (symbols : AddressSymbols E r) (within : Option ℕ) (range : ℕ × ℕ) (first : ℕ) (words numbers : List ℕ) (old new : List Piece) (answer : Result ℕ Refusal)
-    → Lists (runs_refused (claim_of_symbols fields symbols within) (symbol_count symbols) words numbers) (AreRuns (claim_of_symbols fields symbols within) (max range.0 range.1) range.0) run_record first old answer new
+pub same_listed : {E : Type 0} {r : _} (fields : E → SymbolFields) (symbols : AddressSymbols E r) (within : Option ℕ) (range : ℕ × ℕ) (first : ℕ) (words numbers : List ℕ) (old new : List Piece) (answer : Result ℕ AnyError)
+    → Lists (runs_failed (claim_of_symbols fields symbols within) (symbol_count symbols) words numbers) (AreRuns (claim_of_symbols fields symbols within) (max range.0 range.1) range.0) run_record first old answer new
     → AreListedIn (addresses_of_table fields symbols) within range first words numbers old answer new
 same_listed fields symbols within range first words numbers old new answer listed =
     let claims = claim_in_section (addresses_of_table fields symbols) within in
-    subst (λ n. Lists (runs_refused claims n words numbers) (AreRuns claims (max range.0 range.1) range.0) run_record first old answer new) (same_count fields symbols)
-    (subst (λ c. Lists (runs_refused c (symbol_count symbols) words numbers) (AreRuns c (max range.0 range.1) range.0) run_record first old answer new) (same_claims fields symbols within) listed)
+    subst (λ n. Lists (runs_failed claims n words numbers) (AreRuns claims (max range.0 range.1) range.0) run_record first old answer new) (same_count fields symbols)
+    (subst (λ c. Lists (runs_failed c (symbol_count symbols) words numbers) (AreRuns c (max range.0 range.1) range.0) run_record first old answer new) (same_claims fields symbols within) listed)

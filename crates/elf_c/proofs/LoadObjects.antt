@@ -7,21 +7,21 @@ use Rattle.std.proofs.lemmas.Bool.{cases_order}
 use Rattle.std.proofs.lemmas.List.{length-replicate, length-set, length-take-le}
 use Rattle.std.proofs.lemmas.Option.{get_or_from_slice_get, slice_get_within}
 use Rattle.elf_base.specs.FileHeader.{header_of}
-use Rattle.elf_linking.specs.DynamicObject.{IsReachedObject, IsReachedRefused}
+use Rattle.elf_linking.specs.DynamicObject.{IsReachedObject, IsReachedError}
 use Rattle.elf_linking.specs.declared.error.LinkError.{LinkError}
 use Rattle.elf_linking.specs.declared.object.DynamicObject.{DynamicObject}
 use Rattle.elf_loading.specs.declared.error.LoadError.{LoadError}
 use Rattle.elf_loading.specs.declared.relocate.Place.{Place}
 use Rattle.xmas_elf.specs.declared.ElfFile.{ElfFile}
 use Rattle.elf_c.proofs.Batches.{put_elsewhere, put_there}
-use Rattle.elf_c.specs.LoadObjects.{AreFirstMade, AreImagesOf, AreMade, ArePadded, ArePlacesOf, IsFirstRefused, IsFirstUnmade, IsFirstUnmadeAt, IsFirstUnplanned, IsObjectOfBytes, IsRefusedAsObject, IsRefusedAt, IsUnplannedAt, no_object, load_place}
+use Rattle.elf_c.specs.LoadObjects.{AreFirstMade, AreImagesOf, AreMade, ArePadded, ArePlacesOf, IsFirstFailed, IsFirstUnmade, IsFirstUnmadeAt, IsFirstUnplanned, IsObjectOfBytes, IsObjectErrorOf, IsFailedAt, IsUnplannedAt, no_object, load_place}
 use Rattle.elf_c.specs.declared.load_objects.LoadObject.{LoadObject}
 use Rattle.elf_c.specs.declared.load_objects.TheConstants.{MOST_OBJECTS}
 
 -- what is read of a file is read of its bytes
-pub object_or_refused : {E : Type 0} {r : _} (class size : ℕ) (bytes : List ℕ) (file : ElfFile) (result : Result (DynamicObject E r) LinkError) → file.input.now ≡ bytes → header_of bytes ≡ Ok file.header → MatchResult result (IsReachedObject class size file) (IsReachedRefused class size file) → MatchResult result (IsObjectOfBytes class size bytes) (IsRefusedAsObject class size bytes)
-object_or_refused class size bytes file (Ok object) input header is = record { file = file; bytes_are = input; header_is = header; object_is = is }
-object_or_refused class size bytes file (Err error) input header is = no_object file error input header is
+pub object_or_failed : {E : Type 0} {r : _} (class size : ℕ) (bytes : List ℕ) (file : ElfFile) (result : Result (DynamicObject E r) LinkError) → file.input.now ≡ bytes → header_of bytes ≡ Ok file.header → MatchResult result (IsReachedObject class size file) (IsReachedError class size file) → MatchResult result (IsObjectOfBytes class size bytes) (IsObjectErrorOf class size bytes)
+object_or_failed class size bytes file (Ok object) input header is = record { file = file; bytes_are = input; header_is = header; object_is = is }
+object_or_failed class size bytes file (Err error) input header is = no_object file error input header is
 
 -- an item of a list that is long enough, by what is said of it with any other in its place where there is none
 pub some_at : {T : Type 0} (P : T → Type 0) (xs : List T) (i : ℕ) → i < length xs → ((other : T) → P (get_or xs i other)) → IsSomeAnd (slice_get xs i) P
@@ -86,19 +86,19 @@ module _ {A B : Type 0} (Is : A → B → Type 0) (from : List A) where
   }
 
   -- not of the next
-  pub unmade_at : {C : Type 0} (Refuses : A → C → Type 0) (index : ℕ) (item : A) (made : List B) (error : C) → slice_get from index ≡ Some item → AreFirstMade Is from index made
-      → Refuses item error → IsFirstUnmade Is Refuses from error
-  unmade_at Refuses index item made error is before why = record { index = index; item = item; item_is = is; made = made; before = before; why = why }
+  pub unmade_at : {C : Type 0} (Fails : A → C → Type 0) (index : ℕ) (item : A) (made : List B) (error : C) → slice_get from index ≡ Some item → AreFirstMade Is from index made
+      → Fails item error → IsFirstUnmade Is Fails from error
+  unmade_at Fails index item made error is before why = record { index = index; item = item; item_is = is; made = made; before = before; why = why }
 
 -- the first of which none is made, with its index
-pub unmade_first : {A B C : Type 0} (Is : A → B → Type 0) (from : List A) (Refuses : A → C → Type 0) (index : ℕ) (item : A) (made : List B) (error : C) → slice_get from index ≡ Some item → AreFirstMade Is from index made
-    → Refuses item error → IsFirstUnmadeAt Is Refuses from index error
+pub unmade_first : {A B C : Type 0} (Is : A → B → Type 0) (from : List A) (Fails : A → C → Type 0) (index : ℕ) (item : A) (made : List B) (error : C) → slice_get from index ≡ Some item → AreFirstMade Is from index made
+    → Fails item error → IsFirstUnmadeAt Is Fails from index error
 unfolding unmade_at
-unmade_first Is from Refuses index item made error is before why = record { first = unmade_at Is from Refuses index item made error is before why; index_is = refl }
+unmade_first Is from Fails index item made error is before why = record { first = unmade_at Is from Fails index item made error is before why; index_is = refl }
 
 -- the same without it
-pub refused_first : {E : Type 0} {r : _} {class size : ℕ} {loads : List LoadObject} {index : ℕ} {error : LinkError} → IsRefusedAt {E = E} r class size loads index error → IsFirstRefused {E = E} r class size loads error
-refused_first at = record { first = at.refused.first }
+pub failed_first : {E : Type 0} {r : _} {class size : ℕ} {loads : List LoadObject} {index : ℕ} {error : LinkError} → IsFailedAt {E = E} r class size loads index error → IsFirstFailed {E = E} r class size loads error
+failed_first at = record { first = at.failed.first }
 
 pub unplanned_first : {E : Type 0} {r : _} (page limit : ℕ) (objects : List (DynamicObject E r)) (index : ℕ) (error : LoadError) → IsUnplannedAt page limit objects index error → IsFirstUnplanned page limit objects error
 unplanned_first page limit objects index error at = at.first

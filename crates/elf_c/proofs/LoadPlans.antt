@@ -16,7 +16,7 @@ use Rattle.elf_c.specs.Batch.{Fills}
 use Rattle.elf_c.specs.LoadPlans.{if_checked, mapping_at, mapping_record, mapping_records, path_range, path_size}
 use Rattle.elf_c.specs.Records.{record_in, range_at}
 use Rattle.elf_c.specs.declared.load_plans.LoadMapping.{LoadMapping}
-use Rattle.elf_c.specs.declared.status.Refusal.{Refusal}
+use Rattle.elf_c.specs.declared.status.AnyError.{AnyError}
 
 -- what a plan says of the path that it returns
 abbrev pub IsPath : Bor (List ℕ) → Option Segment → Bor (List ℕ) → Type 0
@@ -40,7 +40,7 @@ path_lies input (Some segment) offset path there ends =
     omega (arith, within, same)
 
 -- the mappings that are stored are those of the file
-pub mappings_filled : (file : ElfFile) (page limit : ℕ) (by : Loader) (plan : LoadPlan) (mappings : List Mapping) (first : ℕ) (old new : List LoadMapping) (answer : Result ℕ Refusal) → IsPlanOf file page limit plan → mappings ≡ mappings_of plan.page by None (plan_loads plan) → Fills (record_in (λ one. one) (map mapping_record mappings)) first old answer new → Fills (mapping_at file page limit by) first old answer new
+pub mappings_filled : (file : ElfFile) (page limit : ℕ) (by : Loader) (plan : LoadPlan) (mappings : List Mapping) (first : ℕ) (old new : List LoadMapping) (answer : Result ℕ AnyError) → IsPlanOf file page limit plan → mappings ≡ mappings_of plan.page by None (plan_loads plan) → Fills (record_in (λ one. one) (map mapping_record mappings)) first old answer new → Fills (mapping_at file page limit by) first old answer new
 mappings_filled file page limit by plan mappings first old new answer is are fills =
     let same : mappings_of plan.page by None (plan_loads plan) ≡ mappings_of page by None (loads_of file) =
     ap (λ p. mappings_of p by None (plan_loads plan)) is.page_is ∙ ap (λ f. mappings_of page by None (loads_of f)) is.of_file in

@@ -18,8 +18,8 @@ use Rattle.elf_c.specs.declared.hash_tables.OpenedTable.{OpenedTable}
 use Rattle.elf_c.specs.declared.look_ups.Answer.{Answer}
 use Rattle.elf_c.specs.declared.look_ups.LookUp.{LookUp}
 use Rattle.elf_c.specs.declared.names.Range.{Range}
-use Rattle.elf_c.specs.declared.status.Refusal.{Refusal}
-use Rattle.elf_c.specs.declared.status.Refusal.TheVariants.{Elf}
+use Rattle.elf_c.specs.declared.status.AnyError.{AnyError}
+use Rattle.elf_c.specs.declared.status.AnyError.TheVariants.{Elf}
 use Rattle.elf_c.specs.declared.symbol_tables.AnySymbols.{AnySymbols}
 use Rattle.elf_c.specs.declared.symbol_tables.AnySymbols.TheVariants.{Narrow, Wide}
 use Rattle.elf_c.proofs.OpenedFound.{by_table, if_text}
@@ -49,14 +49,14 @@ module _ (input : List ℕ) (opened : OpenedTable) where
           let there = in_items table name (named_symbols dyn_entry_64_fields strings all) said here one in
           subst (λ o. IsOk (record_or_none (λ e. symbol_record (dyn_entry_64_fields e)) o)) (sym there.1) refl
 
-      by_parts : (all : HashParts) (table : Result AnyTable Refusal) (symbols : Result AnySymbols Refusal) (strings : Result (List ℕ) ElfError) → AreTogether table symbols strings (Ok all) → LooksIfRead (Ok all) name (Ok said) → IsOk (value_at symbol_record symbols said.index)
+      by_parts : (all : HashParts) (table : Result AnyTable AnyError) (symbols : Result AnySymbols AnyError) (strings : Result (List ℕ) ElfError) → AreTogether table symbols strings (Ok all) → LooksIfRead (Ok all) name (Ok said) → IsOk (value_at symbol_record symbols said.index)
       by_parts all (Ok table) (Ok symbols) (Ok strings) together here =
           by_symbols all.table all.strings.now symbols (subst (λ s. OfSymbols (λ E items. IsLookUp all.table name items) all.strings.now s (Ok said)) together.1 here)
       by_parts all (Err why) symbols strings together here = absurd (cc)
       by_parts all (Ok table) (Err why) strings together here = absurd (cc)
       by_parts all (Ok table) (Ok symbols) (Err error) together here = absurd (cc)
 
-      by_found : (r : Result HashParts Refusal) → ArePartsBy input opened r → LooksIfRead r name (Ok said) → IsOk (symbol_by symbol_record input opened.symbols said.index)
+      by_found : (r : Result HashParts AnyError) → ArePartsBy input opened r → LooksIfRead r name (Ok said) → IsOk (symbol_by symbol_record input opened.symbols said.index)
       by_found (Err why) are here = absurd (cc)
       by_found (Ok all) are here = subst IsOk (sym (symbols_value symbol_record input opened.symbols are.symbols are.are_symbols said.index))
           (by_parts all are.table are.symbols (range_of input opened.symbols.strings.offset opened.symbols.strings.size) are.together here)
@@ -77,7 +77,7 @@ module _ (input : List ℕ) (opened : OpenedTable) where
       by_range (Ok name) said is some = by_name name said is some
       by_range (Err error) said is some = absurd (cc)
 
-      by_answer : (answer : Result LookUp Refusal) (range : Range) → IsForRange (IfUtf8 (LooksByRecord input opened)) names range answer → (answered answer).found ≡ 1 → IsOk (symbol_by symbol_record input opened.symbols (answered answer).index)
+      by_answer : (answer : Result LookUp AnyError) (range : Range) → IsForRange (IfUtf8 (LooksByRecord input opened)) names range answer → (answered answer).found ≡ 1 → IsOk (symbol_by symbol_record input opened.symbols (answered answer).index)
       by_answer (Ok said) range is some = by_range (range_of names range.offset range.size) said is some
       by_answer (Err why) range is some = absurd (omega (arith, some))
 

@@ -12,7 +12,7 @@ use Rattle.xmas_elf.specs.Symbols.{IsMatch}
 -- a symbol has a name exactly if it matches by a test that passes every symbol
 module _ {F E : Type 0} (test : Shared F (Bor E × Unit {0}) Bool) (f : F) (passes : (e : Bor E) → test.post f (e, tt) true) where
   matches : (symbols : Symbols E) (name : List ℕ) (e : E) → symbols.text e ≡ Some name → IsMatch symbols test f name e
-  matches symbols name e bears = (bears, record { shown = record { ref_ptr = (0, 0); now = e }; shows = refl; says = record { met = passes (record { ref_ptr = (0, 0); now = e }) } })
+  matches symbols name e has_version = (has_version, record { shown = record { ref_ptr = (0, 0); now = e }; shows = refl; says = record { met = passes (record { ref_ptr = (0, 0); now = e }) } })
 
   pub looks_for_name : (table : AnyTable) (symbols : Symbols E) (name : List ℕ) (answer : Result (Option (ℕ × E)) LinkError) (n : ℕ) → LooksBy (IsMatch symbols test f name) table symbols.items name answer n → LooksBy (λ e. symbols.text e ≡ Some name) table symbols.items name answer n
   looks_for_name table symbols name answer n =

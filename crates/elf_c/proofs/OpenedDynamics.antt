@@ -5,7 +5,7 @@ use Rattle.std.proofs.Math.Path.{fun_ext}
 use Rattle.std.specs.Option.{ok_or}
 use Rattle.elf_base.proofs.lemmas.RecordLemmas.{length-records}
 use Rattle.elf_base.specs.FileHeader.{file_class, file_order}
-use Rattle.elf_base.specs.Refusal.{and_then}
+use Rattle.elf_base.specs.FirstError.{and_then}
 use Rattle.elf_base.specs.Table.{records}
 use Rattle.elf_base.specs.declared.bytes.Order.{Order}
 use Rattle.elf_base.specs.declared.error.ElfError.{ElfError}
@@ -27,16 +27,16 @@ use Rattle.elf_c.specs.Addresses.{range_at_address, range_in_segment}
 use Rattle.elf_c.specs.DynamicSymbols.{AreDynamicSymbols, AreSymbolsBy, IsCountBy, IsDynamicCount, IsSegmentTable, dynamic_symbol_at, dynamic_symbol_name, linked_symbol_in, segment_table, strings_range_by, symbol_size, table_at_address, symbol_table_by, table_in_range}
 use Rattle.elf_c.specs.DynamicTexts.{linked_name, range_in_strings, strings_range, string_table_range}
 use Rattle.elf_c.specs.Records.{LiesIn, record_in, name_answer, range_at, text_range}
-use Rattle.elf_c.specs.Status.{and_so, refusal_number}
+use Rattle.elf_c.specs.Status.{and_so, failure_number}
 use Rattle.elf_c.specs.SymbolTables.{LieWithin, symbol_name_range, symbol_among, symbol_by}
 use Rattle.elf_c.specs.Symbols.{symbol_record}
 use Rattle.elf_c.specs.declared.names.Range.{Range}
-use Rattle.elf_c.specs.declared.status.Refusal.{Refusal}
-use Rattle.elf_c.specs.declared.status.Refusal.TheVariants.{Elf, Link}
+use Rattle.elf_c.specs.declared.status.AnyError.{AnyError}
+use Rattle.elf_c.specs.declared.status.AnyError.TheVariants.{Elf, Link}
 use Rattle.elf_c.specs.declared.symbol_tables.SymbolTable.{SymbolTable}
 use Rattle.elf_c.proofs.GivenRanges.{address_lies}
 use Rattle.elf_c.proofs.OpenedSymbols.{found_below}
-use Rattle.elf_c.proofs.Statuses.{refusal_above}
+use Rattle.elf_c.proofs.Statuses.{failure_above}
 use Rattle.elf_c.proofs.StoredNames.{in_range_of, part_within}
 
 -- the data of a segment are bytes of the file
@@ -87,7 +87,7 @@ are_at file address count range is = by_segment (segment_at_of file address coun
         let start = address - segment.address in
         let place = (if segment.file_size == 0 then 0 else segment.offset) + start in
         let own : range_at place count ≡ range = cc in
-        let lies : LiesIn input range = subst (λ (r : Result Range Refusal). IfOk r (LiesIn input)) is (address_lies file address count) in
+        let lies : LiesIn input range = subst (λ (r : Result Range AnyError). IfOk r (LiesIn input)) is (address_lies file address count) in
         let fits : place + count ≤ length input = subst (LiesIn input) (sym own) lies in
         let in_place : range_of input place count ≡ Ok (take count (drop start kept)) = in_range_of input place count fits
         ∙ ap (λ b. Ok b) (by_size segment kept (segment.file_size == 0) at kept_are refl) in record {
@@ -121,16 +121,16 @@ counted_in order bytes count index false long =
     subst (λ n. IsOk (record_in (λ e. symbol_record (dyn_entry_64_fields e)) (records 24 (dyn_entry_64 order) bytes) index) ↔ (index < n)) number (found_below (λ e. symbol_record (dyn_entry_64_fields e)) (records 24 (dyn_entry_64 order) bytes) index)
 
 -- the string table of a record has the names that the dynamic segment has
-same_name : (input : List ℕ) (strings : Result Range Refusal) (place : ℕ) → (if (linked_name strings).status == 0 then name_answer (text_range input (linked_name strings).range place) else record { range = range_at 0 0; status = (linked_name strings).status }) ≡ linked_name (range_in_strings input strings place)
+same_name : (input : List ℕ) (strings : Result Range AnyError) (place : ℕ) → (if (linked_name strings).status == 0 then name_answer (text_range input (linked_name strings).range place) else record { range = range_at 0 0; status = (linked_name strings).status }) ≡ linked_name (range_in_strings input strings place)
 same_name input (Ok part) place = by_text (text_range input part place)
   where
     by_text : (text : Result Range ElfError) → name_answer text ≡ linked_name (and_so text (λ range. Ok range))
     by_text (Ok range) = refl
     by_text (Err error) = refl
-same_name input (Err why) place = by_test (refusal_number why == 0) refl
+same_name input (Err why) place = by_test (failure_number why == 0) refl
   where
-    by_test : (none : Bool) → (refusal_number why == 0) ≡ none → (if none then name_answer (text_range input (range_at 0 0) place) else record { range = range_at 0 0; status = refusal_number why }) ≡ linked_name (Err why)
-    by_test true is = absurd (let above = refusal_above why in let none = eqb-true (refusal_number why) 0 is in omega (arith, above, none))
+    by_test : (none : Bool) → (failure_number why == 0) ≡ none → (if none then name_answer (text_range input (range_at 0 0) place) else record { range = range_at 0 0; status = failure_number why }) ≡ linked_name (Err why)
+    by_test true is = absurd (let above = failure_above why in let none = eqb-true (failure_number why) 0 is in omega (arith, above, none))
     by_test false is = refl
 
 -- a number of symbols of the entries, which lie in a range
@@ -157,7 +157,7 @@ are_opened file table is = by_entries (dynamic_entries_of file) refl is.0 is.1 i
         ∙ ap (λ place. and_then (ok_or place NoEntry) (λ address. bytes_at_of file address (count * symbol_size file))) addressed
         ∙ there
 
-    by_range : (entries : List (Dynamic ℕ)) (count address : ℕ) (range : Result Range Refusal) → dynamic_entries_of file ≡ Ok entries → IsSymbolCount file entries (Ok count) → number_with DT_SYMTAB entries ≡ Some address → range_at_address file address (count * symbol_size file) ≡ range → Ok table ≡ table_in_range file (strings_range file entries) count range → AreOpened file table
+    by_range : (entries : List (Dynamic ℕ)) (count address : ℕ) (range : Result Range AnyError) → dynamic_entries_of file ≡ Ok entries → IsSymbolCount file entries (Ok count) → number_with DT_SYMTAB entries ≡ Some address → range_at_address file address (count * symbol_size file) ≡ range → Ok table ≡ table_in_range file (strings_range file entries) count range → AreOpened file table
     by_range entries count address (Err why) at counted addressed ranged made = absurd (cc)
     by_range entries count address (Ok range) at counted addressed ranged made =
         let there = are_at file address (count * symbol_size file) range ranged in
@@ -223,7 +223,7 @@ opened_count file table is index =
     (subst (λ n. IsOk (linked_symbol_in symbol_record file opened.bytes index) ↔ (index < n)) (sym (ap (λ t. t.count) opened.made))
     (counted_in (file_order file.header) opened.bytes opened.count index (file_class file.header == 1) opened.long))
 
-linked_lies : (input : List ℕ) (found : Result Range Refusal) → IfOk found (LiesIn input) → LiesIn input (linked_name found).range
+linked_lies : (input : List ℕ) (found : Result Range AnyError) → IfOk found (LiesIn input) → LiesIn input (linked_name found).range
 linked_lies input (Ok range) lies = lies
 linked_lies input (Err why) lies = let none : 0 + 0 ≤ length input = omega arith in none
 
@@ -245,5 +245,5 @@ segment_within file table is =
 pub no_entries : (file : ElfFile) (error : LinkError) → dynamic_entries_of file ≡ Err error → IsSegmentTable file (Err (Link error))
 no_entries file error is = subst (λ found. (count : Result ℕ LinkError) × IsCountBy file found count × (Err (Link error) ≡ symbol_table_by file found count)) (sym is) (Err error, refl, refl)
 
-pub of_entries : (file : ElfFile) (entries : List (Dynamic ℕ)) (count : Result ℕ LinkError) (answer : Result SymbolTable Refusal) → dynamic_entries_of file ≡ Ok entries → IsSymbolCount file entries count → answer ≡ table_at_address file (strings_range file entries) count (number_with DT_SYMTAB entries) → IsSegmentTable file answer
+pub of_entries : (file : ElfFile) (entries : List (Dynamic ℕ)) (count : Result ℕ LinkError) (answer : Result SymbolTable AnyError) → dynamic_entries_of file ≡ Ok entries → IsSymbolCount file entries count → answer ≡ table_at_address file (strings_range file entries) count (number_with DT_SYMTAB entries) → IsSegmentTable file answer
 of_entries file entries count answer is counted made = subst (λ found. (other : Result ℕ LinkError) × IsCountBy file found other × (answer ≡ symbol_table_by file found other)) (sym is) (count, counted, made)

@@ -22,14 +22,14 @@ use Rattle.xmas_elf.specs.HashTable as gabi
 use Rattle.xmas_elf.specs.Symbol.{dyn_entry_32, dyn_entry_32_fields, dyn_entry_64, dyn_entry_64_fields}
 use Rattle.xmas_elf.specs.Types.{ElfError, ElfFile, HashTable}
 use Rattle.elf_c.specs.DynamicSymbols.{AreDynamicSymbols, AreSymbolsBy, IsSegmentTable}
-use Rattle.elf_c.specs.FoundSymbols.{IsByClass, IsFoundBy, IsFoundSymbol, IsSearched, found_answer, found_symbol, no_symbol_record, refused, searched, serving_symbol}
+use Rattle.elf_c.specs.FoundSymbols.{IsByClass, IsFoundBy, IsFoundSymbol, IsSearched, found_answer, found_symbol, no_symbol_record, failed, searched, serving_symbol}
 use Rattle.elf_c.specs.LookUps.{IfUtf8}
 use Rattle.elf_linking.specs.Serves.{serves_others}
 use Rattle.elf_c.specs.Records.{record_in, record_or_none}
 use Rattle.elf_c.specs.SymbolTables.{symbol_by}
 use Rattle.elf_c.specs.Symbols.{symbol_record}
 use Rattle.elf_c.specs.declared.found_symbols.FoundSymbol.{FoundSymbol}
-use Rattle.elf_c.specs.declared.status.Refusal.{Refusal}
+use Rattle.elf_c.specs.declared.status.AnyError.{AnyError}
 use Rattle.elf_c.specs.declared.symbol_tables.SymbolTable.{SymbolTable}
 use Rattle.elf_c.proofs.OpenedDynamics.{opened_symbols}
 
@@ -41,7 +41,7 @@ module _ {E : Type 0} (P : ℕ × E → Type 0) (at : ℕ × E) where
   in_chain table symbols _ _ _ (gabi.past_symbols i above within absent) is = absurd (cc)
   in_chain table symbols _ _ _ (gabi.found i e stands holds) is =
       let same : (i, e) ≡ at = cc in subst (λ (p : ℕ × E). slice_get symbols p.0 ≡ Some p.1) same stands.symbol
-  in_chain table symbols _ _ _ (gabi.refused i e error stands misses refuses) is = absurd (cc)
+  in_chain table symbols _ _ _ (gabi.failed i e error stands misses fails) is = absurd (cc)
 
   by_chain : (table : HashTable) (symbols : List E) (start : Option (Result ℕ ElfError)) (n : ℕ) (a : Result (Option (ℕ × E)) ElfError) → gabi.LooksFrom P (gabi.chains_of table symbols) start a n → a ≡ Ok (Some at) → slice_get symbols at.0 ≡ Some at.1
   by_chain table symbols _ _ _ gabi.no_bucket is = absurd (cc)
@@ -53,7 +53,7 @@ module _ {E : Type 0} (P : ℕ × E → Type 0) (at : ℕ × E) where
   in_run h table symbols i _ _ (gnu.found e hit) is =
       let same : (i, e) ≡ at = cc in subst (λ (p : ℕ × E). slice_get symbols p.0 ≡ Some p.1) same hit.symbol
   in_run h table symbols i _ _ (gnu.ended there ends none) is = absurd (cc)
-  in_run h table symbols i _ _ (gnu.refused error lacks) is = absurd (cc)
+  in_run h table symbols i _ _ (gnu.failed error lacks) is = absurd (cc)
 
   by_run : (table : GnuHashTable) (symbols : List E) (name : List ℕ) (n : ℕ) (a : Result (Option (ℕ × E)) LinkError) → gnu.LooksWhere P table symbols name a n → a ≡ Ok (Some at) → slice_get symbols at.0 ≡ Some at.1
   by_run table symbols name _ _ (gnu.no_run none) is = absurd (cc)
@@ -122,20 +122,20 @@ module _ (file : ElfFile) (table : SymbolTable) (made : IsSegmentTable file (Ok 
       ∙ subst (λ (b : Bool). (if b then record_in (λ e. symbol_record (dyn_entry_32_fields e)) (records 16 (dyn_entry_32 (file_order file.header)) bytes) said.index
       else record_in (λ e. symbol_record (dyn_entry_64_fields e)) (records 24 (dyn_entry_64 (file_order file.header)) bytes) said.index) ≡ Ok said.symbol) (sym class) found
 
-  by_class : (name version : List ℕ) (narrow : Bool) → (file_class file.header == 1) ≡ narrow → (answer : Result FoundSymbol Refusal) → answer ≡ Ok said → IsByClass narrow file name version answer → symbol_by symbol_record file.input.now table said.index ≡ Ok said.symbol
-  by_class name version true class _ is (refused error why) = absurd (cc)
+  by_class : (name version : List ℕ) (narrow : Bool) → (file_class file.header == 1) ≡ narrow → (answer : Result FoundSymbol AnyError) → answer ≡ Ok said → IsByClass narrow file name version answer → symbol_by symbol_record file.input.now table said.index ≡ Ok said.symbol
+  by_class name version true class _ is (failed error why) = absurd (cc)
   by_class name version true class _ is (searched all answer are finds) =
       let found = found_there all name version said (subst (IsSearched all name version) is finds) one in
       by_bytes are.symbols.entries are.symbols.bytes true class are.symbols.entries_are (class_symbols _ _ file are.symbols.entries are.symbols.bytes are.symbols.bytes_are)
       (subst (λ symbols. record_in (λ e. symbol_record (symbols.fields e)) symbols.items said.index ≡ Ok said.symbol) are.symbols.symbols_are found)
-  by_class name version false class _ is (refused error why) = absurd (cc)
+  by_class name version false class _ is (failed error why) = absurd (cc)
   by_class name version false class _ is (searched all answer are finds) =
       let found = found_there all name version said (subst (IsSearched all name version) is finds) one in
       by_bytes are.symbols.entries are.symbols.bytes false class are.symbols.entries_are (class_symbols _ _ file are.symbols.entries are.symbols.bytes are.symbols.bytes_are)
       (subst (λ symbols. record_in (λ e. symbol_record (symbols.fields e)) symbols.items said.index ≡ Ok said.symbol) are.symbols.symbols_are found)
 
 -- a name that is no text finds nothing
-pub if_text : {A : Type 0} (P : List ℕ → Result A Refusal → Type 0) (name : List ℕ) (value : A) → IfUtf8 P name (Ok value) → P name (Ok value)
+pub if_text : {A : Type 0} (P : List ℕ → Result A AnyError → Type 0) (name : List ℕ) (value : A) → IfUtf8 P name (Ok value) → P name (Ok value)
 if_text P name value is = by_test (is_utf8 name) refl
   where
     by_test : (b : Bool) → is_utf8 name ≡ b → P name (Ok value)

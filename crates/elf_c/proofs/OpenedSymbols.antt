@@ -5,7 +5,7 @@ use Rattle.std.proofs.lemmas.Bool.{eqb-true}
 use Rattle.elf_base.specs.FileHeader.{file_class, file_order, order_of}
 use Rattle.elf_base.specs.Message.{error_number}
 use Rattle.elf_base.specs.Number.{number}
-use Rattle.elf_base.specs.Refusal.{and_then, unless}
+use Rattle.elf_base.specs.FirstError.{and_then, unless}
 use Rattle.elf_base.specs.Table.{first_records, records, table_items}
 use Rattle.elf_base.specs.declared.bytes.Order.{Order}
 use Rattle.elf_base.specs.declared.error.ElfError.{ElfError}
@@ -26,8 +26,8 @@ use Rattle.elf_c.specs.Status.{and_so}
 use Rattle.elf_c.specs.SymbolTables.{AreSymbolsBy, AreSymbolsIn, LieWithin, symbol_count_in, symbol_name_range, symbol_among, symbol_by, table_if, table_of_section, table_with}
 use Rattle.elf_c.specs.Symbols.{linked_range, symbol_record_at, symbol_record_in, table_name_range, symbol_name_at, symbol_record}
 use Rattle.elf_c.specs.declared.names.Range.{Range}
-use Rattle.elf_c.specs.declared.status.Refusal.{Refusal}
-use Rattle.elf_c.specs.declared.status.Refusal.TheVariants.{Elf}
+use Rattle.elf_c.specs.declared.status.AnyError.{AnyError}
+use Rattle.elf_c.specs.declared.status.AnyError.TheVariants.{Elf}
 use Rattle.elf_c.specs.declared.symbol_tables.AnySymbols.{AnySymbols}
 use Rattle.elf_c.specs.declared.symbol_tables.AnySymbols.TheVariants.{Narrow, Wide}
 use Rattle.elf_c.specs.declared.symbol_tables.SymbolTable.{SymbolTable}
@@ -165,7 +165,7 @@ pub record AreOpened (file : ElfFile) (section : ℕ) (table : SymbolTable) : Ty
 pub are_opened : (file : ElfFile) (section : ℕ) (table : SymbolTable) → table_of_section file section ≡ Ok table → AreOpened file section table
 are_opened file section table made = by_section (section_of file section) refl made
   where
-    by_count : (header : SectionHeader) (content : Content) (count : Result ℕ Refusal) → section_of file section ≡ Ok header → section_content_of file header ≡ Ok content → symbol_count_in content ≡ count → table_if file header count ≡ Ok table → AreOpened file section table
+    by_count : (header : SectionHeader) (content : Content) (count : Result ℕ AnyError) → section_of file section ≡ Ok header → section_content_of file header ≡ Ok content → symbol_count_in content ≡ count → table_if file header count ≡ Ok table → AreOpened file section table
     by_count header content (Err why) at holds counted is = absurd (cc)
     by_count header content (Ok count) at holds counted is = record {
       header = header;
@@ -188,10 +188,10 @@ are_opened file section table made = by_section (section_of file section) refl m
 
 -- the symbol at an index of such contents
 module _ {T : Type 0} (value : SymbolFields → T) (class : ℕ) (order : Order) (bytes : List ℕ) (index : ℕ) where
-  abbrev narrow : Result T Refusal
+  abbrev narrow : Result T AnyError
   narrow = record_in (λ e. value (dyn_entry_32_fields e)) (records 16 (dyn_entry_32 order) bytes) index
 
-  abbrev wide : Result T Refusal
+  abbrev wide : Result T AnyError
   wide = record_in (λ e. value (dyn_entry_64_fields e)) (records 24 (dyn_entry_64 order) bytes) index
 
   among_32 : (class == 1) ≡ true → (length bytes % 16 == 0) ≡ true → symbol_among value (class == 1) order bytes index ≡ narrow
@@ -233,7 +233,7 @@ opened_value file section table value wanted same made index =
     ∙ sym (ap (λ r. and_so r (λ header. and_so (section_content_of file header) (symbol_record_at (wanted header) index))) are.at
     ∙ ap (λ r. and_so r (symbol_record_at (wanted are.header) index)) are.holds))
 
-then_so : {A B C : Type 0} (r : Result A ElfError) (f : A → Result B ElfError) (g : B → Result C Refusal) → and_so r (λ a. and_so (f a) g) ≡ and_so (and_then r f) g
+then_so : {A B C : Type 0} (r : Result A ElfError) (f : A → Result B ElfError) (g : B → Result C AnyError) → and_so r (λ a. and_so (f a) g) ≡ and_so (and_then r f) g
 then_so (Ok value) f g = refl
 then_so (Err error) f g = refl
 
@@ -287,13 +287,13 @@ section_within file section table made =
     )
 
 -- the values of the symbols of a table that a record was read as
-abbrev pub value_at : {T : Type 0} → (SymbolFields → T) → Result AnySymbols Refusal → ℕ → Result T Refusal
+abbrev pub value_at : {T : Type 0} → (SymbolFields → T) → Result AnySymbols AnyError → ℕ → Result T AnyError
 value_at value (Ok (Narrow all)) index = record_in (λ e. value (dyn_entry_32_fields e)) (table_items all) index
 value_at value (Ok (Wide all)) index = record_in (λ e. value (dyn_entry_64_fields e)) (table_items all) index
 value_at value (Err why) index = Err why
 
-module _ {T : Type 0} (value : SymbolFields → T) (input : List ℕ) (table : SymbolTable) (answer : Result AnySymbols Refusal) where
-  value_in : (own : Bool) (order : Order) (bytes : List ℕ) (found : Result AnySymbols Refusal) (index : ℕ) → AreSymbolsIn own order bytes found → symbol_among value own order bytes index ≡ value_at value found index
+module _ {T : Type 0} (value : SymbolFields → T) (input : List ℕ) (table : SymbolTable) (answer : Result AnySymbols AnyError) where
+  value_in : (own : Bool) (order : Order) (bytes : List ℕ) (found : Result AnySymbols AnyError) (index : ℕ) → AreSymbolsIn own order bytes found → symbol_among value own order bytes index ≡ value_at value found index
   value_in true order bytes (Ok (Narrow all)) index is =
       ap (λ (b : Bool). if b then record_in (λ e. value (dyn_entry_32_fields e)) (records 16 (dyn_entry_32 order) bytes) index else Err (Elf NotMultiple)) is.0
       ∙ ap (λ items. record_in (λ e. value (dyn_entry_32_fields e)) items index) (sym is.1)
@@ -318,12 +318,12 @@ module _ {T : Type 0} (value : SymbolFields → T) (input : List ℕ) (table : S
       by_range (Err error) here = ap (λ r. value_at value r index) (sym here)
 
 -- the symbols by the record of a section can be read
-whole_if : (own : Bool) (order : Order) (bytes : List ℕ) (found : Result AnySymbols Refusal) → (length bytes % (if own then 16 else 24) == 0) ≡ true → AreSymbolsIn own order bytes found → IsOk found
+whole_if : (own : Bool) (order : Order) (bytes : List ℕ) (found : Result AnySymbols AnyError) → (length bytes % (if own then 16 else 24) == 0) ≡ true → AreSymbolsIn own order bytes found → IsOk found
 whole_if own order bytes (Ok symbols) whole is = refl
 whole_if true order bytes (Err why) whole is = absurd (let no : true ≡ false = sym whole ∙ is.0 in cc)
 whole_if false order bytes (Err why) whole is = absurd (let no : true ≡ false = sym whole ∙ is.0 in cc)
 
-pub opened_reads : (file : ElfFile) (section : ℕ) (table : SymbolTable) → table_of_section file section ≡ Ok table → (found : Result AnySymbols Refusal) → AreSymbolsBy file.input.now table found → IsOk found
+pub opened_reads : (file : ElfFile) (section : ℕ) (table : SymbolTable) → table_of_section file section ≡ Ok table → (found : Result AnySymbols AnyError) → AreSymbolsBy file.input.now table found → IsOk found
 opened_reads file section table made found is =
     let are = are_opened file section table made in
     let here = subst (λ t. AreSymbolsBy file.input.now t found) (sym are.made) is in

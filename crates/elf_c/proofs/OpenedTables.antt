@@ -2,7 +2,7 @@
 use Rattle.std.proofs.Common.{◌≡◌, ◌<◌, ◌≤◌, ◌+◌, ◌==◌, ◌⊎◌, inl, inr, ℕ, Bool, true, false, List, length, Result, Ok, Err, IsOk, MatchResult, if◌then◌else◌, le-ltb, refl, sym, ap, subst, ◌∙◌}
 use Rattle.std.proofs.lemmas.Bool.{lt-ltb}
 use Rattle.elf_base.specs.FileHeader.{class_of, file_class, file_order, order_of}
-use Rattle.elf_base.specs.Refusal.{and_then}
+use Rattle.elf_base.specs.FirstError.{and_then}
 use Rattle.elf_base.specs.declared.bytes.Order.{Order}
 use Rattle.elf_base.specs.declared.error.ElfError.{ElfError}
 use Rattle.elf_base.specs.declared.error.ElfError.TheVariants.{ShortData}
@@ -27,8 +27,8 @@ use Rattle.elf_c.specs.Symbols.{linked_content, symbol_record_in, symbol_record}
 use Rattle.elf_c.specs.declared.hash_tables.HashParts.{HashParts}
 use Rattle.elf_c.specs.declared.hash_tables.OpenedTable.{OpenedTable}
 use Rattle.elf_c.specs.declared.names.Range.{Range}
-use Rattle.elf_c.specs.declared.status.Refusal.{Refusal}
-use Rattle.elf_c.specs.declared.status.Refusal.TheVariants.{Elf, Link}
+use Rattle.elf_c.specs.declared.status.AnyError.{AnyError}
+use Rattle.elf_c.specs.declared.status.AnyError.TheVariants.{Elf, Link}
 use Rattle.elf_c.specs.declared.symbol_tables.AnySymbols.{AnySymbols}
 use Rattle.elf_c.specs.declared.symbol_tables.SymbolTable.{SymbolTable}
 use Rattle.elf_c.proofs.OpenedSymbols.{class_known, content_read, opened_reads, opened_symbols, same_numbers, section_within}
@@ -39,8 +39,8 @@ pub sysv_accepted : (order : Order) (bytes : List ℕ) (table : HashTable) → 1
 sysv_accepted order bytes table long same ordered =
     subst (λ (b : Bool). IsSysvTable (if b then Err ShortData else Ok (hash_table order bytes)) (Ok (any_table.Sysv table))) (sym (le-ltb (length bytes) 12 long)) (ordered, same)
 
-pub sysv_refused : (order : Order) (bytes : List ℕ) (error : ElfError) → length bytes < 12 → error ≡ ShortData → IsSysvTable (hash_table_content order bytes) (Err (Elf error))
-sysv_refused order bytes error short is =
+pub sysv_failed : (order : Order) (bytes : List ℕ) (error : ElfError) → length bytes < 12 → error ≡ ShortData → IsSysvTable (hash_table_content order bytes) (Err (Elf error))
+sysv_failed order bytes error short is =
     subst (λ (b : Bool). IsSysvTable (if b then Err ShortData else Ok (hash_table order bytes)) (Err (Elf error))) (sym (lt-ltb (length bytes) 12 short)) (ap Elf is)
 
 -- the range of a hash table that was found in a section: its bytes are read as one
@@ -48,16 +48,16 @@ record IsRead (file : ElfFile) (header : SectionHeader) (range : Range) : Type 0
   pub whole : whole_range header ≡ range
   pub bytes : List ℕ
   pub in_range : range_of file.input.now (section_fields header).offset (section_fields header).size ≡ Ok bytes
-  pub reads : (one : Result AnyTable Refusal) → IsTableIn ((section_fields header).type_ == SHT_GNU_HASH) (class_of (file_class file.header)) (file_order file.header) bytes one → IsOk one
+  pub reads : (one : Result AnyTable AnyError) → IsTableIn ((section_fields header).type_ == SHT_GNU_HASH) (class_of (file_class file.header)) (file_order file.header) bytes one → IsOk one
 
 hash_read : (file : ElfFile) (header : SectionHeader) (range : Range) → hash_range file header ≡ Ok range → IsRead file header range
 hash_read file header range is = by_type ((section_fields header).type_ == SHT_GNU_HASH) refl is
   where
-    sysv_reads : (order : Order) (bytes : List ℕ) (one : Result AnyTable Refusal) → IsSysvTable (Ok (hash_table order bytes)) one → IsOk one
+    sysv_reads : (order : Order) (bytes : List ℕ) (one : Result AnyTable AnyError) → IsSysvTable (Ok (hash_table order bytes)) one → IsOk one
     sysv_reads order bytes (Ok table) reads = refl
     sysv_reads order bytes (Err why) reads = absurd reads
 
-    gnu_reads : (bytes : List ℕ) (one : Result AnyTable Refusal) → gnu_table_of (class_of (file_class file.header)) (file_order file.header) bytes ≡ Ok tt → IsGnuTableRecord (class_of (file_class file.header)) (file_order file.header) bytes one → IsOk one
+    gnu_reads : (bytes : List ℕ) (one : Result AnyTable AnyError) → gnu_table_of (class_of (file_class file.header)) (file_order file.header) bytes ≡ Ok tt → IsGnuTableRecord (class_of (file_class file.header)) (file_order file.header) bytes one → IsOk one
     gnu_reads bytes (Ok table) passes reads = refl
     gnu_reads bytes (Err (Link error)) passes reads = absurd (cc)
     gnu_reads bytes (Err (Elf error)) passes reads = absurd reads
@@ -108,12 +108,12 @@ record AreOpened (file : ElfFile) (index : ℕ) (opened : OpenedTable) : Type 0 
 are_opened : (file : ElfFile) (index : ℕ) (opened : OpenedTable) → opened_of file index ≡ Ok opened → AreOpened file index opened
 are_opened file index opened is = by_header (section_of file index) refl is
   where
-    by_symbols : (header : SectionHeader) (range : Range) (symbols : Result SymbolTable Refusal) → section_of file index ≡ Ok header → hash_range file header ≡ Ok range → table_of_section file (section_fields header).link ≡ symbols → and_then symbols (λ one. Ok (opened_with header range one)) ≡ Ok opened → AreOpened file index opened
+    by_symbols : (header : SectionHeader) (range : Range) (symbols : Result SymbolTable AnyError) → section_of file index ≡ Ok header → hash_range file header ≡ Ok range → table_of_section file (section_fields header).link ≡ symbols → and_then symbols (λ one. Ok (opened_with header range one)) ≡ Ok opened → AreOpened file index opened
     by_symbols header range (Err why) at ranged linked same = absurd (cc)
     by_symbols header range (Ok symbols) at ranged linked same =
         record { header = header; at = at; range = range; read = hash_read file header range ranged; symbols = symbols; linked = linked; made = cc }
 
-    by_range : (header : SectionHeader) (range : Result Range Refusal) → section_of file index ≡ Ok header → hash_range file header ≡ range → and_then range (λ one. and_then (table_of_section file (section_fields header).link) (λ symbols. Ok (opened_with header one symbols))) ≡ Ok opened → AreOpened file index opened
+    by_range : (header : SectionHeader) (range : Result Range AnyError) → section_of file index ≡ Ok header → hash_range file header ≡ range → and_then range (λ one. and_then (table_of_section file (section_fields header).link) (λ symbols. Ok (opened_with header one symbols))) ≡ Ok opened → AreOpened file index opened
     by_range header (Err why) at ranged same = absurd (cc)
     by_range header (Ok range) at ranged same = by_symbols header range (table_of_section file (section_fields header).link) at ranged refl same
 
@@ -143,14 +143,14 @@ module _ (file : ElfFile) (index : ℕ) (opened : OpenedTable) (is : opened_of f
       ∙ sym (ap (λ r. and_so (and_then r (λ header. and_then (section_of file (section_fields header).link) (section_content_of file))) (symbol_record_in i)) are.at))
 
   -- the ranges are read
-  pub tables_read : (found : Result HashParts Refusal) → ArePartsBy file.input.now opened found → IsOk found
+  pub tables_read : (found : Result HashParts AnyError) → ArePartsBy file.input.now opened found → IsOk found
   tables_read found parts = let are = are_opened file index opened is in
       by_record are (subst (λ o. ArePartsBy file.input.now o found) (sym are.made) parts)
     where
-      all_read : (table : Result AnyTable Refusal) (symbols : Result AnySymbols Refusal) (strings : Result (List ℕ) ElfError) → IsOk table → IsOk symbols → IsOk strings → AreTogether table symbols strings found → IsOk found
+      all_read : (table : Result AnyTable AnyError) (symbols : Result AnySymbols AnyError) (strings : Result (List ℕ) ElfError) → IsOk table → IsOk symbols → IsOk strings → AreTogether table symbols strings found → IsOk found
       all_read (Ok table) (Ok symbols) (Ok strings) one two three together = by_found found together
         where
-          by_found : (r : Result HashParts Refusal) → AreTogether (Ok table) (Ok symbols) (Ok strings) r → IsOk r
+          by_found : (r : Result HashParts AnyError) → AreTogether (Ok table) (Ok symbols) (Ok strings) r → IsOk r
           by_found (Ok all) here = refl
           by_found (Err why) here = absurd here
       all_read (Err why) symbols strings one two three together = absurd (let no : false ≡ true = one in cc)

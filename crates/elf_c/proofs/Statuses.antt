@@ -1,4 +1,4 @@
--- No error has number 0, which is the status of a call that was not refused; the numbers of each library are apart.
+-- No error has number 0, which is the status of a call that returned Ok; the numbers of each library are apart.
 use Rattle.std.proofs.Common.{◌<◌, lit<}
 use Rattle.elf_addresses.specs.Message.{index_number}
 use Rattle.elf_addresses.specs.declared.error.IndexError.{IndexError}
@@ -12,9 +12,9 @@ use Rattle.elf_linking.specs.declared.error.LinkError.TheVariants as link_error
 use Rattle.elf_loading.specs.Message.{load_number}
 use Rattle.elf_loading.specs.declared.error.LoadError.{LoadError}
 use Rattle.elf_loading.specs.declared.error.LoadError.TheVariants as load_error
-use Rattle.elf_c.specs.Status.{refusal_number}
-use Rattle.elf_c.specs.declared.status.Refusal.{Refusal}
-use Rattle.elf_c.specs.declared.status.Refusal.TheVariants.{Elf, Index, Link, Load}
+use Rattle.elf_c.specs.Status.{failure_number}
+use Rattle.elf_c.specs.declared.status.AnyError.{AnyError}
+use Rattle.elf_c.specs.declared.status.AnyError.TheVariants.{Elf, Index, Link, Load}
 
 pub error_above : (error : ElfError) → 0 < error_number error
 error_above ShortPart1 = lit< tt
@@ -59,9 +59,9 @@ index_above : (error : IndexError) → 0 < index_number error
 index_above index_error.ManySymbols = lit< tt
 index_above index_error.FewWords = lit< tt
 
-pub refusal_above : (refusal : Refusal) → 0 < refusal_number refusal
-refusal_above (Elf error) = error_above error
-refusal_above (Link error) = link_above error
-refusal_above (Load error) = load_above error
-refusal_above (Index error) = index_above error
-refusal_above _ = lit< tt
+pub failure_above : (failure : AnyError) → 0 < failure_number failure
+failure_above (Elf error) = error_above error
+failure_above (Link error) = link_above error
+failure_above (Load error) = load_above error
+failure_above (Index error) = index_above error
+failure_above _ = lit< tt

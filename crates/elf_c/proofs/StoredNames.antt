@@ -4,7 +4,7 @@ use Rattle.std.proofs.lemmas.List.{length-take-le, length-drop}
 use Rattle.elf_base.proofs.Texts.{zero_within}
 use Rattle.elf_base.proofs.lemmas.TextLemmas.{text_of-is}
 use Rattle.elf_base.specs.FileHeader.{order_of}
-use Rattle.elf_base.specs.Refusal.{and_then}
+use Rattle.elf_base.specs.FirstError.{and_then}
 use Rattle.elf_base.specs.Table.{records}
 use Rattle.elf_base.specs.Text.{text_of}
 use Rattle.elf_base.specs.declared.bytes.Order.{Order}
@@ -16,7 +16,7 @@ use Rattle.elf_records.specs.SectionNumbers.{is_sh_type}
 use Rattle.elf_records.specs.declared.sections.ShType.TheVariants.{Null}
 use Rattle.std.proofs.lemmas.Bool.{ltb-false}
 use Rattle.std.specs.Prelude.{nat_lt}
-use Rattle.xmas_elf.proofs.FirstNamed.{not_refused, went_on}
+use Rattle.xmas_elf.proofs.FirstNamed.{not_failed, went_on}
 use Rattle.xmas_elf.specs.Ranges.{range_of}
 use Rattle.xmas_elf.specs.SectionData.{section_data_of}
 use Rattle.xmas_elf.specs.SectionHeader.{section_fields, section_type}
@@ -29,15 +29,15 @@ use Rattle.elf_c.specs.Status.{and_so}
 use Rattle.elf_c.specs.SymbolTables.{symbol_name_range, name_range_in, symbol_among, symbol_by}
 use Rattle.elf_c.specs.declared.names.Name.{Name}
 use Rattle.elf_c.specs.declared.names.Range.{Range}
-use Rattle.elf_c.specs.declared.status.Refusal.{Refusal}
+use Rattle.elf_c.specs.declared.status.AnyError.{AnyError}
 use Rattle.elf_c.specs.declared.symbol_tables.SymbolTable.{SymbolTable}
 
 -- what is stored has each property that the items have
-pub stored : {T : Type 0} (P : T → Type 0) (item : ℕ → Result T Refusal) (first : ℕ) (old : List T) (answer : Result ℕ Refusal) (new : List T) → ((i : ℕ) (x : T) → item i ≡ Ok x → P x) → Fills item first old answer new → IfOk answer (λ count. (k : ℕ) (x : T) → k < count → slice_get new k ≡ Some x → P x)
+pub stored : {T : Type 0} (P : T → Type 0) (item : ℕ → Result T AnyError) (first : ℕ) (old : List T) (answer : Result ℕ AnyError) (new : List T) → ((i : ℕ) (x : T) → item i ≡ Ok x → P x) → Fills item first old answer new → IfOk answer (λ count. (k : ℕ) (x : T) → k < count → slice_get new k ≡ Some x → P x)
 stored P item first old (Err why) new has fills = tt
 stored {T} P item first old (Ok count) new has fills = λ k x below at. has (first + k) x (sym ((batch (item first) fills).each k below) ∙ ap (record_or_none (λ y. y)) at)
   where
-    batch : (r : Result T Refusal) → FillsBy item first old r (Ok count) new → IsBatch item first old count new
+    batch : (r : Result T AnyError) → FillsBy item first old r (Ok count) new → IsBatch item first old count new
     batch (Ok y) is = is
     batch (Err why) is = absurd is
 
@@ -46,7 +46,7 @@ pub found_has : {A T : Type 0} (P : T → Type 0) (value : A → T) (r : Option 
 found_has P value None x has is = absurd (cc)
 found_has P value (Some a) x has is = let same : value a ≡ x = cc in subst P same (has a)
 
-pub stored_lie : {A : Type 0} (input : List ℕ) (value : A → Name) (items : List A) (first : ℕ) (old : List Name) (answer : Result ℕ Refusal) (new : List Name) → Fills (record_in value items) first old answer new → ((a : A) → LiesIn input (value a).range) → IfOk answer (λ count. AllLieIn input count new)
+pub stored_lie : {A : Type 0} (input : List ℕ) (value : A → Name) (items : List A) (first : ℕ) (old : List Name) (answer : Result ℕ AnyError) (new : List Name) → Fills (record_in value items) first old answer new → ((a : A) → LiesIn input (value a).range) → IfOk answer (λ count. AllLieIn input count new)
 stored_lie input value items first old answer new fills has =
     stored (λ name. LiesIn input name.range) (record_in value items) first old answer new
     (λ i x is. found_has (λ name. LiesIn input name.range) value (slice_get items i) x has is) fills
@@ -54,7 +54,7 @@ stored_lie input value items first old answer new fills has =
 -- a text lies in the part that it is read from
 pub part_within : (input : List ℕ) (start count : ℕ) (part : List ℕ) → range_of input start count ≡ Ok part → (start + count ≤ length input) × (length part ≡ count)
 part_within input start count part is =
-    let (short, taken) = not_refused (nat_lt (length input) (start + count)) _ _ part is in
+    let (short, taken) = not_failed (nat_lt (length input) (start + count)) _ _ part is in
     let fits : start + count ≤ length input = ltb-false _ _ short in
     let same : take count (drop start input) ≡ part = cc in
     let rest : length (drop start input) ≡ length input - start = length-drop start input in
@@ -87,7 +87,7 @@ pub data_in : (file : ElfFile) (header : SectionHeader) (bytes : List ℕ) → s
 unfolding section_data_of
 data_in file header bytes is =
     let (kind, typed, answered) = went_on (section_type header) _ bytes is in
-    (not_refused (is_sh_type Null kind) _ _ bytes answered).1
+    (not_failed (is_sh_type Null kind) _ _ bytes answered).1
 
 pub found_lies : (file : ElfFile) (found : Result SectionHeader ElfError) → IfOk (and_then found (section_data_range file)) (LiesIn file.input.now)
 found_lies file (Err error) = tt
@@ -109,7 +109,7 @@ pub section_name_lies : (input : List ℕ) (names : Result Range ElfError) (sect
 section_name_lies input names section = answer_lies input (name_range_by input names section)
     (and_then_lies input names (λ part. text_range input part (section_fields section).name) (λ part. text_lies input part (section_fields section).name))
 
-if_ok : {T : Type 0} (b : Bool) (r : Result T Refusal) (why : Refusal) (x : T) → (if b then r else Err why) ≡ Ok x → r ≡ Ok x
+if_ok : {T : Type 0} (b : Bool) (r : Result T AnyError) (why : AnyError) (x : T) → (if b then r else Err why) ≡ Ok x → r ≡ Ok x
 if_ok true r why x is = is
 if_ok false r why x is = absurd (cc)
 
@@ -126,7 +126,7 @@ module _ (input : List ℕ) (table : SymbolTable) where
   among_lies true order bytes index x is = found_has (λ one. LiesIn input one.range) (λ e. symbol_name_range input table (dyn_entry_32_fields e)) (slice_get (records 16 (dyn_entry_32 order) bytes) index) x (λ e. name_lies (dyn_entry_32_fields e).name) (if_ok (length bytes % 16 == 0) _ _ x is)
   among_lies false order bytes index x is = found_has (λ one. LiesIn input one.range) (λ e. symbol_name_range input table (dyn_entry_64_fields e)) (slice_get (records 24 (dyn_entry_64 order) bytes) index) x (λ e. name_lies (dyn_entry_64_fields e).name) (if_ok (length bytes % 24 == 0) _ _ x is)
 
-  pub stored_names_lie : (first : ℕ) (old : List Name) (answer : Result ℕ Refusal) (new : List Name) → Fills (symbol_by (symbol_name_range input table) input table) first old answer new → IfOk answer (λ count. AllLieIn input count new)
+  pub stored_names_lie : (first : ℕ) (old : List Name) (answer : Result ℕ AnyError) (new : List Name) → Fills (symbol_by (symbol_name_range input table) input table) first old answer new → IfOk answer (λ count. AllLieIn input count new)
   stored_names_lie first old answer new fills = stored (λ name. LiesIn input name.range) (symbol_by (symbol_name_range input table) input table) first old answer new
       (λ i x is. by_range i x (range_of input table.symbols.offset table.symbols.size) is) fills
     where
@@ -134,7 +134,7 @@ module _ (input : List ℕ) (table : SymbolTable) where
       by_range i x (Err error) is = absurd (cc)
       by_range i x (Ok bytes) is = among_lies (table.class == 1) (order_of table.encoding) bytes i x is
 
-pub linked_name_lies : (input : List ℕ) (strings : Result Range Refusal) (place : ℕ) → LiesIn input (linked_name (range_in_strings input strings place)).range
+pub linked_name_lies : (input : List ℕ) (strings : Result Range AnyError) (place : ℕ) → LiesIn input (linked_name (range_in_strings input strings place)).range
 linked_name_lies input (Err error) place = let none : 0 + 0 ≤ length input = omega arith in none
 linked_name_lies input (Ok part) place = by_text (text_range input part place) (text_lies input part place)
   where
@@ -148,13 +148,13 @@ one_more input false one others has rest i x at = rest i x at
 one_more input true one others has rest zero x at = let same : one ≡ x = cc in subst (λ name. LiesIn input name.range) same has
 one_more input true one others has rest (suc i) x at = rest i x at
 
-texts_lie : (tag : ℕ) (input : List ℕ) (strings : Result Range Refusal) (entries : List (Dynamic ℕ)) (i : ℕ) (x : Name) → slice_get (texts_with tag input strings entries) i ≡ Some x → LiesIn input x.range
+texts_lie : (tag : ℕ) (input : List ℕ) (strings : Result Range AnyError) (entries : List (Dynamic ℕ)) (i : ℕ) (x : Name) → slice_get (texts_with tag input strings entries) i ≡ Some x → LiesIn input x.range
 texts_lie tag input strings [] i x is = absurd (cc)
 texts_lie tag input strings (entry ∷ entries) i x is =
     one_more input (dynamic_tag entry == tag) (linked_name (range_in_strings input strings (dynamic_value entry))) (texts_with tag input strings entries)
     (linked_name_lies input strings (dynamic_value entry)) (λ k name at. texts_lie tag input strings entries k name at) i x is
 
-pub stored_texts_lie : (tag : ℕ) (input : List ℕ) (strings : Result Range Refusal) (entries : List (Dynamic ℕ)) (first : ℕ) (old : List Name) (answer : Result ℕ Refusal) (new : List Name) → Fills (record_in (λ name. name) (texts_with tag input strings entries)) first old answer new → IfOk answer (λ count. AllLieIn input count new)
+pub stored_texts_lie : (tag : ℕ) (input : List ℕ) (strings : Result Range AnyError) (entries : List (Dynamic ℕ)) (first : ℕ) (old : List Name) (answer : Result ℕ AnyError) (new : List Name) → Fills (record_in (λ name. name) (texts_with tag input strings entries)) first old answer new → IfOk answer (λ count. AllLieIn input count new)
 stored_texts_lie tag input strings entries first old answer new fills =
     stored (λ name. LiesIn input name.range) (record_in (λ name. name) (texts_with tag input strings entries)) first old answer new
     (λ i x is. found_some (slice_get (texts_with tag input strings entries) i) x (λ found. texts_lie tag input strings entries i x found) is) fills

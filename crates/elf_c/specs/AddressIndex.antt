@@ -12,7 +12,7 @@ use Rattle.elf_addresses.specs.declared.find.At.{At}
 use Rattle.elf_addresses.specs.declared.symbols.AddressSymbols.{AddressSymbols}
 use Rattle.elf_base.specs.FileHeader.{order_of}
 use Rattle.elf_base.specs.Number.{number}
-use Rattle.elf_base.specs.Refusal.{and_then, unless}
+use Rattle.elf_base.specs.FirstError.{and_then, unless}
 use Rattle.elf_base.specs.Table.{records, table_items}
 use Rattle.elf_base.specs.declared.bytes.Order.{Order}
 use Rattle.elf_base.specs.declared.error.ElfError.TheVariants.{NotMultiple}
@@ -28,8 +28,8 @@ use Rattle.elf_c.specs.declared.address_index.AnyAddresses.TheVariants.{Narrow, 
 use Rattle.elf_c.specs.declared.address_index.Sizes.{Sizes}
 use Rattle.elf_c.specs.declared.address_index.SymbolAt.{SymbolAt}
 use Rattle.elf_c.specs.declared.names.Range.{Range}
-use Rattle.elf_c.specs.declared.status.Refusal.{Refusal}
-use Rattle.elf_c.specs.declared.status.Refusal.TheVariants.{Elf, Index}
+use Rattle.elf_c.specs.declared.status.AnyError.{AnyError}
+use Rattle.elf_c.specs.declared.status.AnyError.TheVariants.{Elf, Index}
 use Rattle.elf_c.specs.declared.symbol_tables.SymbolTable.{SymbolTable}
 
 -- symbols, and what says which of them name addresses: their string table, their section indices that need more than
@@ -41,28 +41,28 @@ pub record Addresses : Type 0 where
   pub machine : ℕ
 
 -- the symbols in bytes, in the layout of class 32 or else of class 64, or that they are not a whole number
-abbrev pub symbol_records_in : Bool → Order → List ℕ → Result (List SymbolFields) Refusal
+abbrev pub symbol_records_in : Bool → Order → List ℕ → Result (List SymbolFields) AnyError
 symbol_records_in true order bytes = if length bytes % 16 == 0
     then Ok (map dyn_entry_32_fields (records 16 (dyn_entry_32 order) bytes)) else Err (Elf NotMultiple)
 symbol_records_in false order bytes = if length bytes % 24 == 0
     then Ok (map dyn_entry_64_fields (records 24 (dyn_entry_64 order) bytes)) else Err (Elf NotMultiple)
 
 -- the symbols in the range of a record
-abbrev pub symbols_by : List ℕ → SymbolTable → Result (List SymbolFields) Refusal
+abbrev pub symbols_by : List ℕ → SymbolTable → Result (List SymbolFields) AnyError
 symbols_by input table = and_so (range_of input table.symbols.offset table.symbols.size)
     (symbol_records_in (table.class == 1) (order_of table.encoding))
 
 -- the words of 4 bytes in bytes, or that they are not a whole number
-abbrev pub index_words_in : Order → List ℕ → Result (List ℕ) Refusal
+abbrev pub index_words_in : Order → List ℕ → Result (List ℕ) AnyError
 index_words_in order bytes =
     if length bytes % 4 == 0 then Ok (records 4 (number order 4 0) bytes) else Err (Elf NotMultiple)
 
 -- the words in a range
-abbrev pub words_by : List ℕ → Range → Order → Result (List ℕ) Refusal
+abbrev pub words_by : List ℕ → Range → Order → Result (List ℕ) AnyError
 words_by input part order = and_so (range_of input part.offset part.size) (index_words_in order)
 
 -- the symbols of a record with their string table, and the section indices in a range, or the first error
-abbrev pub addresses_by : List ℕ → SymbolTable → Range → ℕ → Result Addresses Refusal
+abbrev pub addresses_by : List ℕ → SymbolTable → Range → ℕ → Result Addresses AnyError
 addresses_by input table indices machine =
     and_then (symbols_by input table) (λ items.
     and_so (range_of input table.strings.offset table.strings.size) (λ strings.
@@ -99,14 +99,14 @@ abbrev pub numbers_with : (ℕ → Option Claim) → ℕ → ℕ
 numbers_with claim_of count = min (number_count claim_of count) (2 ^ 64 - 1)
 
 -- why an index can't be built in words and numbers
-abbrev pub index_rows : (ℕ → Option Claim) → ℕ → List ℕ → List ℕ → List (Bool × Refusal)
+abbrev pub index_rows : (ℕ → Option Claim) → ℕ → List ℕ → List ℕ → List (Bool × AnyError)
 index_rows claim_of count words numbers = (nat_le (2 ^ 32) count, Index ManySymbols)
     ∷ (nat_lt (length words) (word_count claim_of count), Index FewWords)
     ∷ (nat_lt (length numbers) (number_count claim_of count), Index FewWords)
     ∷ []
 
 -- the sizes of an index, or why it can't be built in words and numbers
-abbrev pub sizes_with : (ℕ → Option Claim) → ℕ → List ℕ → List ℕ → Result Sizes Refusal
+abbrev pub sizes_with : (ℕ → Option Claim) → ℕ → List ℕ → List ℕ → Result Sizes AnyError
 sizes_with claim_of count words numbers = if asks_size claim_of count words
     then Ok (record { words = words_with claim_of count; numbers = numbers_with claim_of count; sized_count = 0; open_count = 0 })
     else unless (index_rows claim_of count words numbers) (record {
@@ -117,7 +117,7 @@ sizes_with claim_of count words numbers = if asks_size claim_of count words
     })
 
 -- the same for the symbols of a table
-abbrev pub index_sizes_of : Addresses → Option ℕ → List ℕ → List ℕ → Result Sizes Refusal
+abbrev pub index_sizes_of : Addresses → Option ℕ → List ℕ → List ℕ → Result Sizes AnyError
 index_sizes_of all within words numbers = sizes_with (claim_in_section all within) (length all.items) words numbers
 
 -- the record of an index with these sizes
@@ -134,7 +134,7 @@ index_with table indices machine within sizes = record {
 }
 
 -- the record of an index of the symbols of a record, or why there is none
-abbrev pub index_of : List ℕ → SymbolTable → Range → ℕ → ℕ → List ℕ → List ℕ → Result AddressIndex Refusal
+abbrev pub index_of : List ℕ → SymbolTable → Range → ℕ → ℕ → List ℕ → List ℕ → Result AddressIndex AnyError
 index_of input table indices machine within words numbers =
     and_then (addresses_by input table indices machine) (λ all.
     and_then (index_sizes_of all (within_of within) words numbers) (λ sizes.
@@ -197,7 +197,7 @@ pub record AreStored {T : Type 0} (P : ℕ → T → Type 0) (addresses : List �
 
 -- the result of a call for many addresses by the words and the numbers of an index: the numbers of their symbols, or an
 -- error, and nothing is stored
-abbrev pub AreAnswered : List ℕ → AddressIndex → List ℕ → List ℕ → List ℕ → List SymbolAt → Result (Unit {0}) Refusal → List SymbolAt → Type 0
+abbrev pub AreAnswered : List ℕ → AddressIndex → List ℕ → List ℕ → List ℕ → List SymbolAt → Result (Unit {0}) AnyError → List SymbolAt → Type 0
 AreAnswered input index words numbers addresses old answer new =
     MatchResult (addresses_by input index.table index.indices index.machine)
     (λ all. (answer ≡ Ok tt) × AreStored (IsAnswerIn all index words numbers) addresses old new)

@@ -8,8 +8,8 @@ use Rattle.elf_c.specs.Records.{range_at}
 use Rattle.elf_c.specs.Status.{and_so}
 use Rattle.elf_c.specs.declared.names.Range.{Range}
 use Rattle.elf_c.specs.declared.notes.NoteRange.{NoteRange}
-use Rattle.elf_c.specs.declared.status.Refusal.{Refusal}
-use Rattle.elf_c.specs.declared.status.Refusal.TheVariants.{Link, NoRecord}
+use Rattle.elf_c.specs.declared.status.AnyError.{AnyError}
+use Rattle.elf_c.specs.declared.status.AnyError.TheVariants.{Link, NoRecord}
 
 -- the ranges of the parts of the note at the start of the bytes, which begin at `start`, and of the rest
 abbrev pub note_parts_at : ℕ → ℕ → Order → List ℕ → NoteRange
@@ -28,11 +28,11 @@ EndsBy end note = (note.name.offset + note.name.size ≤ end) × (note.desc.offs
     × (note.rest.offset + note.rest.size ≤ end)
 
 -- the ranges of the first note and of the rest, or why there is no note
-abbrev pub note_at : ℕ → ℕ → Order → List ℕ → Result NoteRange Refusal
+abbrev pub note_at : ℕ → ℕ → Order → List ℕ → Result NoteRange AnyError
 note_at start align order bytes = if length bytes == 0 then Err NoRecord
     else (if begins_with_note align order bytes then Ok (note_parts_at start align order bytes)
     else Err (Link ShortNote))
 
 -- the note at the start of a part of the input
-abbrev pub note_in : List ℕ → Order → Range → ℕ → Result NoteRange Refusal
+abbrev pub note_in : List ℕ → Order → Range → ℕ → Result NoteRange AnyError
 note_in input order part align = and_so (range_of input part.offset part.size) (note_at part.offset align order)

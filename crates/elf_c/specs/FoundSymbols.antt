@@ -5,7 +5,7 @@ use Rattle.elf_base.specs.FileHeader.{file_class}
 use Rattle.elf_base.specs.declared.bytes.Order.{Order}
 use Rattle.elf_records.specs.HashNumber.{hash_number}
 use Rattle.elf_linking.specs.AnyTable.{IsGoodBy}
-use Rattle.elf_linking.specs.DynamicObject.{AreVersionedSymbols, IsObjectRefused}
+use Rattle.elf_linking.specs.DynamicObject.{AreVersionedSymbols, IsObjectError}
 use Rattle.elf_linking.specs.Find.{AreReadable, DynamicSymbols, FindsRight, IsFound}
 use Rattle.elf_linking.specs.Serves.{serves_others}
 use Rattle.elf_linking.specs.declared.error.LinkError.{LinkError}
@@ -17,8 +17,8 @@ use Rattle.xmas_elf.specs.declared.ElfFile.{ElfFile}
 use Rattle.elf_c.specs.LookUps.{IfUtf8}
 use Rattle.elf_c.specs.Symbols.{symbol_record}
 use Rattle.elf_c.specs.declared.found_symbols.FoundSymbol.{FoundSymbol}
-use Rattle.elf_c.specs.declared.status.Refusal.{Refusal}
-use Rattle.elf_c.specs.declared.status.Refusal.TheVariants.{Link}
+use Rattle.elf_c.specs.declared.status.AnyError.{AnyError}
+use Rattle.elf_c.specs.declared.status.AnyError.TheVariants.{Link}
 use Rattle.elf_c.specs.declared.symbols.Symbol.{Symbol}
 
 -- the numbers of no symbol
@@ -39,7 +39,7 @@ found_symbol fields None = no_symbol_record
 found_symbol fields (Some at) = serving_symbol at.0 (fields at.1)
 
 -- the numbers of the result of a search
-abbrev pub found_answer : {E : Type 0} → (E → SymbolFields) → Result (Option (ℕ × E)) LinkError → Result FoundSymbol Refusal
+abbrev pub found_answer : {E : Type 0} → (E → SymbolFields) → Result (Option (ℕ × E)) LinkError → Result FoundSymbol AnyError
 found_answer fields (Ok found) = Ok (found_symbol fields found)
 found_answer fields (Err error) = Err (Link error)
 
@@ -52,7 +52,7 @@ IsWanted version (Version name hash hidden) =
 
 -- the result of a search among dynamic symbols for a name and a version; if look-ups find all that they must
 -- and the versions can be read, the right one
-pub record IsSearched {E : Type 0} (all : DynamicSymbols E) (name version : List ℕ) (answer : Result FoundSymbol Refusal) : Type 0 where
+pub record IsSearched {E : Type 0} (all : DynamicSymbols E) (name version : List ℕ) (answer : Result FoundSymbol AnyError) : Type 0 where
   pub wanted : Wanted
   pub found : Result (Option (ℕ × E)) LinkError
   pub is_wanted : IsWanted version wanted
@@ -62,22 +62,22 @@ pub record IsSearched {E : Type 0} (all : DynamicSymbols E) (name version : List
 
 -- the result of such a search in a file of this class, with symbols of this size, or why the file has no dynamic
 -- symbols
-pub data IsSearch {E : Type 0} (class size : ℕ) (entry : Order → List ℕ → E) (fields : E → SymbolFields) (file : ElfFile) (name version : List ℕ) : Result FoundSymbol Refusal → Type 0 where
-  searched : (all : DynamicSymbols E) (answer : Result FoundSymbol Refusal)
+pub data IsSearch {E : Type 0} (class size : ℕ) (entry : Order → List ℕ → E) (fields : E → SymbolFields) (file : ElfFile) (name version : List ℕ) : Result FoundSymbol AnyError → Type 0 where
+  searched : (all : DynamicSymbols E) (answer : Result FoundSymbol AnyError)
       → AreVersionedSymbols class size entry fields file all → IsSearched all name version answer
       → IsSearch class size entry fields file name version answer
-  refused : (error : LinkError) → IsObjectRefused class size file error
+  failed : (error : LinkError) → IsObjectError class size file error
       → IsSearch class size entry fields file name version (Err (Link error))
 
 -- the result of such a search in a file that is of class 32, or of another one
-abbrev pub IsByClass : Bool → ElfFile → List ℕ → List ℕ → Result FoundSymbol Refusal → Type 0
+abbrev pub IsByClass : Bool → ElfFile → List ℕ → List ℕ → Result FoundSymbol AnyError → Type 0
 IsByClass true file name version answer = IsSearch 1 16 dyn_entry_32 dyn_entry_32_fields file name version answer
 IsByClass false file name version answer = IsSearch 2 24 dyn_entry_64 dyn_entry_64_fields file name version answer
 
 -- the result of such a search in a file
-abbrev pub IsFoundSymbol : ElfFile → List ℕ → List ℕ → Result FoundSymbol Refusal → Type 0
+abbrev pub IsFoundSymbol : ElfFile → List ℕ → List ℕ → Result FoundSymbol AnyError → Type 0
 IsFoundSymbol file name version answer = IsByClass (file_class file.header == 1) file name version answer
 
 -- the result of such a search for a name and a version in bytes: an error if either is not UTF-8
-abbrev pub IsFoundBy : ElfFile → List ℕ → List ℕ → Result FoundSymbol Refusal → Type 0
+abbrev pub IsFoundBy : ElfFile → List ℕ → List ℕ → Result FoundSymbol AnyError → Type 0
 IsFoundBy file name version answer = IfUtf8 (λ text. IfUtf8 (IsFoundSymbol file text) version) name answer

@@ -15,21 +15,21 @@ use Rattle.elf_loading.specs.declared.relocate.Place.{Place}
 use Rattle.elf_loading.specs.declared.words.Binding.{Binding}
 use Rattle.xmas_elf.specs.Symbol.{SymbolFields, dyn_entry_32_fields, dyn_entry_64_fields}
 use Rattle.xmas_elf.specs.Types.{DynEntry32, DynEntry64}
-use Rattle.elf_c.specs.LoadObjects.{AreObjectsOf, ArePlacesOf, ArePlansOf, IsRefusedAt, IsUnplannedAt, is_first_narrow}
-use Rattle.elf_c.specs.Status.{refusal_number}
+use Rattle.elf_c.specs.LoadObjects.{AreObjectsOf, ArePlacesOf, ArePlansOf, IsFailedAt, IsUnplannedAt, is_first_narrow}
+use Rattle.elf_c.specs.Status.{failure_number}
 use Rattle.elf_c.specs.declared.load_all.Failure.{Failure}
 use Rattle.elf_c.specs.declared.load_objects.LoadObject.{LoadObject}
 use Rattle.elf_c.specs.declared.load_objects.TheConstants.{MOST_OBJECTS}
-use Rattle.elf_c.specs.declared.status.Refusal.{Refusal}
-use Rattle.elf_c.specs.declared.status.Refusal.TheVariants.{Link, Load, ManyObjects}
+use Rattle.elf_c.specs.declared.status.AnyError.{AnyError}
+use Rattle.elf_c.specs.declared.status.AnyError.TheVariants.{Link, Load, ManyObjects}
 
 -- an error of the object at an index
-abbrev pub failed_at : Refusal → ℕ → Failure
-failed_at refusal index = record { refusal = refusal; object = Some index }
+abbrev pub failed_at : AnyError → ℕ → Failure
+failed_at error index = record { error = error; object = Some index }
 
 -- an error that is not that of an object
-abbrev pub failed_alone : Refusal → Failure
-failed_alone refusal = record { refusal = refusal; object = None }
+abbrev pub failed_alone : AnyError → Failure
+failed_alone error = record { error = error; object = None }
 
 -- The places of images in memory.
 
@@ -114,7 +114,7 @@ pub data RelocatesAllAs {E : Type 0} (r : _) (class size : ℕ) (fields : E → 
       → ArePlansOf page limit objects plans → total_size plans ≢ length before
       → result ≡ Err (failed_alone (Load ImageSize)) → after ≡ before
       → RelocatesAllAs r class size fields loads when page limit before after result
-  all_unread : (index : ℕ) (error : LinkError) → IsRefusedAt {E = E} r class size loads index error
+  all_unread : (index : ℕ) (error : LinkError) → IsFailedAt {E = E} r class size loads index error
       → result ≡ Err (failed_at (Link error) index) → after ≡ before
       → RelocatesAllAs r class size fields loads when page limit before after result
   all_unplanned : (objects : List (DynamicObject E r)) (index : ℕ) (error : LoadError)
@@ -140,4 +140,4 @@ pub data RelocatesAll (narrow_record wide_record : _) (loads : List LoadObject) 
 abbrev pub GivesAll : Result ℕ Failure → ℕ → ℕ → ℕ → ℕ → ℕ → Type 0
 GivesAll (Ok count) left failed status left_new failed_new = (status ≡ 0) × (left_new ≡ count) × (failed_new ≡ failed)
 GivesAll (Err why) left failed status left_new failed_new =
-    (status ≡ refusal_number why.refusal) × (left_new ≡ left) × (failed_new ≡ unwrap_or why.object failed)
+    (status ≡ failure_number why.error) × (left_new ≡ left) × (failed_new ≡ unwrap_or why.object failed)

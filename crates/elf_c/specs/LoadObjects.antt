@@ -3,7 +3,7 @@ use Rattle.std.specs.Prelude.{◌≡◌, ℕ, ◌==◌, ◌<◌, Bool, false, Li
 use Rattle.std.specs.Borrow.{Bor}
 use Rattle.elf_base.specs.FileHeader.{file_class, header_of}
 use Rattle.elf_base.specs.declared.error.ElfError.{ElfError}
-use Rattle.elf_linking.specs.DynamicObject.{IsReachedObject, IsReachedRefused, object_file}
+use Rattle.elf_linking.specs.DynamicObject.{IsReachedObject, IsReachedError, object_file}
 use Rattle.elf_linking.specs.declared.error.LinkError.{LinkError}
 use Rattle.elf_linking.specs.declared.error.LinkError.TheVariants.{Elf}
 use Rattle.elf_linking.specs.declared.object.DynamicObject.{DynamicObject}
@@ -19,8 +19,8 @@ use Rattle.xmas_elf.specs.declared.ElfFile.{ElfFile}
 use Rattle.elf_c.specs.LoadPlans.{default_limit}
 use Rattle.elf_c.specs.declared.load_objects.LoadObject.{LoadObject}
 use Rattle.elf_c.specs.declared.load_objects.TheConstants.{MOST_OBJECTS}
-use Rattle.elf_c.specs.declared.status.Refusal.{Refusal}
-use Rattle.elf_c.specs.declared.status.Refusal.TheVariants.{Load}
+use Rattle.elf_c.specs.declared.status.AnyError.{AnyError}
+use Rattle.elf_c.specs.declared.status.AnyError.TheVariants.{Load}
 
 -- a header is of class 32
 abbrev pub is_narrow_header : Result Header ElfError → Bool
@@ -44,10 +44,10 @@ pub record IsObjectOfBytes {E : Type 0} {r : _} (class size : ℕ) (bytes : List
   pub object_is : IsReachedObject class size file object
 
 -- why bytes are no such file: an error of their header, or of what a dynamic linker reads of it
-pub data IsRefusedAsObject (class size : ℕ) (bytes : List ℕ) : LinkError → Type 0 where
-  no_header : (error : ElfError) → header_of bytes ≡ Err error → IsRefusedAsObject class size bytes (Elf error)
+pub data IsObjectErrorOf (class size : ℕ) (bytes : List ℕ) : LinkError → Type 0 where
+  no_header : (error : ElfError) → header_of bytes ≡ Err error → IsObjectErrorOf class size bytes (Elf error)
   no_object : (file : ElfFile) (error : LinkError) → file.input.now ≡ bytes → header_of bytes ≡ Ok file.header
-      → IsReachedRefused class size file error → IsRefusedAsObject class size bytes error
+      → IsReachedError class size file error → IsObjectErrorOf class size bytes error
 
 -- the first `count` of all are these, and each of all is one of these
 pub record ArePadded (loads all : List LoadObject) (count : ℕ) : Type 0 where
@@ -67,17 +67,17 @@ pub record AreMade {A B : Type 0} (Is : A → B → Type 0) (from : List A) (mad
   pub each : (index : ℕ) (item : A) → slice_get from index ≡ Some item → IsSomeAnd (slice_get made index) (Is item)
 
 -- the first item of a list of which none is made, and why
-pub record IsFirstUnmade {A B C : Type 0} (Is : A → B → Type 0) (Refuses : A → C → Type 0) (from : List A) (error : C) : Type 0 where
+pub record IsFirstUnmade {A B C : Type 0} (Is : A → B → Type 0) (Fails : A → C → Type 0) (from : List A) (error : C) : Type 0 where
   pub index : ℕ
   pub item : A
   pub item_is : slice_get from index ≡ Some item
   pub made : List B
   pub before : AreFirstMade Is from index made
-  pub why : Refuses item error
+  pub why : Fails item error
 
 -- the same with its index
-pub record IsFirstUnmadeAt {A B C : Type 0} (Is : A → B → Type 0) (Refuses : A → C → Type 0) (from : List A) (index : ℕ) (error : C) : Type 0 where
-  pub first : IsFirstUnmade Is Refuses from error
+pub record IsFirstUnmadeAt {A B C : Type 0} (Is : A → B → Type 0) (Fails : A → C → Type 0) (from : List A) (index : ℕ) (error : C) : Type 0 where
+  pub first : IsFirstUnmade Is Fails from error
   pub index_is : first.index ≡ index
 
 -- the object is that of the file of another
@@ -89,13 +89,13 @@ abbrev pub AreObjectsOf : {E : Type 0} → {r : _} → ℕ → ℕ → List Load
 AreObjectsOf class size loads objects = AreMade (IsObjectOf class size) loads objects
 
 -- the first file that is none of an object of this class, and why
-pub record IsFirstRefused {E : Type 0} (r : _) (class size : ℕ) (loads : List LoadObject) (error : LinkError) : Type 0 where
-  pub first : IsFirstUnmade {B = DynamicObject E r} (IsObjectOf class size) (λ load. IsRefusedAsObject class size load.file.now)
+pub record IsFirstFailed {E : Type 0} (r : _) (class size : ℕ) (loads : List LoadObject) (error : LinkError) : Type 0 where
+  pub first : IsFirstUnmade {B = DynamicObject E r} (IsObjectOf class size) (λ load. IsObjectErrorOf class size load.file.now)
       loads error
 
 -- the file at an index is the first that is none of an object of this class, and why
-pub record IsRefusedAt {E : Type 0} (r : _) (class size : ℕ) (loads : List LoadObject) (index : ℕ) (error : LinkError) : Type 0 where
-  pub refused : IsFirstUnmadeAt {B = DynamicObject E r} (IsObjectOf class size) (λ load. IsRefusedAsObject class size load.file.now)
+pub record IsFailedAt {E : Type 0} (r : _) (class size : ℕ) (loads : List LoadObject) (index : ℕ) (error : LinkError) : Type 0 where
+  pub failed : IsFirstUnmadeAt {B = DynamicObject E r} (IsObjectOf class size) (λ load. IsObjectErrorOf class size load.file.now)
       loads index error
 
 -- the plan is that of the file of an object, with pages of a size and addresses up to a limit
@@ -140,6 +140,6 @@ abbrev pub when_of : ℕ → Binding
 when_of lazy = if lazy == 1 then Lazy else Now
 
 -- the result of a call of the library as that of an export
-abbrev pub as_refusal : {A : Type 0} → Result A LoadError → Result A Refusal
-as_refusal (Ok value) = Ok value
-as_refusal (Err error) = Err (Load error)
+abbrev pub as_failure : {A : Type 0} → Result A LoadError → Result A AnyError
+as_failure (Ok value) = Ok value
+as_failure (Err error) = Err (Load error)

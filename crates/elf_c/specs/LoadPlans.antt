@@ -24,8 +24,8 @@ use Rattle.elf_c.specs.declared.load_plans.Span.{Span}
 use Rattle.elf_c.specs.declared.load_plans.TheConstants.{FILE, NO_ACCESS, ZERO}
 use Rattle.elf_c.specs.declared.load_plans.Template.{Template}
 use Rattle.elf_c.specs.declared.names.Range.{Range}
-use Rattle.elf_c.specs.declared.status.Refusal.{Refusal}
-use Rattle.elf_c.specs.declared.status.Refusal.TheVariants.{Load}
+use Rattle.elf_c.specs.declared.status.AnyError.{AnyError}
+use Rattle.elf_c.specs.declared.status.AnyError.TheVariants.{Load}
 
 -- the size of a page; 0 means 4096
 abbrev pub page_of : ℕ → ℕ
@@ -90,12 +90,12 @@ plan_record file page = record {
 }
 
 -- a value, if the check of the file has passed
-abbrev pub if_checked : {T : Type 0} → Result ℕ LoadError → Result T Refusal → Result T Refusal
+abbrev pub if_checked : {T : Type 0} → Result ℕ LoadError → Result T AnyError → Result T AnyError
 if_checked (Ok end) value = value
 if_checked (Err error) value = Err (Load error)
 
 -- the numbers of the plan of a file, or why it can't be loaded
-abbrev pub plan_of : ElfFile → ℕ → ℕ → Result Plan Refusal
+abbrev pub plan_of : ElfFile → ℕ → ℕ → Result Plan AnyError
 plan_of file page limit = if_checked (check_file file page limit) (Ok (plan_record file page))
 
 -- what a mapping holds, as a number
@@ -124,6 +124,6 @@ abbrev pub mapping_records : ElfFile → ℕ → Loader → List LoadMapping
 mapping_records file page by = map mapping_record (mappings_of page by None (loads_of file))
 
 -- the numbers of the mapping at an index, or why there is none
-abbrev pub mapping_at : ElfFile → ℕ → ℕ → Loader → ℕ → Result LoadMapping Refusal
+abbrev pub mapping_at : ElfFile → ℕ → ℕ → Loader → ℕ → Result LoadMapping AnyError
 mapping_at file page limit by index =
     if_checked (check_file file page limit) (record_in (λ one. one) (mapping_records file page by) index)

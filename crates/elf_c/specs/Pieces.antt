@@ -10,15 +10,15 @@ use Rattle.elf_addresses.specs.declared.owner.Owner.{Owner}
 use Rattle.elf_addresses.specs.declared.owner.Owner.TheVariants.{ElfHeader, ProgramHeaders, SectionHeaders, Section, Segment, Between, Behind}
 use Rattle.elf_addresses.specs.declared.pieces.Piece as addresses
 use Rattle.elf_addresses.specs.declared.symbol_pieces.SymbolPiece.{SymbolPiece}
-use Rattle.elf_base.specs.Refusal.{and_then, unless}
+use Rattle.elf_base.specs.FirstError.{and_then, unless}
 use Rattle.xmas_elf.specs.Types.{ElfFile}
 use Rattle.elf_c.specs.AddressIndex.{Addresses, addresses_by, claim_in_section, index_rows, within_of}
 use Rattle.elf_c.specs.declared.address_index.AddressIndex.{AddressIndex}
 use Rattle.elf_c.specs.declared.pieces.Piece.{Piece}
 use Rattle.elf_c.specs.declared.pieces.PieceSizes.{PieceSizes}
 use Rattle.elf_c.specs.declared.pieces.TheConstants.{ELF_HEADER, PROGRAM_HEADERS, SECTION_HEADERS, SECTION, SEGMENT, BETWEEN, BEHIND, IN_SYMBOL, IN_NO_SYMBOL}
-use Rattle.elf_c.specs.declared.status.Refusal.{Refusal}
-use Rattle.elf_c.specs.declared.status.Refusal.TheVariants.{Index}
+use Rattle.elf_c.specs.declared.status.AnyError.{AnyError}
+use Rattle.elf_c.specs.declared.status.AnyError.TheVariants.{Index}
 
 -- the number of an owner, and the index of the section or the segment
 abbrev pub owner_numbers : Owner → ℕ × ℕ
@@ -57,13 +57,13 @@ pub record IsRows {T : Type 0} (items : List T) (first : ℕ) (old new : List T)
   pub rest : (k : ℕ) → length items ≤ first + k → slice_get new k ≡ slice_get old k
 
 -- the result of a call that stores the pieces of a list: their number, or an error, and nothing is stored
-abbrev pub Lists : {P : Type 0} → Result (Unit {0}) Refusal → (List P → Type 0) → (P → Piece) → ℕ → List Piece → Result ℕ Refusal → List Piece → Type 0
-Lists {P} refused AreAll numbers first old answer new = MatchResult refused
+abbrev pub Lists : {P : Type 0} → Result (Unit {0}) AnyError → (List P → Type 0) → (P → Piece) → ℕ → List Piece → Result ℕ AnyError → List Piece → Type 0
+Lists {P} failed AreAll numbers first old answer new = MatchResult failed
     (λ _. (all : List P) × AreAll all × (answer ≡ Ok (length all)) × IsRows (map numbers all) first old new)
     (λ why. (answer ≡ Err why) × (new ≡ old))
 
 -- there are fewer words or numbers than a call takes
-abbrev pub few_words : ℕ → ℕ → List ℕ → List ℕ → Result (Unit {0}) Refusal
+abbrev pub few_words : ℕ → ℕ → List ℕ → List ℕ → Result (Unit {0}) AnyError
 few_words words_needed numbers_needed words numbers =
     unless ((nat_lt (length words) words_needed, Index FewWords) ∷ (nat_lt (length numbers) numbers_needed, Index FewWords) ∷ []) tt
 
@@ -84,10 +84,10 @@ abbrev pub piece_sizes_of : ElfFile → ℕ → PieceSizes
 piece_sizes_of file count = record { words = piece_words file; numbers = piece_numbers file; count = count }
 
 -- the result of a call for the pieces of a file: their number and those of the words and the numbers, or an error
-abbrev pub AreCounted : ElfFile → ℕ → List ℕ → List ℕ → List Piece → Result PieceSizes Refusal → List Piece → Type 0
+abbrev pub AreCounted : ElfFile → ℕ → List ℕ → List ℕ → List Piece → Result PieceSizes AnyError → List Piece → Type 0
 AreCounted file first words numbers old answer new = MatchBool (asks_words file words)
     ((answer ≡ Ok (piece_sizes_of file 0)) × (new ≡ old))
-    ((counted : Result ℕ Refusal) × Lists (few_words (piece_words file) (piece_numbers file) words numbers) (IsWhole file) piece_record first old counted new
+    ((counted : Result ℕ AnyError) × Lists (few_words (piece_words file) (piece_numbers file) words numbers) (IsWhole file) piece_record first old counted new
     × (answer ≡ and_then counted (λ count. Ok (piece_sizes_of file count))))
 
 -- pieces that follow each other, from an address up to a limit, each a longest run of addresses in one symbol or in none
@@ -97,16 +97,16 @@ AreRuns claim_of limit begin (piece ∷ pieces) =
     (piece.begin ≡ begin) × IsSizedRun claim_of limit piece.begin piece.end piece.symbol × AreRuns claim_of limit piece.end pieces
 
 -- why an index of symbols can't be built in words and numbers
-abbrev pub runs_refused : (ℕ → Option Claim) → ℕ → List ℕ → List ℕ → Result (Unit {0}) Refusal
-runs_refused claim_of count words numbers = unless (index_rows claim_of count words numbers) tt
+abbrev pub runs_failed : (ℕ → Option Claim) → ℕ → List ℕ → List ℕ → Result (Unit {0}) AnyError
+runs_failed claim_of count words numbers = unless (index_rows claim_of count words numbers) tt
 
 -- the result of a call for the pieces of a range of addresses by symbols
-abbrev pub AreListedIn : Addresses → Option ℕ → ℕ × ℕ → ℕ → List ℕ → List ℕ → List Piece → Result ℕ Refusal → List Piece → Type 0
+abbrev pub AreListedIn : Addresses → Option ℕ → ℕ × ℕ → ℕ → List ℕ → List ℕ → List Piece → Result ℕ AnyError → List Piece → Type 0
 AreListedIn all within range first words numbers old answer new = let claim_of = claim_in_section all within in
-    Lists (runs_refused claim_of (length all.items) words numbers) (AreRuns claim_of (max range.0 range.1) range.0) run_record first old answer new
+    Lists (runs_failed claim_of (length all.items) words numbers) (AreRuns claim_of (max range.0 range.1) range.0) run_record first old answer new
 
 -- the same by the symbols of a record
-abbrev pub AreListed : List ℕ → AddressIndex → ℕ × ℕ → ℕ → List ℕ → List ℕ → List Piece → Result ℕ Refusal → List Piece → Type 0
+abbrev pub AreListed : List ℕ → AddressIndex → ℕ × ℕ → ℕ → List ℕ → List ℕ → List Piece → Result ℕ AnyError → List Piece → Type 0
 AreListed input index range first words numbers old answer new =
     MatchResult (addresses_by input index.table index.indices index.machine)
     (λ all. AreListedIn all (within_of index.within) range first words numbers old answer new)

@@ -2,7 +2,7 @@
 use Rattle.std.specs.Prelude.{◌≡◌, ◌<◌, ◌≤◌, ℕ, ◌+◌, ◌-◌, ◌%◌, ◌==◌, nat_lt, Bool, List, [], ◌∷◌, length, slice_get, Option, None, Some, Result, Ok, Err, if◌then◌else◌}
 use Rattle.std.specs.Str.{is_utf8}
 use Rattle.elf_base.specs.Message.{error_number}
-use Rattle.elf_base.specs.Refusal.{and_then, unless}
+use Rattle.elf_base.specs.FirstError.{and_then, unless}
 use Rattle.elf_base.specs.Table.{records}
 use Rattle.elf_base.specs.Text.{text_of}
 use Rattle.elf_base.specs.declared.error.ElfError.{ElfError}
@@ -22,16 +22,16 @@ use Rattle.elf_c.specs.declared.names.Name.{Name}
 use Rattle.elf_c.specs.declared.names.Range.{Range}
 use Rattle.elf_c.specs.declared.sections.Section.{Section}
 use Rattle.elf_c.specs.declared.segments.Segment.{Segment}
-use Rattle.elf_c.specs.declared.status.Refusal.{Refusal}
-use Rattle.elf_c.specs.declared.status.Refusal.TheVariants.{Elf, NoRecord, NotFound}
+use Rattle.elf_c.specs.declared.status.AnyError.{AnyError}
+use Rattle.elf_c.specs.declared.status.AnyError.TheVariants.{Elf, NoRecord, NotFound}
 
 -- the record of an item, or that there is none
-abbrev pub record_or_none : {A T : Type 0} → (A → T) → Option A → Result T Refusal
+abbrev pub record_or_none : {A T : Type 0} → (A → T) → Option A → Result T AnyError
 record_or_none value None = Err NoRecord
 record_or_none value (Some item) = Ok (value item)
 
 -- the record of the item at an index, or that there is none
-abbrev pub record_in : {A T : Type 0} → (A → T) → List A → ℕ → Result T Refusal
+abbrev pub record_in : {A T : Type 0} → (A → T) → List A → ℕ → Result T AnyError
 record_in value items index = record_or_none value (slice_get items index)
 
 -- the number of sections and segments of a file
@@ -66,7 +66,7 @@ section_record section = let fields = section_fields section in record {
 }
 
 -- the value of the record at an index of bytes that are a whole number of records of a size, or why there is none
-abbrev pub record_among : {A T : Type 0} → (A → T) → ℕ → (List ℕ → A) → List ℕ → ℕ → Result T Refusal
+abbrev pub record_among : {A T : Type 0} → (A → T) → ℕ → (List ℕ → A) → List ℕ → ℕ → Result T AnyError
 record_among value size decode bytes index =
     if length bytes % size == 0 then record_in value (records size decode bytes) index else Err (Elf NotMultiple)
 
@@ -75,16 +75,16 @@ abbrev pub flag_number : Bool → ℕ
 flag_number is = if is then 1 else 0
 
 -- the record of a section that was found
-abbrev pub section_found : Option SectionHeader → Result Section Refusal
+abbrev pub section_found : Option SectionHeader → Result Section AnyError
 section_found None = Err NotFound
 section_found (Some section) = Ok (section_record section)
 
 -- the first section with a name, which must be UTF-8
-abbrev pub found_section : ElfFile → List ℕ → Result Section Refusal
+abbrev pub found_section : ElfFile → List ℕ → Result Section AnyError
 found_section file name = if is_utf8 name then section_found (section_named file name) else Err NotFound
 
 -- the result is the least index of a section with the name, or that no section has it
-abbrev pub FindsIndex : ElfFile → List ℕ → Result ℕ Refusal → Type 0
+abbrev pub FindsIndex : ElfFile → List ℕ → Result ℕ AnyError → Type 0
 FindsIndex file name (Ok index) = IsFirstAt (λ section. HasName file section name) (section_list file) index
 FindsIndex file name (Err why) =
     (why ≡ NotFound) × NoneBelow (λ section. HasName file section name) (section_list file) (length (section_list file))

@@ -15,8 +15,8 @@ use Rattle.xmas_elf.specs.Content.{Content, table_of}
 use Rattle.xmas_elf.specs.declared.ElfFile.{ElfFile}
 use Rattle.elf_c.specs.Records.{flag_number, record_in}
 use Rattle.elf_c.specs.declared.relocations.Relocation.{Relocation}
-use Rattle.elf_c.specs.declared.status.Refusal.{Refusal}
-use Rattle.elf_c.specs.declared.status.Refusal.TheVariants.{Link, OtherData}
+use Rattle.elf_c.specs.declared.status.AnyError.{AnyError}
+use Rattle.elf_c.specs.declared.status.AnyError.TheVariants.{Link, OtherData}
 
 -- the numbers of a relocation with an addend, where `symbol` and `type_` decode its info
 abbrev pub rela_record : (ℕ → ℕ) → (ℕ → ℕ) → Rela ℕ → Relocation
@@ -39,7 +39,7 @@ rel_record symbol type_ rel = record {
 }
 
 -- the relocation at an index of the contents of a section, or why there is none
-abbrev pub relocation_in : ℕ → Content → Result Relocation Refusal
+abbrev pub relocation_in : ℕ → Content → Result Relocation AnyError
 relocation_in index (table_of kind.rela_32 order bytes) =
     record_in (rela_record relocation.symbol_in_32 relocation.type_in_32) (records 12 (relocation.rela_32 order) bytes) index
 relocation_in index (table_of kind.rela_64 order bytes) =
@@ -71,16 +71,16 @@ is_rela None = false
 is_rela (Some kind) = kind == DT_RELA
 
 -- the relocation at an index of the tables of the entries, or why there is none
-abbrev pub tables_relocation : List (Dynamic ℕ) → ℕ → Result Tables LinkError → Result Relocation Refusal
+abbrev pub tables_relocation : List (Dynamic ℕ) → ℕ → Result Tables LinkError → Result Relocation AnyError
 tables_relocation entries index (Ok tables) =
     record_in (λ one. one) (dynamic_records (is_rela (number_with DT_PLTREL entries)) tables) index
 tables_relocation entries index (Err error) = Err (Link error)
 
 -- the same by the entries, if these can be read
-abbrev pub entries_relocation : ElfFile → ℕ → Result (List (Dynamic ℕ)) LinkError → Result Relocation Refusal
+abbrev pub entries_relocation : ElfFile → ℕ → Result (List (Dynamic ℕ)) LinkError → Result Relocation AnyError
 entries_relocation file index (Ok entries) = tables_relocation entries index (relocation_tables file entries)
 entries_relocation file index (Err error) = Err (Link error)
 
 -- the relocation at an index of a file's dynamic segment, or why there is none
-abbrev pub dynamic_relocation_at : ElfFile → ℕ → Result Relocation Refusal
+abbrev pub dynamic_relocation_at : ElfFile → ℕ → Result Relocation AnyError
 dynamic_relocation_at file index = entries_relocation file index (dynamic_entries_of file)

@@ -16,14 +16,14 @@ use Rattle.elf_c.specs.Records.{LiesIn, name_answer, range_at, record_among, tex
 use Rattle.elf_c.specs.Status.{and_so}
 use Rattle.elf_c.specs.Symbols.{linked_range}
 use Rattle.elf_c.specs.declared.names.Name.{Name}
-use Rattle.elf_c.specs.declared.status.Refusal.{Refusal}
-use Rattle.elf_c.specs.declared.status.Refusal.TheVariants.{Elf, OtherData}
+use Rattle.elf_c.specs.declared.status.AnyError.{AnyError}
+use Rattle.elf_c.specs.declared.status.AnyError.TheVariants.{Elf, OtherData}
 use Rattle.elf_c.specs.declared.symbol_tables.AnySymbols.{AnySymbols}
 use Rattle.elf_c.specs.declared.symbol_tables.AnySymbols.TheVariants.{Narrow, Wide}
 use Rattle.elf_c.specs.declared.symbol_tables.SymbolTable.{SymbolTable}
 
 -- the number of symbols in the contents of a section, or that they are none
-abbrev pub symbol_count_in : Content → Result ℕ Refusal
+abbrev pub symbol_count_in : Content → Result ℕ AnyError
 symbol_count_in (table_of symbols_32 order bytes) = Ok (length (records 16 (entry_32 order) bytes))
 symbol_count_in (table_of symbols_64 order bytes) = Ok (length (records 24 (entry_64 order) bytes))
 symbol_count_in (table_of dyn_symbols_32 order bytes) = Ok (length (records 16 (dyn_entry_32 order) bytes))
@@ -42,30 +42,30 @@ table_with file header count = let strings = name_answer (linked_range file head
 }
 
 -- the record of a section, if it has symbols
-abbrev pub table_if : ElfFile → SectionHeader → Result ℕ Refusal → Result SymbolTable Refusal
+abbrev pub table_if : ElfFile → SectionHeader → Result ℕ AnyError → Result SymbolTable AnyError
 table_if file header (Ok count) = Ok (table_with file header count)
 table_if file header (Err why) = Err why
 
 -- the record of the section at an index, if it has symbols
-abbrev pub table_of_section : ElfFile → ℕ → Result SymbolTable Refusal
+abbrev pub table_of_section : ElfFile → ℕ → Result SymbolTable AnyError
 table_of_section file section = and_so (section_of file section) (λ header.
     and_so (section_content_of file header) (λ content. table_if file header (symbol_count_in content)))
 
 -- the value of the symbol at an index of bytes in the layout of class 32 or else of class 64, or why there is none:
 -- the bytes are a whole number of symbols
-abbrev pub symbol_among : {T : Type 0} → (SymbolFields → T) → Bool → Order → List ℕ → ℕ → Result T Refusal
+abbrev pub symbol_among : {T : Type 0} → (SymbolFields → T) → Bool → Order → List ℕ → ℕ → Result T AnyError
 symbol_among value true order bytes index =
     record_among (λ e. value (dyn_entry_32_fields e)) 16 (dyn_entry_32 order) bytes index
 symbol_among value false order bytes index =
     record_among (λ e. value (dyn_entry_64_fields e)) 24 (dyn_entry_64 order) bytes index
 
 -- the value of the symbol at an index of the range in a record, or why there is none
-abbrev pub symbol_by : {T : Type 0} → (SymbolFields → T) → List ℕ → SymbolTable → ℕ → Result T Refusal
+abbrev pub symbol_by : {T : Type 0} → (SymbolFields → T) → List ℕ → SymbolTable → ℕ → Result T AnyError
 symbol_by value input table index = and_so (range_of input table.symbols.offset table.symbols.size)
     (λ bytes. symbol_among value (table.class == 1) (order_of table.encoding) bytes index)
 
 -- the result is the table of the symbols in bytes, in the layout of class 32 or else of class 64, or the error
-abbrev pub AreSymbolsIn : Bool → Order → List ℕ → Result AnySymbols Refusal → Type 0
+abbrev pub AreSymbolsIn : Bool → Order → List ℕ → Result AnySymbols AnyError → Type 0
 AreSymbolsIn true order bytes (Ok (Narrow table)) =
     ((length bytes % 16 == 0) ≡ true) × (table_items table ≡ records 16 (dyn_entry_32 order) bytes)
 AreSymbolsIn true order bytes (Err why) = ((length bytes % 16 == 0) ≡ false) × (why ≡ Elf NotMultiple)
@@ -75,7 +75,7 @@ AreSymbolsIn false order bytes (Err why) = ((length bytes % 24 == 0) ≡ false) 
 AreSymbolsIn _ order bytes _ = ⊥
 
 -- the result is the table of the symbols in the range in a record, or the error
-abbrev pub AreSymbolsBy : List ℕ → SymbolTable → Result AnySymbols Refusal → Type 0
+abbrev pub AreSymbolsBy : List ℕ → SymbolTable → Result AnySymbols AnyError → Type 0
 AreSymbolsBy input table answer = MatchResult (range_of input table.symbols.offset table.symbols.size)
     (λ bytes. AreSymbolsIn (table.class == 1) (order_of table.encoding) bytes answer)
     (λ error. answer ≡ Err (Elf error))

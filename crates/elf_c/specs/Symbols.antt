@@ -1,6 +1,6 @@
 -- The symbols of a section, as numbers (gABI, "Symbol Table").
 use Rattle.std.specs.Prelude.{ℕ, List, Result, Err}
-use Rattle.elf_base.specs.Refusal.{and_then}
+use Rattle.elf_base.specs.FirstError.{and_then}
 use Rattle.elf_base.specs.Table.{records}
 use Rattle.elf_base.specs.declared.error.ElfError.{ElfError}
 use Rattle.xmas_elf.specs.Content.{Content, dyn_symbols_32, dyn_symbols_64, symbols_32, symbols_64, table_of}
@@ -14,8 +14,8 @@ use Rattle.elf_c.specs.Records.{record_in, name_answer, section_data_range, text
 use Rattle.elf_c.specs.Status.{and_so}
 use Rattle.elf_c.specs.declared.names.Name.{Name}
 use Rattle.elf_c.specs.declared.names.Range.{Range}
-use Rattle.elf_c.specs.declared.status.Refusal.{Refusal}
-use Rattle.elf_c.specs.declared.status.Refusal.TheVariants.{OtherData}
+use Rattle.elf_c.specs.declared.status.AnyError.{AnyError}
+use Rattle.elf_c.specs.declared.status.AnyError.TheVariants.{OtherData}
 use Rattle.elf_c.specs.declared.symbols.Symbol.{Symbol}
 
 -- the numbers of a symbol
@@ -30,7 +30,7 @@ symbol_record fields = record {
 }
 
 -- the value of the symbol at an index of the contents of a section, or why there is none
-abbrev pub symbol_record_at : {T : Type 0} → (SymbolFields → T) → ℕ → Content → Result T Refusal
+abbrev pub symbol_record_at : {T : Type 0} → (SymbolFields → T) → ℕ → Content → Result T AnyError
 symbol_record_at value index (table_of symbols_32 order bytes) =
     record_in (λ e. value (entry_32_fields e)) (records 16 (entry_32 order) bytes) index
 symbol_record_at value index (table_of symbols_64 order bytes) =
@@ -42,7 +42,7 @@ symbol_record_at value index (table_of dyn_symbols_64 order bytes) =
 symbol_record_at value index _ = Err OtherData
 
 -- the numbers of the symbol at an index of the contents of a section
-abbrev pub symbol_record_in : ℕ → Content → Result Symbol Refusal
+abbrev pub symbol_record_in : ℕ → Content → Result Symbol AnyError
 symbol_record_in index content = symbol_record_at symbol_record index content
 
 -- the contents of the section that the section at an index links to (sh_link), or why they can't be read
@@ -59,6 +59,6 @@ abbrev pub table_name_range : List ℕ → Result Range ElfError → SymbolField
 table_name_range input strings fields = name_answer (and_then strings (λ part. text_range input part fields.name))
 
 -- the range of the name of the symbol at an index of the section at an index
-abbrev pub symbol_name_at : ElfFile → ℕ → ℕ → Result Name Refusal
+abbrev pub symbol_name_at : ElfFile → ℕ → ℕ → Result Name AnyError
 symbol_name_at file section index = and_so (section_of file section) (λ header.
     and_so (section_content_of file header) (symbol_record_at (table_name_range file.input.now (linked_range file header)) index))

@@ -14,11 +14,11 @@ use Rattle.elf_c.specs.Batch.{Fills}
 use Rattle.elf_c.specs.DynamicSymbols.{IsDynamicCount, strings_range_by}
 use Rattle.elf_c.specs.DynamicTexts.{linked_name, range_in_strings}
 use Rattle.elf_c.specs.Records.{LiesIn, flag_number, record_in, range_at}
-use Rattle.elf_c.specs.Status.{refusal_number}
+use Rattle.elf_c.specs.Status.{failure_number}
 use Rattle.elf_c.specs.declared.names.Name.{Name}
 use Rattle.elf_c.specs.declared.names.Range.{Range}
-use Rattle.elf_c.specs.declared.status.Refusal.{Refusal}
-use Rattle.elf_c.specs.declared.status.Refusal.TheVariants.{Link, NotFound}
+use Rattle.elf_c.specs.declared.status.AnyError.{AnyError}
+use Rattle.elf_c.specs.declared.status.AnyError.TheVariants.{Link, NotFound}
 use Rattle.elf_c.specs.declared.versions.Version.{Version}
 use Rattle.elf_c.specs.declared.versions.TheConstants.{DEFINED, NEEDED, UNNAMED}
 
@@ -32,11 +32,11 @@ abbrev pub file_version_tables : ElfFile → ℕ → Result VersionTables LinkEr
 file_version_tables file count = tables_by file count (dynamic_entries_of file)
 
 -- the input range of the string table of a file's dynamic segment, or why there is none
-abbrev pub strings_range_of : ElfFile → Result Range Refusal
+abbrev pub strings_range_of : ElfFile → Result Range AnyError
 strings_range_of file = strings_range_by file (dynamic_entries_of file)
 
 -- the range of the name at an offset in the string table, with its status
-abbrev pub version_name_range : List ℕ → Result Range Refusal → Result ℕ LinkError → Name
+abbrev pub version_name_range : List ℕ → Result Range AnyError → Result ℕ LinkError → Name
 version_name_range input strings (Ok offset) = linked_name (range_in_strings input strings offset)
 version_name_range input strings (Err error) = linked_name (Err (Link error))
 
@@ -60,7 +60,7 @@ abbrev pub unreadable : LinkError → Version
 unreadable error = record {
   name = range_at 0 0;
   file = range_at 0 0;
-  status = refusal_number (Link error);
+  status = failure_number (Link error);
   name_status = 0;
   file_status = 0;
   kind = UNNAMED;
@@ -71,7 +71,7 @@ unreadable error = record {
 }
 
 -- a version whose number a definition has
-abbrev pub defined_as : List ℕ → Result Range Refusal → ℕ → Bool → DefinitionParts → Version
+abbrev pub defined_as : List ℕ → Result Range AnyError → ℕ → Bool → DefinitionParts → Version
 defined_as input strings number hidden d = let name = version_name_range input strings d.name_offset in record {
   name = name.range;
   file = range_at 0 0;
@@ -86,7 +86,7 @@ defined_as input strings number hidden d = let name = version_name_range input s
 }
 
 -- a version whose number a need has
-abbrev pub needed_as : List ℕ → Result Range Refusal → ℕ → Bool → NeedParts → Version
+abbrev pub needed_as : List ℕ → Result Range AnyError → ℕ → Bool → NeedParts → Version
 needed_as input strings number hidden need =
     let name = version_name_range input strings (Ok need.name_offset) in
     let file = version_name_range input strings (Ok need.file_offset) in record {
@@ -103,57 +103,57 @@ needed_as input strings number hidden need =
     }
 
 -- a definition of the list, or why it can't be read
-abbrev pub definition_record : List ℕ → Result Range Refusal → Result DefinitionParts LinkError → Version
+abbrev pub definition_record : List ℕ → Result Range AnyError → Result DefinitionParts LinkError → Version
 definition_record input strings (Ok d) = defined_as input strings d.number false d
 definition_record input strings (Err error) = unreadable error
 
 -- a need of the list, or why it can't be read
-abbrev pub need_record : List ℕ → Result Range Refusal → Result NeedParts LinkError → Version
+abbrev pub need_record : List ℕ → Result Range AnyError → Result NeedParts LinkError → Version
 need_record input strings (Ok need) = needed_as input strings need.number need.hidden need
 need_record input strings (Err error) = unreadable error
 
 -- the definitions of a file, in order
-abbrev pub definition_items : List ℕ → Result Range Refusal → List (Result DefinitionParts LinkError) → List Version
+abbrev pub definition_items : List ℕ → Result Range AnyError → List (Result DefinitionParts LinkError) → List Version
 definition_items input strings items = map (definition_record input strings) items
 
 -- the needs of a file, in order
-abbrev pub need_items : List ℕ → Result Range Refusal → List (Result NeedParts LinkError) → List Version
+abbrev pub need_items : List ℕ → Result Range AnyError → List (Result NeedParts LinkError) → List Version
 need_items input strings items = map (need_record input strings) items
 
 -- the definition at an index of the tables, or why there is none
-abbrev pub definition_in : ElfFile → ℕ → Result VersionTables LinkError → Result Version Refusal
+abbrev pub definition_in : ElfFile → ℕ → Result VersionTables LinkError → Result Version AnyError
 definition_in file index (Ok tables) = record_in (λ one. one)
     (definition_items file.input.now (strings_range_of file) (definitions_in tables.definitions)) index
 definition_in file index (Err error) = Err (Link error)
 
 -- the definition at an index of a file: of its tables without the numbers of symbols
-abbrev pub definition_record_at : ElfFile → ℕ → Result Version Refusal
+abbrev pub definition_record_at : ElfFile → ℕ → Result Version AnyError
 definition_record_at file index = definition_in file index (file_version_tables file 0)
 
 -- the need at an index of the tables, or why there is none
-abbrev pub need_in : ElfFile → ℕ → Result VersionTables LinkError → Result Version Refusal
+abbrev pub need_in : ElfFile → ℕ → Result VersionTables LinkError → Result Version AnyError
 need_in file index (Ok tables) = record_in (λ one. one)
     (need_items file.input.now (strings_range_of file) (needs_in tables.needs)) index
 need_in file index (Err error) = Err (Link error)
 
 -- the need at an index of a file: of its tables without the numbers of symbols
-abbrev pub need_record_at : ElfFile → ℕ → Result Version Refusal
+abbrev pub need_record_at : ElfFile → ℕ → Result Version AnyError
 need_record_at file index = need_in file index (file_version_tables file 0)
 
 -- the definition or the need with the number of a symbol
-abbrev pub version_by : List ℕ → Result Range Refusal → ℕ → Bool → Option NamedParts → Version
+abbrev pub version_by : List ℕ → Result Range AnyError → ℕ → Bool → Option NamedParts → Version
 version_by input strings number hidden None = unnamed number hidden
 version_by input strings number hidden (Some (Defined d)) = defined_as input strings number hidden d
 version_by input strings number hidden (Some (Needed need)) = needed_as input strings number hidden need
 
 -- the version of a symbol, or why it can't be read
-abbrev pub version_record : List ℕ → Result Range Refusal → Result (Option (VersionParts NamedParts)) LinkError → Version
+abbrev pub version_record : List ℕ → Result Range AnyError → Result (Option (VersionParts NamedParts)) LinkError → Version
 version_record input strings (Ok (Some version)) = version_by input strings version.number version.hidden version.named
 version_record input strings (Ok None) = unnamed 0 false
 version_record input strings (Err error) = unreadable error
 
 -- the version of the symbol at an index of the tables, whose symbols have indices below 2 to the 32
-abbrev pub symbol_version_in : ElfFile → ℕ → ℕ → Result VersionTables LinkError → Result Version Refusal
+abbrev pub symbol_version_in : ElfFile → ℕ → ℕ → Result VersionTables LinkError → Result Version AnyError
 symbol_version_in file count index (Ok tables) = if is_some tables.numbers
     then record_in (λ i. version_record file.input.now (strings_range_of file) (named_at tables i))
     (range_with_len 0 (min count (2 ^ 32))) index
@@ -161,12 +161,12 @@ symbol_version_in file count index (Ok tables) = if is_some tables.numbers
 symbol_version_in file count index (Err error) = Err (Link error)
 
 -- the version of the symbol at an index of a file with this number of symbols, or why there is none
-abbrev pub symbol_version_at : ElfFile → Result ℕ LinkError → ℕ → Result Version Refusal
+abbrev pub symbol_version_at : ElfFile → Result ℕ LinkError → ℕ → Result Version AnyError
 symbol_version_at file (Ok count) index = symbol_version_in file count index (file_version_tables file count)
 symbol_version_at file (Err error) index = Err (Link error)
 
 -- the result of a call for the versions of many symbols
-abbrev pub FillsVersions : ElfFile → ℕ → List Version → Result ℕ Refusal → List Version → Type 0
+abbrev pub FillsVersions : ElfFile → ℕ → List Version → Result ℕ AnyError → List Version → Type 0
 FillsVersions file first old answer new = (count : Result ℕ LinkError) × IsDynamicCount file count
     × Fills (symbol_version_at file count) first old answer new
 

@@ -15,11 +15,11 @@ ghost use Rattle.elf_c.specs.Status.{GivesHere};
 ghost use Rattle.elf_c.specs.SymbolTables.{symbol_by};
 ghost use Rattle.elf_c.specs.Symbols.{symbol_record};
 ghost use Rattle.elf_c.specs.declared.address_index.SymbolAt.{SymbolAt};
-ghost use Rattle.elf_c.specs.declared.status.Refusal.{Refusal};
+ghost use Rattle.elf_c.specs.declared.status.AnyError.{AnyError};
 
 use crate::file::Parsed;
 use crate::names::{Range, bytes_in};
-use crate::status::{Refusal, give};
+use crate::status::{AnyError, give};
 use crate::symbol_tables::{AnySymbols, SymbolTable, order_of, symbols_by};
 use crate::symbols::{NO_SYMBOL, Symbol};
 use elf_addresses::{AddressSymbols, At, IndexSize, SymbolIndex};
@@ -93,7 +93,7 @@ pub(crate) fn within_of(section: u32) -> Option<u32>
 }
 
 // The words in a range.
-fn words_by<'a>(input: &'a [u8], part: &Range, order: Order) -> Result<Table<'a, u32>, Refusal>
+fn words_by<'a>(input: &'a [u8], part: &Range, order: Order) -> Result<Table<'a, u32>, AnyError>
     ensures { MatchResult result (λ table. words_by input.now part.now order ≡ Ok (table_items table))
         (λ why. words_by input.now part.now order ≡ Err why) }
 {
@@ -108,7 +108,7 @@ pub(crate) fn addresses_by<'a>(
     table: &SymbolTable,
     indices: &Range,
     machine: u16,
-) -> Result<AnyAddresses<'a>, Refusal>
+) -> Result<AnyAddresses<'a>, AnyError>
     ensures { MatchResult result
         (λ all. addresses_by input.now table.now indices.now machine ≡ Ok (addresses_in_table all))
         (λ why. addresses_by input.now table.now indices.now machine ≡ Err why) }
@@ -138,7 +138,7 @@ fn build<E: Entry + Record>(
     within: Option<u32>,
     words: &mut [u32],
     numbers: &mut [u64],
-) -> Result<Sizes, Refusal>
+) -> Result<Sizes, AnyError>
     ensures exact { result ≡ sizes_with (claim_of_symbols E.fields symbols.now within)
         (symbol_count symbols.now) words.old numbers.old }
     ensures built { IfOk result (λ sizes. sizes.words ≤ length words.old
@@ -147,7 +147,7 @@ fn build<E: Entry + Record>(
         numbers.new) }
     ensures unchanged { IfOk result (λ sizes. length words.old < sizes.words
         → (words.new ≡ words.old) × (numbers.new ≡ numbers.old)) }
-    ensures refused { OnErr result ((words.new ≡ words.old) × (numbers.new ≡ numbers.old)) }
+    ensures failed { OnErr result ((words.new ≡ words.old) × (numbers.new ≡ numbers.old)) }
 {
     let size = SymbolIndex::size(symbols, within);
     let count = size.words();
@@ -174,7 +174,7 @@ fn build_in(
     within: Option<u32>,
     words: &mut [u32],
     numbers: &mut [u64],
-) -> Result<Sizes, Refusal>
+) -> Result<Sizes, AnyError>
     ensures exact { result
         ≡ index_sizes_of (addresses_in_table all.now) within words.old numbers.old }
     ensures built { IfOk result (λ sizes. sizes.words ≤ length words.old
@@ -182,7 +182,7 @@ fn build_in(
         numbers.new) }
     ensures unchanged { IfOk result (λ sizes. length words.old < sizes.words
         → (words.new ≡ words.old) × (numbers.new ≡ numbers.old)) }
-    ensures refused { OnErr result ((words.new ≡ words.old) × (numbers.new ≡ numbers.old)) }
+    ensures failed { OnErr result ((words.new ≡ words.old) × (numbers.new ≡ numbers.old)) }
 {
     match all {
         AnyAddresses::Narrow(symbols) => build(symbols, within, words, numbers),
@@ -199,14 +199,14 @@ fn build_by(
     within: u32,
     words: &mut [u32],
     numbers: &mut [u64],
-) -> Result<AddressIndex, Refusal>
+) -> Result<AddressIndex, AnyError>
     ensures exact { result
         ≡ index_of input.now table.now indices.now machine within words.old numbers.old }
     ensures built { IfOk result (λ index. index.words ≤ length words.old
         → IsIndexOf input.now index words.new numbers.new) }
     ensures unchanged { IfOk result (λ index. length words.old < index.words
         → (words.new ≡ words.old) × (numbers.new ≡ numbers.old)) }
-    ensures refused { OnErr result ((words.new ≡ words.old) × (numbers.new ≡ numbers.old)) }
+    ensures failed { OnErr result ((words.new ≡ words.old) × (numbers.new ≡ numbers.old)) }
 {
     let all = addresses_by(input, table, indices, machine)?;
     let sizes = build_in(&all, within_of(within), words, numbers)?;
@@ -377,7 +377,7 @@ fn find_by(
     numbers: &[u64],
     addresses: &[u64],
     out: &mut [SymbolAt],
-) -> Result<(), Refusal>
+) -> Result<(), AnyError>
     ensures { AreAnswered input.now index.now words.now numbers.now addresses.now out.old result
         out.new }
 {
@@ -404,7 +404,7 @@ pub extern "C" fn xmas_elf_symbols_at(
     addresses: &[u64],
     out: &mut [SymbolAt],
 ) -> u32
-    ensures exact { (answer : Result (Unit {0}) Refusal)
+    ensures exact { (answer : Result (Unit {0}) AnyError)
         × AreAnswered input.now index.now words.now numbers.now addresses.now out.old answer
         out.new
         × GivesHere answer tt result tt }

@@ -8,7 +8,7 @@ ghost use Rattle.elf_c.specs.Status.{GivesHere};
 
 use crate::file::Parsed;
 use crate::names::Range;
-use crate::status::{Refusal, give};
+use crate::status::{AnyError, give};
 use elf_linking::LinkError;
 use elf_linking::view::segment_at;
 use xmas_elf::ElfFile;
@@ -16,11 +16,11 @@ use xmas_elf::ElfFile;
 // The range of the file bytes for `address .. address + count`.
 // For an empty segment it is the empty range at 0.
 #[tactic(auto, unfolding(elf_linking::specs::Loaded::segment_at_of))]
-pub(crate) fn range_at(file: &ElfFile<'_>, address: u64, count: u64) -> Result<Range, Refusal>
+pub(crate) fn range_at(file: &ElfFile<'_>, address: u64, count: u64) -> Result<Range, AnyError>
     ensures { result ≡ range_at_address file.now address count }
 {
     let Some(segment) = segment_at(file, address, count) else {
-        return Err(Refusal::Link(LinkError::Address));
+        return Err(AnyError::Link(LinkError::Address));
     };
     let size = segment.bytes(file)?.len();
     let offset = if size == 0 { 0 } else { segment.offset };

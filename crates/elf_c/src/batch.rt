@@ -6,7 +6,7 @@ ghost use Rattle.elf_base.specs.Table.{table_items};
 ghost use Rattle.elf_c.specs.Batch.{Fills};
 ghost use Rattle.elf_c.specs.Records.{record_in};
 
-use crate::status::Refusal;
+use crate::status::AnyError;
 use xmas_elf::bytes::{Record, Table};
 
 /// Items in order, with a record to store for each.
@@ -80,13 +80,13 @@ pub(crate) fn fill<R: Records>(
     records: R,
     first: u64,
     out: &mut [R::Record],
-) -> Result<u64, Refusal>
+) -> Result<u64, AnyError>
     ensures { Fills (record_in (R.record_of records) (R.items records))
         first out.old result out.new }
 {
     let (size, first) = (records.count(), first as usize);
     if first >= size {
-        return Err(Refusal::NoRecord);
+        return Err(AnyError::NoRecord);
     }
     let count = (size - first).min(out.len());
     for place in 0..count {
@@ -126,14 +126,14 @@ pub(crate) fn fill_in_order<S: Sequence + Drop>(
     mut records: S,
     first: u64,
     out: &mut [S::Record],
-) -> Result<u64, Refusal>
+) -> Result<u64, AnyError>
     ensures { Fills (record_in (λ one. one) (S.left records))
         first out.old result out.new }
 {
     skip(&mut records, first);
     let mut next = records.next();
     if next.is_none() {
-        return Err(Refusal::NoRecord);
+        return Err(AnyError::NoRecord);
     }
     for place in 0..out.len() {
         let Some(record) = next else {

@@ -2,7 +2,7 @@
 //! (gABI, "Dynamic Section").
 
 ghost use Rattle.std.specs.Prelude.{◌≡◌};
-ghost use Rattle.elf_base.specs.Refusal.{and_then};
+ghost use Rattle.elf_base.specs.FirstError.{and_then};
 ghost use Rattle.elf_c.specs.Batch.{Fills, Stores};
 ghost use Rattle.elf_c.specs.Dynamics.{dynamic_entry_at, dynamic_entry_in, dynamic_record};
 ghost use Rattle.elf_c.specs.Dynamics.{entry_among};
@@ -14,7 +14,7 @@ ghost use Rattle.xmas_elf.specs.SectionHeader.{section_of};
 
 use crate::batch::{Numbers, Rows, fill};
 use crate::file::Parsed;
-use crate::status::{Refusal, give};
+use crate::status::{AnyError, give};
 use elf_base::bytes::Order;
 use elf_base::{ElfError, P32, P64};
 use elf_linking::view::dynamic_bytes;
@@ -65,14 +65,14 @@ fn fill_from_section(
     section: u64,
     first: u64,
     out: &mut [DynamicEntry],
-) -> Result<u64, Refusal>
+) -> Result<u64, AnyError>
     ensures { Fills (λ index. and_so (and_then (section_of file.now section)
         (section_content_of file.now)) (dynamic_entry_in index)) first out.old result out.new }
 {
     match file.section_header_at(section)?.get_data(file)? {
         SectionData::Dynamic32(table) => fill(Rows { table }, first, out),
         SectionData::Dynamic64(table) => fill(Rows { table }, first, out),
-        _ => Err(Refusal::OtherData),
+        _ => Err(AnyError::OtherData),
     }
 }
 
@@ -107,7 +107,7 @@ fn fill_from_bytes<T: Numbers>(
     order: Order,
     first: u64,
     out: &mut [T::Stored],
-) -> Result<u64, Refusal>
+) -> Result<u64, AnyError>
     ensures { Fills (record_among T.numbers_of T.SIZE (T.value order) bytes.now)
         first out.old result out.new }
 {
@@ -122,7 +122,7 @@ fn fill_by_class(
     bytes: &[u8],
     first: u64,
     out: &mut [DynamicEntry],
-) -> Result<u64, Refusal>
+) -> Result<u64, AnyError>
     ensures { Fills (entry_among class order bytes.now) first out.old result out.new }
 {
     if class == 1 {
@@ -131,7 +131,7 @@ fn fill_by_class(
     if class == 2 {
         return fill_from_bytes::<Dynamic<P64>>(bytes, order, first, out);
     }
-    Err(Refusal::Elf(ElfError::UnknownClass))
+    Err(AnyError::Elf(ElfError::UnknownClass))
 }
 
 // Stores the dynamic entries of the segment from an index on in `out`, and returns their number.
@@ -139,7 +139,7 @@ fn fill_from_segment(
     file: &ElfFile<'_>,
     first: u64,
     out: &mut [DynamicEntry],
-) -> Result<u64, Refusal>
+) -> Result<u64, AnyError>
     ensures { Fills (dynamic_entry_at file.now) first out.old result out.new }
 {
     let bytes = dynamic_bytes(file)?;

@@ -15,7 +15,7 @@ ghost use Rattle.elf_c.specs.Status.{GivesHere};
 ghost use Rattle.elf_c.specs.SymbolTables.{LieWithin, symbol_name_range, symbol_by};
 ghost use Rattle.elf_c.specs.Symbols.{symbol_record};
 ghost use Rattle.elf_c.specs.declared.found_symbols.FoundSymbol.{FoundSymbol};
-ghost use Rattle.elf_c.specs.declared.status.Refusal.{Refusal};
+ghost use Rattle.elf_c.specs.declared.status.AnyError.{AnyError};
 ghost use Rattle.elf_c.specs.declared.symbol_tables.SymbolTable.{SymbolTable};
 ghost use Rattle.elf_linking.specs.DynamicView.{number_with, view_entries};
 ghost use Rattle.elf_linking.specs.declared.error.LinkError.{LinkError};
@@ -24,7 +24,7 @@ ghost use Rattle.elf_linking.specs.declared.view.tags.TheConstants.{DT_SYMTAB};
 use crate::addresses::range_at;
 use crate::dynamic_texts::{name_of, strings_of};
 use crate::file::Parsed;
-use crate::status::{Refusal, give};
+use crate::status::{AnyError, give};
 use crate::symbol_tables::{SymbolTable, table_of_section};
 use elf_addresses::symtab_index;
 use elf_linking::LinkError;
@@ -62,13 +62,13 @@ fn table_of_view(
     file: &ElfFile<'_>,
     view: &DynamicView<'_>,
     count: u64,
-) -> Result<SymbolTable, Refusal>
+) -> Result<SymbolTable, AnyError>
     requires { count ≤ 2 ^ 32 }
     ensures { let entries = view_entries view.now in result ≡ table_at_address file.now
         (strings_range file.now entries) (Ok count) (number_with DT_SYMTAB entries) }
 {
     let Some(address) = view.entry(DT_SYMTAB) else {
-        return Err(Refusal::Link(LinkError::NoEntry));
+        return Err(AnyError::Link(LinkError::NoEntry));
     };
     let symbols = range_at(file, address, symbols_size(file, count))?;
     let strings = name_of(strings_of(file, view));
@@ -83,7 +83,7 @@ fn table_of_view(
 }
 
 // The symbols of the dynamic segment, as numbers.
-fn table_of_segment(file: &ElfFile<'_>) -> Result<SymbolTable, Refusal>
+fn table_of_segment(file: &ElfFile<'_>) -> Result<SymbolTable, AnyError>
     ensures { IsSegmentTable file.now result }
 {
     let view = DynamicView::read(file)?;
@@ -104,7 +104,7 @@ pub extern "C" fn xmas_elf_dynamic_symbols_open(
     header: &Parsed,
     out: &mut SymbolTable,
 ) -> u32
-    ensures exact { (answer : Result SymbolTable Refusal)
+    ensures exact { (answer : Result SymbolTable AnyError)
         × IsSegmentTable (file_of input.entry header.now) answer
         × GivesHere answer out.old result out.new }
     ensures within { result ≡ 0 → LieWithin input.now out.new }
@@ -128,7 +128,7 @@ pub extern "C" fn xmas_elf_dynamic_symbols_open(
 }
 
 // The symbols of a file, as numbers.
-fn table_of_file(file: &ElfFile<'_>) -> Result<SymbolTable, Refusal>
+fn table_of_file(file: &ElfFile<'_>) -> Result<SymbolTable, AnyError>
     ensures { IsFileTable file.now result }
 {
     match symtab_index(file) {
@@ -149,7 +149,7 @@ pub extern "C" fn xmas_elf_file_symbols_open(
     header: &Parsed,
     out: &mut SymbolTable,
 ) -> u32
-    ensures exact { (answer : Result SymbolTable Refusal)
+    ensures exact { (answer : Result SymbolTable AnyError)
         × IsFileTable (file_of input.entry header.now) answer
         × GivesHere answer out.old result out.new }
     ensures within { result ≡ 0 → LieWithin input.now out.new }

@@ -13,34 +13,34 @@ use crate::addresses::range_at;
 use crate::batch::{Sequence, fill_in_order};
 use crate::file::Parsed;
 use crate::names::{Name, Range, text_in};
-use crate::status::{Numbered, OK, Refusal, give};
+use crate::status::{AnyError, Numbered, OK, give};
 use elf_linking::LinkError;
 use elf_linking::view::{DT_STRSZ, DT_STRTAB, DynamicEntries, DynamicView};
 use xmas_elf::ElfFile;
 
 // The range of the string table of the dynamic segment.
-pub(crate) fn strings_of(file: &ElfFile<'_>, view: &DynamicView<'_>) -> Result<Range, Refusal>
+pub(crate) fn strings_of(file: &ElfFile<'_>, view: &DynamicView<'_>) -> Result<Range, AnyError>
     ensures { result ≡ strings_range file.now (view_entries view.now) }
 {
     match (view.entry(DT_STRTAB), view.entry(DT_STRSZ)) {
         (Some(address), Some(size)) => range_at(file, address, size),
-        _ => Err(Refusal::Link(LinkError::NoEntry)),
+        _ => Err(AnyError::Link(LinkError::NoEntry)),
     }
 }
 
 // The range of the text at an offset in a string table, which may be an error.
 pub(crate) fn text_by(
     input: &[u8],
-    strings: Result<Range, Refusal>,
+    strings: Result<Range, AnyError>,
     place: u64,
-) -> Result<Range, Refusal>
+) -> Result<Range, AnyError>
     ensures { result ≡ range_in_strings input.now strings place }
 {
     Ok(text_in(input, &strings?, place)?)
 }
 
 // The record for the range of a name, or for its error.
-pub(crate) fn name_of(answer: Result<Range, Refusal>) -> Name
+pub(crate) fn name_of(answer: Result<Range, AnyError>) -> Name
     ensures { result ≡ linked_name answer }
 {
     match answer {
@@ -57,7 +57,7 @@ pub(crate) fn name_of(answer: Result<Range, Refusal>) -> Name
 struct Texts<'a> {
     tag: u64,
     entries: DynamicEntries<'a>,
-    strings: Result<Range, Refusal>,
+    strings: Result<Range, AnyError>,
     input: &'a [u8],
 }
 
@@ -79,7 +79,7 @@ impl Sequence for Texts<'_> {
 }
 
 // Stores the texts of the entries with a tag from an index on in `out`, and returns their number.
-fn fill_texts(file: &ElfFile<'_>, tag: u64, first: u64, out: &mut [Name]) -> Result<u64, Refusal>
+fn fill_texts(file: &ElfFile<'_>, tag: u64, first: u64, out: &mut [Name]) -> Result<u64, AnyError>
     ensures exact { Fills (dynamic_text_at file.now tag) first out.old result out.new }
     ensures within { IfOk result (λ count. AllLieIn file.now.input.now count out.new) }
 {

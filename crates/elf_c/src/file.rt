@@ -2,7 +2,7 @@
 
 ghost use Rattle.std.specs.Prelude.{◌≡◌, IfOk, Ok};
 ghost use Rattle.elf_base.specs.FileHeader.{header_of};
-ghost use Rattle.elf_base.specs.Refusal.{and_then};
+ghost use Rattle.elf_base.specs.FirstError.{and_then};
 ghost use Rattle.elf_c.specs.Parsed.{file_of, header_from, numbers_of, part_1, part_2_with};
 ghost use Rattle.elf_c.specs.Records.{counts_of};
 ghost use Rattle.elf_c.specs.Status.{Gives};

@@ -9,11 +9,11 @@ ghost use Rattle.elf_c.specs.LookUps.{IfUtf8, IsNameFound};
 ghost use Rattle.elf_c.specs.Parsed.{file_of};
 ghost use Rattle.elf_c.specs.Status.{GivesHere};
 ghost use Rattle.elf_c.specs.declared.found_symbols.FoundSymbol.{FoundSymbol};
-ghost use Rattle.elf_c.specs.declared.status.Refusal.{Refusal};
+ghost use Rattle.elf_c.specs.declared.status.AnyError.{AnyError};
 
 use crate::dynamic_symbols::is_narrow;
 use crate::file::Parsed;
-use crate::status::{Refusal, give};
+use crate::status::{AnyError, give};
 use crate::symbols::{NO_SYMBOL, Symbol};
 use elf_base::ElfError;
 use elf_linking::find::{Use, Wanted};
@@ -77,7 +77,7 @@ impl FoundSymbol {
 // The result of a search, as numbers.
 fn said<E: Entry + Record>(
     found: Result<Option<(u32, E)>, LinkError>,
-) -> Result<FoundSymbol, Refusal>
+) -> Result<FoundSymbol, AnyError>
     ensures { result ≡ found_answer E.fields found }
 {
     Ok(FoundSymbol::of(found?))
@@ -99,7 +99,7 @@ fn search<E: LinkedSymbol>(
     file: &ElfFile<'_>,
     name: &str,
     version: &str,
-) -> Result<FoundSymbol, Refusal>
+) -> Result<FoundSymbol, AnyError>
     ensures { IsSearch E.CLASS E.SIZE E.value E.fields file.now name.now version.now result }
 {
     let object = DynamicObject::<E>::read(file)?;
@@ -107,7 +107,7 @@ fn search<E: LinkedSymbol>(
 }
 
 // Searches the dynamic symbols of a file, by its class.
-fn search_by_class(file: &ElfFile<'_>, name: &str, version: &str) -> Result<FoundSymbol, Refusal>
+fn search_by_class(file: &ElfFile<'_>, name: &str, version: &str) -> Result<FoundSymbol, AnyError>
     ensures { IsFoundSymbol file.now name.now version.now result }
 {
     if is_narrow(file) {
@@ -118,17 +118,17 @@ fn search_by_class(file: &ElfFile<'_>, name: &str, version: &str) -> Result<Foun
 }
 
 // A name in bytes, which may not be UTF-8.
-fn text_of(bytes: &[u8]) -> Result<&str, Refusal>
+fn text_of(bytes: &[u8]) -> Result<&str, AnyError>
     ensures { IfUtf8 IsNameFound bytes.now result }
 {
     match from_utf8(bytes) {
         Ok(text) => Ok(text),
-        Err(_) => Err(Refusal::Elf(ElfError::TextUtf8)),
+        Err(_) => Err(AnyError::Elf(ElfError::TextUtf8)),
     }
 }
 
 // Searches for a name and a version in bytes, which may not be UTF-8.
-fn search_by(file: &ElfFile<'_>, name: &[u8], version: &[u8]) -> Result<FoundSymbol, Refusal>
+fn search_by(file: &ElfFile<'_>, name: &[u8], version: &[u8]) -> Result<FoundSymbol, AnyError>
     ensures { IsFoundBy file.now name.now version.now result }
 {
     let name = text_of(name)?;
@@ -150,7 +150,7 @@ pub extern "C" fn xmas_elf_find_symbol(
     version: &[u8],
     out: &mut FoundSymbol,
 ) -> u32
-    ensures { (answer : Result FoundSymbol Refusal)
+    ensures { (answer : Result FoundSymbol AnyError)
         × IsFoundBy (file_of input.entry header.now) name.now version.now answer
         × GivesHere answer out.old result out.new }
 {

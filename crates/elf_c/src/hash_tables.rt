@@ -9,12 +9,12 @@ ghost use Rattle.elf_c.specs.Parsed.{file_of};
 ghost use Rattle.elf_c.specs.Status.{GivesHere, and_so};
 ghost use Rattle.elf_c.specs.SymbolTables.{symbol_by};
 ghost use Rattle.elf_c.specs.Symbols.{linked_content, symbol_record_in, symbol_record};
-ghost use Rattle.elf_c.specs.declared.status.Refusal.{Refusal};
+ghost use Rattle.elf_c.specs.declared.status.AnyError.{AnyError};
 ghost use Rattle.xmas_elf.specs.Content.{hash_table_content};
 
 use crate::file::Parsed;
 use crate::names::{Range, bytes_in};
-use crate::status::{Refusal, give};
+use crate::status::{AnyError, give};
 use crate::symbol_tables::{AnySymbols, SymbolTable, order_of, symbols_by, table_of_section};
 use elf_base::bytes::Order;
 use elf_base::header::Class;
@@ -50,21 +50,21 @@ fn whole_range(header: &SectionHeader) -> Range
 }
 
 // The range of the hash table in a section.
-fn hash_range(file: &ElfFile<'_>, header: &SectionHeader) -> Result<Range, Refusal>
+fn hash_range(file: &ElfFile<'_>, header: &SectionHeader) -> Result<Range, AnyError>
     ensures { result ≡ hash_range file.now header.now }
 {
     match section_gnu_hash(file, header) {
         Some(Ok(_)) => Ok(whole_range(header)),
-        Some(Err(error)) => Err(Refusal::Link(error)),
+        Some(Err(error)) => Err(AnyError::Link(error)),
         None => match header.get_data(file)? {
             SectionData::HashTable(_) => Ok(whole_range(header)),
-            _ => Err(Refusal::OtherData),
+            _ => Err(AnyError::OtherData),
         },
     }
 }
 
 // The hash table in the section at an index, and the symbols of the section that it links to.
-fn opened_of(file: &ElfFile<'_>, section: u64) -> Result<OpenedTable, Refusal>
+fn opened_of(file: &ElfFile<'_>, section: u64) -> Result<OpenedTable, AnyError>
     ensures { result ≡ opened_of file.now section }
 {
     let header = file.section_header_at(section)?;
@@ -99,7 +99,7 @@ pub extern "C" fn xmas_elf_hash_open(
     ensures symbols { result ≡ 0 → (index : ℕ)
         → symbol_by symbol_record input.now out.new.symbols index
         ≡ and_so (linked_content (file_of input.entry header.now) section) (symbol_record_in index) }
-    ensures reads { result ≡ 0 → (found : Result HashParts Refusal)
+    ensures reads { result ≡ 0 → (found : Result HashParts AnyError)
         → ArePartsBy input.now out.new found → IsOk found }
 {
     give(opened_of(&header.file(input), section), out)
@@ -127,7 +127,7 @@ fn class_by(class: u16) -> Class
 
 // The hash table of the ELF standard in bytes.
 #[inline(always)]
-fn sysv_table_in<'a>(bytes: &'a [u8], order: Order) -> Result<AnyTable<'a>, Refusal>
+fn sysv_table_in<'a>(bytes: &'a [u8], order: Order) -> Result<AnyTable<'a>, AnyError>
     ensures { IsSysvTable (hash_table_content order bytes.now) result }
 {
     let table = HashTable::read(bytes, order)?;
@@ -136,7 +136,7 @@ fn sysv_table_in<'a>(bytes: &'a [u8], order: Order) -> Result<AnyTable<'a>, Refu
 
 // The GNU hash table in bytes.
 #[inline(always)]
-fn gnu_table_in<'a>(bytes: &'a [u8], class: Class, order: Order) -> Result<AnyTable<'a>, Refusal>
+fn gnu_table_in<'a>(bytes: &'a [u8], class: Class, order: Order) -> Result<AnyTable<'a>, AnyError>
     ensures { IsGnuTableRecord class order bytes.now result }
 {
     Ok(AnyTable::Gnu(GnuHashTable::read(bytes, class, order)?))
@@ -149,7 +149,7 @@ fn table_in<'a>(
     bytes: &'a [u8],
     class: Class,
     order: Order,
-) -> Result<AnyTable<'a>, Refusal>
+) -> Result<AnyTable<'a>, AnyError>
     ensures { IsTableIn is_gnu class order bytes.now result }
 {
     match is_gnu {
@@ -160,7 +160,7 @@ fn table_in<'a>(
 
 // The hash table in the range of a record.
 #[inline(always)]
-fn table_by<'a>(input: &'a [u8], opened: &OpenedTable) -> Result<AnyTable<'a>, Refusal>
+fn table_by<'a>(input: &'a [u8], opened: &OpenedTable) -> Result<AnyTable<'a>, AnyError>
     ensures { IsTableBy input.now opened.now result }
 {
     let bytes = bytes_in(input, &opened.table)?;
@@ -172,7 +172,7 @@ fn table_by<'a>(input: &'a [u8], opened: &OpenedTable) -> Result<AnyTable<'a>, R
 }
 
 // What the ranges of a record contain.
-pub(crate) fn parts_by<'a>(input: &'a [u8], opened: &OpenedTable) -> Result<HashParts<'a>, Refusal>
+pub(crate) fn parts_by<'a>(input: &'a [u8], opened: &OpenedTable) -> Result<HashParts<'a>, AnyError>
     ensures { ArePartsBy input.now opened.now result }
 {
     let (table, symbols) = (table_by(input, opened), symbols_by(input, &opened.symbols));

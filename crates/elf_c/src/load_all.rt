@@ -13,7 +13,7 @@ use crate::load_objects::{
     LoadObject, MOST_OBJECTS, is_first_narrow, objects_of, places_of, plans_of, when_of,
 };
 use crate::load_plans::page_of;
-use crate::status::{Numbered, OK, Refusal};
+use crate::status::{AnyError, Numbered, OK};
 use elf_base::bytes::Record;
 use elf_linking::LinkError;
 use elf_linking::scope::Scope;
@@ -25,7 +25,7 @@ use xmas_elf::symbol_table::{DynEntry32, DynEntry64};
 #[derive(Clone, Copy, Debug)]
 pub(crate) struct Failure {
     // The error.
-    pub(crate) refusal: Refusal,
+    pub(crate) error: AnyError,
     // The index of the object that has it, if one has.
     pub(crate) object: Option<usize>,
 }
@@ -119,7 +119,7 @@ fn relocate_each<E: LinkedSymbol>(
             Ok(count) => left = left.saturating_add(count),
             Err(error) => {
                 return Err(Failure {
-                    refusal: Refusal::Load(error),
+                    error: AnyError::Load(error),
                     object: Some(of),
                 });
             }
@@ -147,7 +147,7 @@ fn relocate_objects<E: LinkedSymbol>(
         Ok(objects) => objects,
         Err(failed) => {
             return Err(Failure {
-                refusal: Refusal::Link(failed.1),
+                error: AnyError::Link(failed.1),
                 object: Some(failed.0),
             });
         }
@@ -158,7 +158,7 @@ fn relocate_objects<E: LinkedSymbol>(
         Ok(plans) => plans,
         Err(failed) => {
             return Err(Failure {
-                refusal: Refusal::Load(failed.1),
+                error: AnyError::Load(failed.1),
                 object: Some(failed.0),
             });
         }
@@ -166,7 +166,7 @@ fn relocate_objects<E: LinkedSymbol>(
     let own_plans = &plans.all[..count];
     if !is_whole(own_plans, memory.len()) {
         return Err(Failure {
-            refusal: Refusal::Load(LoadError::ImageSize),
+            error: AnyError::Load(LoadError::ImageSize),
             object: None,
         });
     }
@@ -191,13 +191,13 @@ fn relocate_all(
 {
     if loads.is_empty() {
         return Err(Failure {
-            refusal: Refusal::Link(LinkError::ObjectIndex),
+            error: AnyError::Link(LinkError::ObjectIndex),
             object: None,
         });
     }
     if loads.len() > MOST_OBJECTS {
         return Err(Failure {
-            refusal: Refusal::ManyObjects,
+            error: AnyError::ManyObjects,
             object: None,
         });
     }
@@ -221,7 +221,7 @@ fn give_all(answer: Result<u64, Failure>, left: &mut u64, failed: &mut u64) -> u
             if let Some(object) = failure.object {
                 *failed = object as u64;
             }
-            failure.refusal.number()
+            failure.error.number()
         }
     }
 }

@@ -8,14 +8,14 @@ ghost use Rattle.elf_c.specs.LoadObjects.{when_of};
 ghost use Rattle.elf_c.specs.LoadPlans.{default_limit, loader_of, page_of};
 ghost use Rattle.elf_c.specs.Parsed.{file_of};
 ghost use Rattle.elf_c.specs.Status.{GivesHere};
-ghost use Rattle.elf_c.specs.declared.status.Refusal.{Refusal};
+ghost use Rattle.elf_c.specs.declared.status.AnyError.{AnyError};
 
 use crate::file::Parsed;
 use crate::load_objects::{
     LoadObject, MOST_OBJECTS, images_of, is_first_narrow, objects_of, places_of, plans_of, when_of,
 };
 use crate::load_plans::{limit_of, loader_of, page_of};
-use crate::status::{Refusal, give};
+use crate::status::{AnyError, give};
 use elf_base::bytes::Record;
 use elf_linking::LinkError;
 use elf_linking::scope::Scope;
@@ -31,7 +31,7 @@ fn fill_image(
     limit: u64,
     by: Loader,
     image: &mut [u8],
-) -> Result<(), Refusal>
+) -> Result<(), AnyError>
     requires { 0 < page }
     ensures exact { result ≡ image_answer file.now page limit (length image.old) }
     ensures len { length image.new ≡ length image.old }
@@ -82,7 +82,7 @@ fn check_objects<E: LinkedSymbol>(
     page: u64,
     limit: u64,
     marks: &mut [u8],
-) -> Result<(), Refusal>
+) -> Result<(), AnyError>
     requires paged { 0 < page }
     requires some { 0 < length loads.now }
     requires fit { length loads.now ≤ MOST_OBJECTS }
@@ -91,18 +91,18 @@ fn check_objects<E: LinkedSymbol>(
 {
     let objects = match objects_of::<E>(loads) {
         Ok(objects) => objects,
-        Err(failed) => return Err(Refusal::Link(failed.1)),
+        Err(failed) => return Err(AnyError::Link(failed.1)),
     };
     let own = &objects.all[..loads.len()];
     let plans = match plans_of(own, page, limit) {
         Ok(plans) => plans,
-        Err(failed) => return Err(Refusal::Load(failed.1)),
+        Err(failed) => return Err(AnyError::Load(failed.1)),
     };
     let scope = Scope::new(own);
     let planned = LoadScope::new(scope, &plans.all[..loads.len()]);
     match planned.check_image(of, marks) {
         Ok(()) => Ok(()),
-        Err(error) => Err(Refusal::Load(error)),
+        Err(error) => Err(AnyError::Load(error)),
     }
 }
 
@@ -113,16 +113,16 @@ fn check(
     page: u64,
     limit: u64,
     marks: &mut [u8],
-) -> Result<(), Refusal>
+) -> Result<(), AnyError>
     requires { 0 < page }
     ensures { Checks ⟦<DynEntry32 as Record>⟧ ⟦<DynEntry64 as Record>⟧ loads.now of page limit
         (8 * length marks.old) result }
 {
     if loads.is_empty() {
-        return Err(Refusal::Link(LinkError::ObjectIndex));
+        return Err(AnyError::Link(LinkError::ObjectIndex));
     }
     if loads.len() > MOST_OBJECTS {
-        return Err(Refusal::ManyObjects);
+        return Err(AnyError::ManyObjects);
     }
     if is_first_narrow(loads) {
         check_objects::<DynEntry32>(loads, of, page, limit, marks)
@@ -149,7 +149,7 @@ pub extern "C" fn xmas_elf_check_image(
     limit: u64,
     marks: &mut [u8],
 ) -> u32
-    ensures { (answer : Result (Unit {0}) Refusal)
+    ensures { (answer : Result (Unit {0}) AnyError)
         × Checks ⟦<DynEntry32 as Record>⟧ ⟦<DynEntry64 as Record>⟧ objects.now of (page_of page) limit
         (8 * length marks.old) answer × GivesHere answer tt result tt }
 {
@@ -167,7 +167,7 @@ fn relocate_objects<E: LinkedSymbol>(
     page: u64,
     limit: u64,
     image: &mut [u8],
-) -> Result<u64, Refusal>
+) -> Result<u64, AnyError>
     requires paged { 0 < page }
     requires some { 0 < length loads.now }
     requires fit { length loads.now ≤ MOST_OBJECTS }
@@ -177,20 +177,20 @@ fn relocate_objects<E: LinkedSymbol>(
 {
     let objects = match objects_of::<E>(loads) {
         Ok(objects) => objects,
-        Err(failed) => return Err(Refusal::Link(failed.1)),
+        Err(failed) => return Err(AnyError::Link(failed.1)),
     };
     let count = loads.len();
     let own = &objects.all[..count];
     let plans = match plans_of(own, page, limit) {
         Ok(plans) => plans,
-        Err(failed) => return Err(Refusal::Load(failed.1)),
+        Err(failed) => return Err(AnyError::Load(failed.1)),
     };
     let (places, images) = (places_of(loads), images_of(loads));
     let scope = Scope::new(own);
     let planned = LoadScope::new(scope, &plans.all[..count]);
     match planned.relocate(of, when, &places[..count], &images[..count], image) {
         Ok(left) => Ok(left),
-        Err(error) => Err(Refusal::Load(error)),
+        Err(error) => Err(AnyError::Load(error)),
     }
 }
 
@@ -202,17 +202,17 @@ fn relocate(
     page: u64,
     limit: u64,
     image: &mut [u8],
-) -> Result<u64, Refusal>
+) -> Result<u64, AnyError>
     requires { 0 < page }
     ensures exact { Relocates ⟦<DynEntry32 as Record>⟧ ⟦<DynEntry64 as Record>⟧ loads.now of when page
         limit image.old image.new result }
     ensures len { length image.new ≡ length image.old }
 {
     if loads.is_empty() {
-        return Err(Refusal::Link(LinkError::ObjectIndex));
+        return Err(AnyError::Link(LinkError::ObjectIndex));
     }
     if loads.len() > MOST_OBJECTS {
-        return Err(Refusal::ManyObjects);
+        return Err(AnyError::ManyObjects);
     }
     if is_first_narrow(loads) {
         relocate_objects::<DynEntry32>(loads, of, when, page, limit, image)
@@ -244,7 +244,7 @@ pub extern "C" fn xmas_elf_relocate(
     image: &mut [u8],
     count: &mut u64,
 ) -> u32
-    ensures exact { (answer : Result ℕ Refusal)
+    ensures exact { (answer : Result ℕ AnyError)
         × Relocates ⟦<DynEntry32 as Record>⟧ ⟦<DynEntry64 as Record>⟧ objects.now of (when_of lazy)
         (page_of page) limit image.old image.new answer × GivesHere answer count.old result count.new }
     ensures len { length image.new ≡ length image.old }

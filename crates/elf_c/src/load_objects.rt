@@ -3,8 +3,8 @@
 ghost use Rattle.std.specs.Prelude.{◌≡◌, ◌<◌, ◌≤◌, MatchResult, Some, ℕ, length, slice_get, take};
 ghost use Rattle.elf_base.specs.FileHeader.{header_of};
 ghost use Rattle.elf_c.specs.LoadObjects.{AreImagesOf, AreObjectsOf, ArePadded, ArePlacesOf};
-ghost use Rattle.elf_c.specs.LoadObjects.{ArePlansOf, IsRefusedAt, IsUnplannedAt};
-ghost use Rattle.elf_c.specs.LoadObjects.{IsObjectOfBytes, IsPlanFor, IsRefusedAsObject, LacksPlan};
+ghost use Rattle.elf_c.specs.LoadObjects.{ArePlansOf, IsFailedAt, IsUnplannedAt};
+ghost use Rattle.elf_c.specs.LoadObjects.{IsObjectOfBytes, IsPlanFor, IsObjectErrorOf, LacksPlan};
 ghost use Rattle.elf_c.specs.LoadObjects.{is_first_narrow, is_narrow_header, load_place, when_of};
 
 use crate::load_plans::limit_of;
@@ -68,7 +68,7 @@ fn is_narrow(bytes: &[u8]) -> bool
 // The object of a file.
 fn read_object<'a, E: LinkedSymbol>(bytes: &'a [u8]) -> Result<DynamicObject<'a, E>, LinkError>
     ensures exact { MatchResult result (IsObjectOfBytes E.CLASS E.SIZE bytes.now)
-        (IsRefusedAsObject E.CLASS E.SIZE bytes.now) }
+        (IsObjectErrorOf E.CLASS E.SIZE bytes.now) }
 {
     match ElfFile::new(bytes) {
         Ok(file) => DynamicObject::read_reached(&file),
@@ -104,7 +104,7 @@ pub(crate) fn objects_of<'a, E: LinkedSymbol>(
     requires fit { length loads.now ≤ MOST_OBJECTS }
     ensures { MatchResult result
         (λ objects. AreObjectsOf E.CLASS E.SIZE loads.now (take (length loads.now) objects.all))
-        (λ failed. IsRefusedAt {E = E} E.Record E.CLASS E.SIZE loads.now failed.0 failed.1) }
+        (λ failed. IsFailedAt {E = E} E.Record E.CLASS E.SIZE loads.now failed.0 failed.1) }
 {
     let first = match read_object::<E>(loads[0].file) {
         Ok(first) => first,

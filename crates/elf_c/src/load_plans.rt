@@ -9,7 +9,7 @@ ghost use Rattle.elf_c.specs.LoadPlans.{template_record};
 ghost use Rattle.elf_c.specs.Parsed.{file_of};
 ghost use Rattle.elf_c.specs.Records.{LiesIn};
 ghost use Rattle.elf_c.specs.Status.{GivesHere};
-ghost use Rattle.elf_c.specs.declared.status.Refusal.{Refusal};
+ghost use Rattle.elf_c.specs.declared.status.AnyError.{AnyError};
 ghost use Rattle.elf_loading.specs.Mappings.{FollowEachOther, mappings_of};
 ghost use Rattle.elf_loading.specs.MappingsLeft.{mappings_left};
 ghost use Rattle.elf_loading.specs.Segments.{interpreter_of, loads_of, relro_of, stack_of, tls_of};
@@ -19,7 +19,7 @@ ghost use Rattle.elf_loading.specs.Plan.{plan_file};
 use crate::batch::{Sequence, fill_in_order};
 use crate::file::Parsed;
 use crate::names::Range;
-use crate::status::{Refusal, give};
+use crate::status::{AnyError, give};
 use elf_loading::{Contents, LoadPlan, Loader, Mapping, Mappings};
 use xmas_elf::ElfFile;
 
@@ -227,7 +227,7 @@ impl Plan {
 }
 
 // The numbers of the plan of a file.
-fn plan_of(file: &ElfFile<'_>, page: u64, limit: u64) -> Result<Plan, Refusal>
+fn plan_of(file: &ElfFile<'_>, page: u64, limit: u64) -> Result<Plan, AnyError>
     ensures exact { result ≡ plan_of file.now (page_of page) (default_limit file.now limit) }
     ensures within { IfOk result (λ plan. LiesIn file.now.input.now plan.interpreter) }
 {
@@ -322,7 +322,7 @@ fn fill_mappings(
     by: Loader,
     first: u64,
     out: &mut [LoadMapping],
-) -> Result<u64, Refusal>
+) -> Result<u64, AnyError>
     requires { 0 < page }
     ensures exact { Fills (mapping_at file.now page limit by) first out.old result out.new }
     ensures follow { IfOk result (λ count. let span = span_of page (loads_of file.now) in
@@ -355,7 +355,7 @@ pub extern "C" fn xmas_elf_load_mappings(
     out: &mut [LoadMapping],
     count: &mut u64,
 ) -> u32
-    ensures exact { (answer : Result ℕ Refusal)
+    ensures exact { (answer : Result ℕ AnyError)
         × (let file = file_of input.entry header.now in
         Fills (mapping_at file (page_of page) (default_limit file limit) (loader_of loader))
         first out.old answer out.new)

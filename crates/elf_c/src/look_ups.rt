@@ -10,12 +10,12 @@ ghost use Rattle.elf_c.specs.Status.{GivesHere};
 ghost use Rattle.elf_c.specs.SymbolTables.{symbol_by};
 ghost use Rattle.elf_c.specs.Symbols.{symbol_record};
 ghost use Rattle.elf_c.specs.declared.look_ups.Answer.{Answer};
-ghost use Rattle.elf_c.specs.declared.status.Refusal.{Refusal};
+ghost use Rattle.elf_c.specs.declared.status.AnyError.{AnyError};
 ghost use Rattle.xmas_elf.specs.SymbolTable.{table_symbols};
 
 use crate::hash_tables::{HashParts, OpenedTable, parts_by};
 use crate::names::{Range, bytes_in};
-use crate::status::{Numbered, OK, Refusal, give};
+use crate::status::{AnyError, Numbered, OK, give};
 use crate::symbol_tables::AnySymbols;
 use elf_base::ElfError;
 use elf_linking::{AnyTable, LinkError};
@@ -69,7 +69,7 @@ impl LookUp {
 impl Answer {
     // The record for the result of a look-up.
     #[inline(always)]
-    fn of(answer: Result<LookUp, Refusal>) -> Answer
+    fn of(answer: Result<LookUp, AnyError>) -> Answer
         ensures { result ≡ answered answer }
     {
         match answer {
@@ -79,8 +79,8 @@ impl Answer {
                 index: said.index,
                 looked_at: said.looked_at,
             },
-            Err(refusal) => Answer {
-                status: refusal.number(),
+            Err(failure) => Answer {
+                status: failure.number(),
                 found: 0,
                 index: 0,
                 looked_at: 0,
@@ -94,7 +94,7 @@ impl Answer {
 fn said<E: Copy>(
     found: Result<Option<(u32, E)>, LinkError>,
     looked_at: u32,
-) -> Result<LookUp, Refusal>
+) -> Result<LookUp, AnyError>
     ensures { result ≡ look_up_answer found looked_at }
 {
     Ok(LookUp::of(found?, looked_at))
@@ -105,7 +105,7 @@ fn look_up<E: Entry + Record>(
     table: &AnyTable<'_>,
     name: &str,
     symbols: &SymbolTable<'_, E>,
-) -> Result<LookUp, Refusal>
+) -> Result<LookUp, AnyError>
     ensures { IsLookUp table.now name.now (table_symbols symbols.now) result }
 {
     let (found, looked_at) = table.lookup_counted(
@@ -119,7 +119,7 @@ fn look_up<E: Entry + Record>(
 }
 
 // Looks a name up in a hash table among its symbols.
-fn look_up_in(parts: &HashParts<'_>, name: &str) -> Result<LookUp, Refusal>
+fn look_up_in(parts: &HashParts<'_>, name: &str) -> Result<LookUp, AnyError>
     ensures { LooksIn parts.now name.now result }
 {
     let (table, strings) = (&parts.table, parts.strings);
@@ -135,43 +135,43 @@ fn look_up_in(parts: &HashParts<'_>, name: &str) -> Result<LookUp, Refusal>
 
 // The name in a range of `names`.
 #[inline(always)]
-fn name_at<'a>(names: &'a [u8], range: &Range) -> Result<&'a str, Refusal>
+fn name_at<'a>(names: &'a [u8], range: &Range) -> Result<&'a str, AnyError>
     ensures { IsForRange (IfUtf8 IsNameFound) names.now range.now result }
 {
     match from_utf8(bytes_in(names, range)?) {
         Ok(name) => Ok(name),
-        Err(_) => Err(Refusal::Elf(ElfError::TextUtf8)),
+        Err(_) => Err(AnyError::Elf(ElfError::TextUtf8)),
     }
 }
 
 // Looks a name up, or returns the error if there is no table.
 #[inline(always)]
-fn look_up_if_read(found: &Result<HashParts<'_>, Refusal>, name: &str) -> Result<LookUp, Refusal>
+fn look_up_if_read(found: &Result<HashParts<'_>, AnyError>, name: &str) -> Result<LookUp, AnyError>
     ensures { LooksIfRead found.now name.now result }
 {
     match found {
         Ok(parts) => look_up_in(parts, name),
-        Err(refusal) => Err(*refusal),
+        Err(failure) => Err(*failure),
     }
 }
 
 // Looks up the name in a range of `names`.
 fn look_up_at(
-    found: &Result<HashParts<'_>, Refusal>,
+    found: &Result<HashParts<'_>, AnyError>,
     names: &[u8],
     range: &Range,
-) -> Result<LookUp, Refusal>
+) -> Result<LookUp, AnyError>
     ensures { IsForRange (IfUtf8 (LooksIfRead found.now)) names.now range.now result }
 {
     match name_at(names, range) {
         Ok(name) => look_up_if_read(found, name),
-        Err(refusal) => Err(refusal),
+        Err(failure) => Err(failure),
     }
 }
 
 // Stores the results of look-ups, each for the name in a range of `names`.
 fn look_ups(
-    found: &Result<HashParts<'_>, Refusal>,
+    found: &Result<HashParts<'_>, AnyError>,
     names: &[u8],
     ranges: &[Range],
     out: &mut [Answer],
@@ -216,7 +216,7 @@ pub extern "C" fn xmas_elf_look_ups(
 fn check<E: Entry + Record>(
     table: &AnyTable<'_>,
     symbols: &SymbolTable<'_, E>,
-) -> Result<(), Refusal>
+) -> Result<(), AnyError>
     ensures { IsChecked table.now (table_symbols symbols.now) result }
 {
     table.check(symbols)?;
@@ -224,7 +224,7 @@ fn check<E: Entry + Record>(
 }
 
 // Checks a hash table with its symbols.
-fn check_in(parts: &HashParts<'_>) -> Result<(), Refusal>
+fn check_in(parts: &HashParts<'_>) -> Result<(), AnyError>
     ensures { ChecksIn parts.now result }
 {
     let (table, strings) = (&parts.table, parts.strings);
@@ -235,12 +235,12 @@ fn check_in(parts: &HashParts<'_>) -> Result<(), Refusal>
 }
 
 // Checks the hash table of a record.
-fn check_by(input: &[u8], opened: &OpenedTable) -> Result<(), Refusal>
+fn check_by(input: &[u8], opened: &OpenedTable) -> Result<(), AnyError>
     ensures { ChecksBy input.now opened.now result }
 {
     match parts_by(input, opened) {
         Ok(parts) => check_in(&parts),
-        Err(refusal) => Err(refusal),
+        Err(failure) => Err(failure),
     }
 }
 
@@ -251,7 +251,7 @@ fn check_by(input: &[u8], opened: &OpenedTable) -> Result<(), Refusal>
 /// check.
 #[unsafe(no_mangle)]
 pub extern "C" fn xmas_elf_check_hash(input: &[u8], table: &OpenedTable) -> u32
-    ensures { (answer : Result (Unit {0}) Refusal)
+    ensures { (answer : Result (Unit {0}) AnyError)
         × ChecksBy input.now table.now answer × GivesHere answer tt result tt }
 {
     give(check_by(input, table), &mut ())

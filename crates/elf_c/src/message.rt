@@ -7,12 +7,12 @@ ghost use Rattle.elf_linking.specs.Message.{link_number};
 ghost use Rattle.elf_linking.specs.declared.error.LinkError.{LinkError};
 ghost use Rattle.elf_loading.specs.Message.{load_number};
 ghost use Rattle.elf_loading.specs.declared.error.LoadError.{LoadError};
-ghost use Rattle.elf_c.specs.Status.{refusal_message, refusal_number};
+ghost use Rattle.elf_c.specs.Status.{failure_message, failure_number};
 ghost use Rattle.elf_c.specs.Texts.{HasNumber, IsStatusText, error_within, written};
-ghost use Rattle.elf_c.specs.declared.status.Refusal.{Refusal};
-ghost use Rattle.elf_c.specs.declared.status.Refusal.TheVariants.{Index, Link, Load};
+ghost use Rattle.elf_c.specs.declared.status.AnyError.{AnyError};
+ghost use Rattle.elf_c.specs.declared.status.AnyError.TheVariants.{Index, Link, Load};
 
-use crate::status::Refusal;
+use crate::status::AnyError;
 use elf_addresses::IndexError;
 use elf_base::ElfError;
 use elf_linking::LinkError;
@@ -20,9 +20,9 @@ use elf_loading::LoadError;
 
 // The error of `elf_linking`, `elf_loading` or `elf_addresses` with a number.
 #[tactic(auto, using(crate::proofs::Statuses::link_below, crate::proofs::Statuses::load_below, crate::proofs::Statuses::index_within))]
-fn library_refusal(number: u32) -> Option<Refusal>
-    ensures found { IfSome result (λ refusal. (100 < number)
-        × (refusal_number refusal ≡ number)) }
+fn library_failure(number: u32) -> Option<AnyError>
+    ensures found { IfSome result (λ failure. (100 < number)
+        × (failure_number failure ≡ number)) }
     ensures link { (error : LinkError) → link_number error ≡ number → 100 < number
         → result ≡ Some (Link error) }
     ensures load { (error : LoadError) → load_number error ≡ number → 300 < number
@@ -32,100 +32,100 @@ fn library_refusal(number: u32) -> Option<Refusal>
 {
     if number < 300 {
         let error = LinkError::with_number(number)?;
-        return Some(Refusal::Link(error));
+        return Some(AnyError::Link(error));
     }
     if number < 400 {
         let error = LoadError::with_number(number)?;
-        return Some(Refusal::Load(error));
+        return Some(AnyError::Load(error));
     }
     let error = IndexError::with_number(number)?;
-    Some(Refusal::Index(error))
+    Some(AnyError::Index(error))
 }
 
-// The error with a number; `Refusal::Elf` for an error that `elf_linking` passes on, too.
-fn refusal_with(number: u32) -> Option<Refusal>
+// The error with a number; `AnyError::Elf` for an error that `elf_linking` passes on, too.
+fn failure_with(number: u32) -> Option<AnyError>
     ensures found { HasNumber number result }
-    ensures only { (refusal : Refusal) → refusal_number refusal ≡ number
-        → result ≡ Some (error_within refusal) }
+    ensures only { (failure : AnyError) → failure_number failure ≡ number
+        → result ≡ Some (error_within failure) }
 {
     match number {
-        1 => Some(Refusal::Elf(ElfError::ShortPart1)),
-        2 => Some(Refusal::Elf(ElfError::NoMagic)),
-        3 => Some(Refusal::Elf(ElfError::InvalidClass)),
-        4 => Some(Refusal::Elf(ElfError::ShortHeaders)),
-        5 => Some(Refusal::Elf(ElfError::ReservedIndex)),
-        6 => Some(Refusal::Elf(ElfError::ShortSectionHeader)),
-        7 => Some(Refusal::Elf(ElfError::UnknownClass)),
-        8 => Some(Refusal::Elf(ElfError::SmallEntry)),
-        9 => Some(Refusal::Elf(ElfError::NoProgramHeaders)),
-        10 => Some(Refusal::Elf(ElfError::ShortProgramHeader)),
-        11 => Some(Refusal::Elf(ElfError::InvalidShType)),
-        12 => Some(Refusal::Elf(ElfError::NullName)),
-        13 => Some(Refusal::Elf(ElfError::ShortSectionOffset)),
-        14 => Some(Refusal::Elf(ElfError::TextStart)),
-        15 => Some(Refusal::Elf(ElfError::TextEnd)),
-        16 => Some(Refusal::Elf(ElfError::TextUtf8)),
-        17 => Some(Refusal::Elf(ElfError::NullData)),
-        18 => Some(Refusal::Elf(ElfError::DataRange)),
-        19 => Some(Refusal::Elf(ElfError::NotMultiple)),
-        20 => Some(Refusal::Elf(ElfError::ShortData)),
-        21 => Some(Refusal::Elf(ElfError::Note32)),
-        22 => Some(Refusal::Elf(ElfError::NoteName)),
-        23 => Some(Refusal::Elf(ElfError::NoteDesc)),
-        24 => Some(Refusal::Elf(ElfError::NoStrtab)),
-        25 => Some(Refusal::Elf(ElfError::StrtabType)),
-        26 => Some(Refusal::Elf(ElfError::NoDynstr)),
-        27 => Some(Refusal::Elf(ElfError::InvalidPhType)),
-        28 => Some(Refusal::Elf(ElfError::InvalidTag)),
-        29 => Some(Refusal::Elf(ElfError::InvalidValue)),
-        30 => Some(Refusal::Elf(ElfError::InvalidPtr)),
-        31 => Some(Refusal::Elf(ElfError::InvalidBinding)),
-        32 => Some(Refusal::Elf(ElfError::InvalidSymbolType)),
-        33 => Some(Refusal::Elf(ElfError::ReservedSymbolIndex)),
-        34 => Some(Refusal::Elf(ElfError::NoShIndex)),
-        35 => Some(Refusal::Elf(ElfError::ExpectedShIndex)),
-        36 => Some(Refusal::Elf(ElfError::SymbolIndex)),
-        37 => Some(Refusal::Elf(ElfError::WideIndex)),
-        38 => Some(Refusal::Elf(ElfError::BadMagic)),
-        39 => Some(Refusal::Elf(ElfError::HeaderSize)),
-        40 => Some(Refusal::Elf(ElfError::NoClass)),
-        41 => Some(Refusal::Elf(ElfError::ClassMismatch)),
-        42 => Some(Refusal::Elf(ElfError::NoVersion)),
-        43 => Some(Refusal::Elf(ElfError::NoDataFormat)),
-        44 => Some(Refusal::Elf(ElfError::PhTableRange)),
-        45 => Some(Refusal::Elf(ElfError::ShTableRange)),
-        46 => Some(Refusal::Elf(ElfError::PhSizeMismatch)),
-        47 => Some(Refusal::Elf(ElfError::EntryPointRange)),
-        48 => Some(Refusal::Elf(ElfError::ShLibUsed)),
-        49 => Some(Refusal::Elf(ElfError::BadAlign)),
-        50 => Some(Refusal::Elf(ElfError::BucketIndex)),
-        51 => Some(Refusal::Elf(ElfError::ChainIndex)),
-        52 => Some(Refusal::Elf(ElfError::ChainSum)),
-        53 => Some(Refusal::Elf(ElfError::HashData)),
-        54 => Some(Refusal::Elf(ElfError::HashCycle)),
-        55 => Some(Refusal::Elf(ElfError::HashMissing)),
-        201 => Some(Refusal::OtherData),
-        202 => Some(Refusal::NoRecord),
-        203 => Some(Refusal::NotFound),
-        204 => Some(Refusal::ManyObjects),
-        _ => library_refusal(number),
+        1 => Some(AnyError::Elf(ElfError::ShortPart1)),
+        2 => Some(AnyError::Elf(ElfError::NoMagic)),
+        3 => Some(AnyError::Elf(ElfError::InvalidClass)),
+        4 => Some(AnyError::Elf(ElfError::ShortHeaders)),
+        5 => Some(AnyError::Elf(ElfError::ReservedIndex)),
+        6 => Some(AnyError::Elf(ElfError::ShortSectionHeader)),
+        7 => Some(AnyError::Elf(ElfError::UnknownClass)),
+        8 => Some(AnyError::Elf(ElfError::SmallEntry)),
+        9 => Some(AnyError::Elf(ElfError::NoProgramHeaders)),
+        10 => Some(AnyError::Elf(ElfError::ShortProgramHeader)),
+        11 => Some(AnyError::Elf(ElfError::InvalidShType)),
+        12 => Some(AnyError::Elf(ElfError::NullName)),
+        13 => Some(AnyError::Elf(ElfError::ShortSectionOffset)),
+        14 => Some(AnyError::Elf(ElfError::TextStart)),
+        15 => Some(AnyError::Elf(ElfError::TextEnd)),
+        16 => Some(AnyError::Elf(ElfError::TextUtf8)),
+        17 => Some(AnyError::Elf(ElfError::NullData)),
+        18 => Some(AnyError::Elf(ElfError::DataRange)),
+        19 => Some(AnyError::Elf(ElfError::NotMultiple)),
+        20 => Some(AnyError::Elf(ElfError::ShortData)),
+        21 => Some(AnyError::Elf(ElfError::Note32)),
+        22 => Some(AnyError::Elf(ElfError::NoteName)),
+        23 => Some(AnyError::Elf(ElfError::NoteDesc)),
+        24 => Some(AnyError::Elf(ElfError::NoStrtab)),
+        25 => Some(AnyError::Elf(ElfError::StrtabType)),
+        26 => Some(AnyError::Elf(ElfError::NoDynstr)),
+        27 => Some(AnyError::Elf(ElfError::InvalidPhType)),
+        28 => Some(AnyError::Elf(ElfError::InvalidTag)),
+        29 => Some(AnyError::Elf(ElfError::InvalidValue)),
+        30 => Some(AnyError::Elf(ElfError::InvalidPtr)),
+        31 => Some(AnyError::Elf(ElfError::InvalidBinding)),
+        32 => Some(AnyError::Elf(ElfError::InvalidSymbolType)),
+        33 => Some(AnyError::Elf(ElfError::ReservedSymbolIndex)),
+        34 => Some(AnyError::Elf(ElfError::NoShIndex)),
+        35 => Some(AnyError::Elf(ElfError::ExpectedShIndex)),
+        36 => Some(AnyError::Elf(ElfError::SymbolIndex)),
+        37 => Some(AnyError::Elf(ElfError::WideIndex)),
+        38 => Some(AnyError::Elf(ElfError::BadMagic)),
+        39 => Some(AnyError::Elf(ElfError::HeaderSize)),
+        40 => Some(AnyError::Elf(ElfError::NoClass)),
+        41 => Some(AnyError::Elf(ElfError::ClassMismatch)),
+        42 => Some(AnyError::Elf(ElfError::NoVersion)),
+        43 => Some(AnyError::Elf(ElfError::NoDataFormat)),
+        44 => Some(AnyError::Elf(ElfError::PhTableRange)),
+        45 => Some(AnyError::Elf(ElfError::ShTableRange)),
+        46 => Some(AnyError::Elf(ElfError::PhSizeMismatch)),
+        47 => Some(AnyError::Elf(ElfError::EntryPointRange)),
+        48 => Some(AnyError::Elf(ElfError::ShLibUsed)),
+        49 => Some(AnyError::Elf(ElfError::BadAlign)),
+        50 => Some(AnyError::Elf(ElfError::BucketIndex)),
+        51 => Some(AnyError::Elf(ElfError::ChainIndex)),
+        52 => Some(AnyError::Elf(ElfError::ChainSum)),
+        53 => Some(AnyError::Elf(ElfError::HashData)),
+        54 => Some(AnyError::Elf(ElfError::HashCycle)),
+        55 => Some(AnyError::Elf(ElfError::HashMissing)),
+        201 => Some(AnyError::OtherData),
+        202 => Some(AnyError::NoRecord),
+        203 => Some(AnyError::NotFound),
+        204 => Some(AnyError::ManyObjects),
+        _ => library_failure(number),
     }
 }
 
-impl Refusal {
+impl AnyError {
     /// The text of the error; for an error of a library, its text.
     pub fn message(&self) -> &'static str
-        ensures { result.now ≡ refusal_message self.now }
+        ensures { result.now ≡ failure_message self.now }
     {
         match self {
-            Refusal::Elf(error) => error.message(),
-            Refusal::Link(error) => error.message(),
-            Refusal::Load(error) => error.message(),
-            Refusal::Index(error) => error.message(),
-            Refusal::OtherData => "A section holds other data than what is asked for",
-            Refusal::NoRecord => "A table has no record with this index",
-            Refusal::NotFound => "Nothing has this name",
-            Refusal::ManyObjects => "There are more than 64 objects",
+            AnyError::Elf(error) => error.message(),
+            AnyError::Link(error) => error.message(),
+            AnyError::Load(error) => error.message(),
+            AnyError::Index(error) => error.message(),
+            AnyError::OtherData => "A section holds other data than what is asked for",
+            AnyError::NoRecord => "A table has no record with this index",
+            AnyError::NotFound => "Nothing has this name",
+            AnyError::ManyObjects => "There are more than 64 objects",
         }
     }
 }
@@ -133,11 +133,11 @@ impl Refusal {
 // The text of a status, which is empty if no error has it.
 fn text_with(status: u32) -> &'static str
     ensures text { IsStatusText status result.now }
-    ensures means { (refusal : Refusal) → refusal_number refusal ≡ status
-        → result.now ≡ refusal_message refusal }
+    ensures means { (failure : AnyError) → failure_number failure ≡ status
+        → result.now ≡ failure_message failure }
 {
-    match refusal_with(status) {
-        Some(refusal) => refusal.message(),
+    match failure_with(status) {
+        Some(failure) => failure.message(),
         None => "",
     }
 }
@@ -160,9 +160,9 @@ fn put(text: &str, out: &mut [u8]) -> usize
 pub extern "C" fn xmas_elf_message(status: u32, out: &mut [u8]) -> usize
     ensures text { (text : List ℕ) × IsStatusText status text × (result ≡ length text)
         × (out.new ≡ written text out.old) }
-    ensures means { (refusal : Refusal) → refusal_number refusal ≡ status
-        → (result ≡ length (refusal_message refusal))
-        × (out.new ≡ written (refusal_message refusal) out.old) }
+    ensures means { (failure : AnyError) → failure_number failure ≡ status
+        → (result ≡ length (failure_message failure))
+        × (out.new ≡ written (failure_message failure) out.old) }
 {
     put(text_with(status), out)
 }

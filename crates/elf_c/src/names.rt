@@ -7,14 +7,14 @@ ghost use Rattle.elf_c.specs.Parsed.{file_of};
 ghost use Rattle.elf_c.specs.Records.{AllLieIn, LiesIn, record_in, name_answer, name_range};
 ghost use Rattle.elf_c.specs.Records.{name_range_by, names_range, text_range};
 ghost use Rattle.elf_c.specs.Status.{Gives, GivesHere};
-ghost use Rattle.elf_c.specs.declared.status.Refusal.{Refusal};
+ghost use Rattle.elf_c.specs.declared.status.AnyError.{AnyError};
 ghost use Rattle.xmas_elf.specs.Ranges.{range_of};
 ghost use Rattle.xmas_elf.specs.SectionHeader.{section_list};
 ghost use Rattle.xmas_elf.specs.SectionTable.{table_sections};
 
 use crate::batch::{Records, fill};
 use crate::file::Parsed;
-use crate::status::{Numbered, OK, Refusal, give};
+use crate::status::{AnyError, Numbered, OK, give};
 use elf_base::ElfError;
 use elf_base::bytes::text_at;
 use xmas_elf::ElfFile;
@@ -188,7 +188,7 @@ pub extern "C" fn xmas_elf_section_names(
     out: &mut [Name],
     count: &mut u64,
 ) -> u32
-    ensures exact { (answer : Result ℕ Refusal)
+    ensures exact { (answer : Result ℕ AnyError)
         × Fills (record_in
         (λ section. name_answer (name_range (file_of input.entry header.now) section))
         (section_list (file_of input.entry header.now))) first out.old answer out.new

@@ -8,7 +8,7 @@ ghost use Rattle.elf_linking.specs.Notes.{next_step};
 
 use crate::file::Parsed;
 use crate::names::{Range, bytes_in};
-use crate::status::{Refusal, give};
+use crate::status::{AnyError, give};
 use elf_base::bytes::{Order, read_u32};
 use elf_base::header::{Data_, byte_order};
 use elf_linking::LinkError;
@@ -43,23 +43,23 @@ fn next_step(align: u64, place: u64) -> u64
 }
 
 // The note at the start of these bytes, which begin at `start` in the input.
-fn first_note(bytes: &[u8], start: u64, order: Order, align: u64) -> Result<NoteRange, Refusal>
+fn first_note(bytes: &[u8], start: u64, order: Order, align: u64) -> Result<NoteRange, AnyError>
     requires { start + length bytes.now < 2 ^ 64 }
     ensures exact { result ≡ note_at start align order bytes.now }
     ensures within { (end : ℕ) → start + length bytes.now ≤ end → IfOk result (EndsBy end) }
 {
     if bytes.is_empty() {
-        return Err(Refusal::NoRecord);
+        return Err(AnyError::NoRecord);
     }
     if bytes.len() < 12 {
-        return Err(Refusal::Link(LinkError::ShortNote));
+        return Err(AnyError::Link(LinkError::ShortNote));
     }
     let (name_size, desc_size) = (read_u32(bytes, 0, order), read_u32(bytes, 4, order));
     let desc_start = next_step(align, 12 + u64::from(name_size));
     let desc_end = desc_start + u64::from(desc_size);
     let len = bytes.len() as u64;
     if desc_end > len {
-        return Err(Refusal::Link(LinkError::ShortNote));
+        return Err(AnyError::Link(LinkError::ShortNote));
     }
     let after = next_step(align, desc_end);
     let next = if after <= len { after } else { len };
@@ -82,7 +82,7 @@ fn first_note(bytes: &[u8], start: u64, order: Order, align: u64) -> Result<Note
 
 // The note at the start of a range.
 #[inline(always)]
-fn note_in(input: &[u8], header: &Parsed, part: &Range, align: u64) -> Result<NoteRange, Refusal>
+fn note_in(input: &[u8], header: &Parsed, part: &Range, align: u64) -> Result<NoteRange, AnyError>
     ensures exact { result ≡ note_in input.now (order_of header.now.encoding) part.now align }
     ensures within { IfOk result (EndsBy (length input.now)) }
 {

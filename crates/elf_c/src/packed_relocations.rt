@@ -9,7 +9,7 @@ ghost use Rattle.elf_linking.specs.Relr.{relr_rest};
 
 use crate::batch::{Sequence, fill_in_order};
 use crate::file::Parsed;
-use crate::status::{Refusal, give};
+use crate::status::{AnyError, give};
 use elf_linking::relr::Relr;
 use elf_linking::sections::section_relr;
 use elf_linking::view::DynamicView;
@@ -31,14 +31,14 @@ fn fill_from_section(
     section: u64,
     first: u64,
     out: &mut [u64],
-) -> Result<u64, Refusal>
+) -> Result<u64, AnyError>
     ensures { Fills (packed_address file.now section) first out.old result out.new }
 {
     let header = file.section_header_at(section)?;
     match section_relr(file, &header) {
         Some(Ok(addresses)) => fill_in_order(addresses, first, out),
-        Some(Err(error)) => Err(Refusal::Link(error)),
-        None => Err(Refusal::OtherData),
+        Some(Err(error)) => Err(AnyError::Link(error)),
+        None => Err(AnyError::OtherData),
     }
 }
 
@@ -68,13 +68,13 @@ pub extern "C" fn xmas_elf_packed_relocations(
 }
 
 // Stores the addresses of the dynamic segment from an index on in `out`, and returns their number.
-fn fill_from_segment(file: &ElfFile<'_>, first: u64, out: &mut [u64]) -> Result<u64, Refusal>
+fn fill_from_segment(file: &ElfFile<'_>, first: u64, out: &mut [u64]) -> Result<u64, AnyError>
     ensures { Fills (dynamic_packed_address file.now) first out.old result out.new }
 {
     match DynamicView::read(file)?.relr(file) {
         Some(Ok(packed)) => fill_in_order(packed, first, out),
-        Some(Err(error)) => Err(Refusal::Link(error)),
-        None => Err(Refusal::NoRecord),
+        Some(Err(error)) => Err(AnyError::Link(error)),
+        None => Err(AnyError::NoRecord),
     }
 }
 

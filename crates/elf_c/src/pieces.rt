@@ -9,15 +9,15 @@ ghost use Rattle.elf_c.specs.AddressIndex.{addresses_in_table, within_of};
 ghost use Rattle.elf_c.specs.Parsed.{file_of};
 ghost use Rattle.elf_c.specs.Pieces.{AreCounted, AreListed, AreListedIn, IsRows, Lists, few_words};
 ghost use Rattle.elf_c.specs.Pieces.{IsWhole, owner_numbers, piece_record, put_from};
-ghost use Rattle.elf_c.specs.Pieces.{AreRuns, run_numbers, run_record, runs_refused};
+ghost use Rattle.elf_c.specs.Pieces.{AreRuns, run_numbers, run_record, runs_failed};
 ghost use Rattle.elf_c.specs.Status.{GivesHere};
 ghost use Rattle.elf_c.specs.declared.pieces.Piece.{Piece};
 ghost use Rattle.elf_c.specs.declared.pieces.PieceSizes.{PieceSizes};
-ghost use Rattle.elf_c.specs.declared.status.Refusal.{Refusal};
+ghost use Rattle.elf_c.specs.declared.status.AnyError.{AnyError};
 
 use crate::address_index::{AddressIndex, AnyAddresses, addresses_by, within_of};
 use crate::file::Parsed;
-use crate::status::{Refusal, give};
+use crate::status::{AnyError, give};
 use elf_addresses::{AddressSymbols, Owner, Pieces, SymbolPiece, SymbolPieces};
 use xmas_elf::ElfFile;
 use xmas_elf::bytes::Record;
@@ -167,7 +167,7 @@ fn store_file(
     words: &mut [u32],
     numbers: &mut [u64],
     out: &mut [Piece],
-) -> Result<u64, Refusal>
+) -> Result<u64, AnyError>
     ensures { Lists (few_words (piece_words file.now) (piece_numbers file.now) words.old numbers.old)
         (IsWhole file.now) piece_record first out.old result out.new }
 {
@@ -182,7 +182,7 @@ fn list_pieces(
     words: &mut [u32],
     numbers: &mut [u64],
     out: &mut [Piece],
-) -> Result<PieceSizes, Refusal>
+) -> Result<PieceSizes, AnyError>
     ensures { AreCounted file.now first words.old numbers.old out.old result out.new }
 {
     let needed = Pieces::words(file) as u64;
@@ -219,7 +219,7 @@ pub extern "C" fn xmas_elf_pieces(
     out: &mut [Piece],
     sizes: &mut PieceSizes,
 ) -> u32
-    ensures { (answer : Result PieceSizes Refusal)
+    ensures { (answer : Result PieceSizes AnyError)
         × AreCounted (file_of input.entry header.now) first words.old numbers.old out.old answer out.new
         × GivesHere answer sizes.old result sizes.new }
 {
@@ -238,9 +238,9 @@ fn store_symbols<E: Entry + Record>(
     words: &mut [u32],
     numbers: &mut [u64],
     out: &mut [Piece],
-) -> Result<u64, Refusal>
+) -> Result<u64, AnyError>
     ensures { let claim_of = claim_of_symbols E.fields symbols.now within in
-        Lists (runs_refused claim_of (symbol_count symbols.now) words.old numbers.old)
+        Lists (runs_failed claim_of (symbol_count symbols.now) words.old numbers.old)
         (AreRuns claim_of (max range.0 range.1) range.0) run_record first out.old result out.new }
 {
     let (begin, end) = range;
@@ -257,7 +257,7 @@ fn store_any(
     words: &mut [u32],
     numbers: &mut [u64],
     out: &mut [Piece],
-) -> Result<u64, Refusal>
+) -> Result<u64, AnyError>
     ensures { AreListedIn (addresses_in_table all.now) within range first words.old numbers.old
         out.old result out.new }
 {
@@ -280,7 +280,7 @@ fn list_symbols(
     words: &mut [u32],
     numbers: &mut [u64],
     out: &mut [Piece],
-) -> Result<u64, Refusal>
+) -> Result<u64, AnyError>
     ensures { AreListed input.now index.now range first words.old numbers.old out.old result out.new }
 {
     let all = addresses_by(input, &index.table, &index.indices, index.machine)?;
@@ -318,7 +318,7 @@ pub extern "C" fn xmas_elf_symbol_pieces(
     out: &mut [Piece],
     count: &mut u64,
 ) -> u32
-    ensures { (answer : Result ℕ Refusal)
+    ensures { (answer : Result ℕ AnyError)
         × AreListed input.now index.now (begin, end) first words.old numbers.old out.old answer out.new
         × GivesHere answer count.old result count.new }
 {

@@ -2,7 +2,7 @@
 //! (gABI, "Relocation" and "Dynamic Section").
 
 ghost use Rattle.std.specs.Prelude.{◌≡◌, Bool};
-ghost use Rattle.elf_base.specs.Refusal.{and_then};
+ghost use Rattle.elf_base.specs.FirstError.{and_then};
 ghost use Rattle.elf_c.specs.Batch.{Fills, Stores};
 ghost use Rattle.elf_c.specs.Parsed.{file_of};
 ghost use Rattle.elf_c.specs.Relocations.{dynamic_records, dynamic_relocation_at, is_rela};
@@ -15,7 +15,7 @@ ghost use Rattle.xmas_elf.specs.SectionHeader.{section_of};
 
 use crate::batch::{Numbers, Rows, Sequence, fill, fill_in_order};
 use crate::file::Parsed;
-use crate::status::{Refusal, give};
+use crate::status::{AnyError, give};
 use elf_base::{P32, P64};
 use elf_linking::references::{Reference, RelocationTables};
 use elf_linking::view::{DT_PLTREL, DT_RELA, DynamicView};
@@ -112,7 +112,7 @@ fn fill_from_section(
     section: u64,
     first: u64,
     out: &mut [Relocation],
-) -> Result<u64, Refusal>
+) -> Result<u64, AnyError>
     ensures { Fills (λ index. and_so (and_then (section_of file.now section)
         (section_content_of file.now)) (relocation_in index)) first out.old result out.new }
 {
@@ -121,7 +121,7 @@ fn fill_from_section(
         SectionData::Rela64(table) => fill(Rows { table }, first, out),
         SectionData::Rel32(table) => fill(Rows { table }, first, out),
         SectionData::Rel64(table) => fill(Rows { table }, first, out),
-        _ => Err(Refusal::OtherData),
+        _ => Err(AnyError::OtherData),
     }
 }
 
@@ -203,7 +203,11 @@ fn is_rela(kind: Option<u64>) -> bool
 }
 
 // Stores the relocations of the dynamic segment from an index on in `out`, and returns their number.
-fn fill_from_segment(file: &ElfFile<'_>, first: u64, out: &mut [Relocation]) -> Result<u64, Refusal>
+fn fill_from_segment(
+    file: &ElfFile<'_>,
+    first: u64,
+    out: &mut [Relocation],
+) -> Result<u64, AnyError>
     ensures { Fills (dynamic_relocation_at file.now) first out.old result out.new }
 {
     let view = DynamicView::read(file)?;

@@ -1,13 +1,13 @@
 //! The sections of a file (gABI, "Sections").
 
 ghost use Rattle.std.specs.Prelude.{◌≡◌, ◌↔◌, ◌+◌, ◌≤◌, ℕ, IfOk, IsTrue, Ok, Result, length};
-ghost use Rattle.elf_base.specs.Refusal.{and_then};
+ghost use Rattle.elf_base.specs.FirstError.{and_then};
 ghost use Rattle.elf_c.specs.Batch.{Stores};
 ghost use Rattle.elf_c.specs.Parsed.{file_of};
 ghost use Rattle.elf_c.specs.Records.{FindsIndex, record_in, found_section, section_data_range};
 ghost use Rattle.elf_c.specs.Records.{LiesIn, is_relr_type, range_at, section_checked, section_record};
 ghost use Rattle.elf_c.specs.Status.{Gives, GivesHere};
-ghost use Rattle.elf_c.specs.declared.status.Refusal.{Refusal};
+ghost use Rattle.elf_c.specs.declared.status.AnyError.{AnyError};
 ghost use Rattle.xmas_elf.specs.First.{FindsFirstAt};
 ghost use Rattle.xmas_elf.specs.NameTable.{HasName};
 ghost use Rattle.xmas_elf.specs.SectionHeader.{section_list, section_of};
@@ -16,7 +16,7 @@ ghost use Rattle.xmas_elf.specs.SectionTable.{section_table_file, table_sections
 use crate::batch::{Records, fill};
 use crate::file::Parsed;
 use crate::names::Range;
-use crate::status::{Refusal, give};
+use crate::status::{AnyError, give};
 use elf_base::ElfError;
 use elf_linking::sections::SHT_RELR;
 use std::str::from_utf8;
@@ -222,15 +222,15 @@ pub extern "C" fn xmas_elf_section_data(
 // The numbers of the first section with a name.
 #[tactic(auto, using(crate::proofs::FoundSections::found_utf8, crate::proofs::FoundSections::found_not_utf8))]
 #[inline(always)]
-fn section_with_name(file: &ElfFile<'_>, name: &[u8]) -> Result<Section, Refusal>
+fn section_with_name(file: &ElfFile<'_>, name: &[u8]) -> Result<Section, AnyError>
     ensures { result ≡ found_section file.now name.now }
 {
     let Ok(name) = from_utf8(name) else {
-        return Err(Refusal::NotFound);
+        return Err(AnyError::NotFound);
     };
     match file.find_section_by_name(name) {
         Some(section) => Ok(Section::of(&section)),
-        None => Err(Refusal::NotFound),
+        None => Err(AnyError::NotFound),
     }
 }
 
@@ -271,15 +271,15 @@ fn position_of_name(table: &SectionTable<'_, '_>, name: &str) -> Option<usize>
 }
 
 // The index of the first section with a name.
-fn index_with_name(file: &ElfFile<'_>, name: &[u8]) -> Result<u64, Refusal>
+fn index_with_name(file: &ElfFile<'_>, name: &[u8]) -> Result<u64, AnyError>
     ensures { FindsIndex file.now name.now result }
 {
     let Ok(name) = from_utf8(name) else {
-        return Err(Refusal::NotFound);
+        return Err(AnyError::NotFound);
     };
     match position_of_name(&file.section_table(), name) {
         Some(index) => Ok(index as u64),
-        None => Err(Refusal::NotFound),
+        None => Err(AnyError::NotFound),
     }
 }
 
@@ -292,7 +292,7 @@ pub extern "C" fn xmas_elf_find_section_index(
     name: &[u8],
     out: &mut u64,
 ) -> u32
-    ensures { (answer : Result ℕ Refusal)
+    ensures { (answer : Result ℕ AnyError)
         × FindsIndex (file_of input.entry header.now) name.now answer
         × GivesHere answer out.old result out.new }
 {

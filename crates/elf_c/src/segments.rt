@@ -1,7 +1,7 @@
 //! The segments of a file (gABI, "Program Header").
 
 ghost use Rattle.std.specs.Prelude.{◌≡◌, Ok};
-ghost use Rattle.elf_base.specs.Refusal.{and_then};
+ghost use Rattle.elf_base.specs.FirstError.{and_then};
 ghost use Rattle.elf_c.specs.Batch.{Stores};
 ghost use Rattle.elf_c.specs.Parsed.{file_of};
 ghost use Rattle.elf_c.specs.Records.{LiesIn, record_in, segment_data_range, segment_record};
@@ -14,7 +14,7 @@ ghost use Rattle.xmas_elf.specs.ProgramTable.{table_program_headers};
 use crate::batch::{Records, fill};
 use crate::file::Parsed;
 use crate::names::Range;
-use crate::status::{Refusal, give};
+use crate::status::{AnyError, give};
 use elf_base::ElfError;
 use xmas_elf::ElfFile;
 use xmas_elf::program::{ProgramHeader, ProgramTable, sanity_check};

@@ -5,8 +5,8 @@ ghost use Rattle.elf_base.specs.Message.{error_number};
 ghost use Rattle.elf_addresses.specs.Message.{index_number};
 ghost use Rattle.elf_linking.specs.Message.{link_number};
 ghost use Rattle.elf_loading.specs.Message.{load_number};
-ghost use Rattle.elf_c.specs.Status.{GivesBy, refusal_number};
-ghost use Rattle.elf_c.specs.declared.status.Refusal.TheVariants.{Elf, Index, Link, Load};
+ghost use Rattle.elf_c.specs.Status.{GivesBy, failure_number};
+ghost use Rattle.elf_c.specs.declared.status.AnyError.TheVariants.{Elf, Index, Link, Load};
 
 use elf_addresses::IndexError;
 use elf_base::ElfError;
@@ -18,7 +18,7 @@ pub const OK: u32 = 0;
 
 /// The error of an export.
 #[derive(Clone, Copy, Debug)]
-pub enum Refusal {
+pub enum AnyError {
     /// An error of `xmas_elf`.
     Elf(ElfError),
     /// An error of `elf_linking`.
@@ -37,35 +37,35 @@ pub enum Refusal {
     ManyObjects,
 }
 
-impl From<ElfError> for Refusal {
-    ghost from_gives = { λ error refusal. refusal ≡ Elf error };
+impl From<ElfError> for AnyError {
+    ghost from_gives = { λ error failure. failure ≡ Elf error };
 
     fn from(error: ElfError) -> Self {
-        Refusal::Elf(error)
+        AnyError::Elf(error)
     }
 }
 
-impl From<LinkError> for Refusal {
-    ghost from_gives = { λ error refusal. refusal ≡ Link error };
+impl From<LinkError> for AnyError {
+    ghost from_gives = { λ error failure. failure ≡ Link error };
 
     fn from(error: LinkError) -> Self {
-        Refusal::Link(error)
+        AnyError::Link(error)
     }
 }
 
-impl From<LoadError> for Refusal {
-    ghost from_gives = { λ error refusal. refusal ≡ Load error };
+impl From<LoadError> for AnyError {
+    ghost from_gives = { λ error failure. failure ≡ Load error };
 
     fn from(error: LoadError) -> Self {
-        Refusal::Load(error)
+        AnyError::Load(error)
     }
 }
 
-impl From<IndexError> for Refusal {
-    ghost from_gives = { λ error refusal. refusal ≡ Index error };
+impl From<IndexError> for AnyError {
+    ghost from_gives = { λ error failure. failure ≡ Index error };
 
     fn from(error: IndexError) -> Self {
-        Refusal::Index(error)
+        AnyError::Index(error)
     }
 }
 
@@ -118,19 +118,19 @@ impl Numbered for u32 {
     }
 }
 
-impl Numbered for Refusal {
-    ghost number_of = { refusal_number };
+impl Numbered for AnyError {
+    ghost number_of = { failure_number };
 
     fn number(self) -> u32 {
         match self {
-            Refusal::Elf(error) => error.number(),
-            Refusal::Link(error) => error.number(),
-            Refusal::Load(error) => error.number(),
-            Refusal::Index(error) => error.number(),
-            Refusal::OtherData => 201,
-            Refusal::NoRecord => 202,
-            Refusal::NotFound => 203,
-            Refusal::ManyObjects => 204,
+            AnyError::Elf(error) => error.number(),
+            AnyError::Link(error) => error.number(),
+            AnyError::Load(error) => error.number(),
+            AnyError::Index(error) => error.number(),
+            AnyError::OtherData => 201,
+            AnyError::NoRecord => 202,
+            AnyError::NotFound => 203,
+            AnyError::ManyObjects => 204,
         }
     }
 }

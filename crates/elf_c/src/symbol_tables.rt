@@ -2,7 +2,7 @@
 
 ghost use Rattle.std.specs.Prelude.{◌≡◌, ◌<◌, ◌↔◌, ◌==◌, ℕ, IsOk, Ok};
 ghost use Rattle.elf_base.specs.FileHeader.{order_of};
-ghost use Rattle.elf_base.specs.Refusal.{and_then};
+ghost use Rattle.elf_base.specs.FirstError.{and_then};
 ghost use Rattle.elf_base.specs.Table.{table_items};
 ghost use Rattle.elf_c.specs.Batch.{Fills, Stores};
 ghost use Rattle.elf_c.specs.Parsed.{file_of};
@@ -18,7 +18,7 @@ use crate::batch::{Records, fill};
 use crate::file::Parsed;
 use crate::names::{Name, Range, bytes_in, text_in};
 use crate::sections::section_range_at;
-use crate::status::{OK, Refusal, give};
+use crate::status::{AnyError, OK, give};
 use crate::symbols::Symbol;
 use elf_base::bytes::Order;
 use xmas_elf::ElfFile;
@@ -45,7 +45,7 @@ pub struct SymbolTable {
 }
 
 // The number of symbols in the data of a section.
-fn count_in(held: &SectionData<'_>) -> Result<u64, Refusal>
+fn count_in(held: &SectionData<'_>) -> Result<u64, AnyError>
     ensures { result ≡ symbol_count_in (section_content held.now) }
 {
     match held {
@@ -53,12 +53,12 @@ fn count_in(held: &SectionData<'_>) -> Result<u64, Refusal>
         SectionData::SymbolTable64(table) => Ok(table.len() as u64),
         SectionData::DynSymbolTable32(table) => Ok(table.len() as u64),
         SectionData::DynSymbolTable64(table) => Ok(table.len() as u64),
-        _ => Err(Refusal::OtherData),
+        _ => Err(AnyError::OtherData),
     }
 }
 
 // The symbols of the section at an index, as numbers.
-pub(crate) fn table_of_section(file: &ElfFile<'_>, section: u64) -> Result<SymbolTable, Refusal>
+pub(crate) fn table_of_section(file: &ElfFile<'_>, section: u64) -> Result<SymbolTable, AnyError>
     ensures { result ≡ table_of_section file.now section }
 {
     let header = file.section_header_at(section)?;
@@ -128,7 +128,7 @@ pub(crate) fn order_of(encoding: u16) -> Order
 }
 
 // The symbols in bytes, in the layout of class 32 or else of class 64.
-fn symbols_in<'a>(narrow: bool, bytes: &'a [u8], order: Order) -> Result<AnySymbols<'a>, Refusal>
+fn symbols_in<'a>(narrow: bool, bytes: &'a [u8], order: Order) -> Result<AnySymbols<'a>, AnyError>
     ensures { AreSymbolsIn narrow order bytes.now result }
 {
     match narrow {
@@ -141,7 +141,7 @@ fn symbols_in<'a>(narrow: bool, bytes: &'a [u8], order: Order) -> Result<AnySymb
 pub(crate) fn symbols_by<'a>(
     input: &'a [u8],
     table: &SymbolTable,
-) -> Result<AnySymbols<'a>, Refusal>
+) -> Result<AnySymbols<'a>, AnyError>
     ensures { AreSymbolsBy input.now table.now result }
 {
     let bytes = bytes_in(input, &table.symbols)?;
@@ -154,13 +154,13 @@ fn fill_symbols(
     table: &SymbolTable,
     first: u64,
     out: &mut [Symbol],
-) -> Result<u64, Refusal>
+) -> Result<u64, AnyError>
     ensures { Fills (symbol_by symbol_record input.now table.now) first out.old result out.new }
 {
     match symbols_by(input, table) {
         Ok(AnySymbols::Narrow(symbols)) => fill(symbols, first, out),
         Ok(AnySymbols::Wide(symbols)) => fill(symbols, first, out),
-        Err(refusal) => Err(refusal),
+        Err(failure) => Err(failure),
     }
 }
 
@@ -239,7 +239,7 @@ fn fill_names_of<E: Entry + Record>(
     symbols: Table<'_, E>,
     first: u64,
     out: &mut [Name],
-) -> Result<u64, Refusal>
+) -> Result<u64, AnyError>
     ensures { Fills (record_in (λ e. symbol_name_range input.now table.now (E.fields e))
         (table_items symbols.entry)) first out.old result out.new }
 {
@@ -257,14 +257,14 @@ fn fill_names(
     table: &SymbolTable,
     first: u64,
     out: &mut [Name],
-) -> Result<u64, Refusal>
+) -> Result<u64, AnyError>
     ensures { Fills (symbol_by (symbol_name_range input.now table.now) input.now table.now)
         first out.old result out.new }
 {
     match symbols_by(input, table) {
         Ok(AnySymbols::Narrow(symbols)) => fill_names_of(input, table, symbols, first, out),
         Ok(AnySymbols::Wide(symbols)) => fill_names_of(input, table, symbols, first, out),
-        Err(refusal) => Err(refusal),
+        Err(failure) => Err(failure),
     }
 }
 

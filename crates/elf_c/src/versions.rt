@@ -11,8 +11,8 @@ ghost use Rattle.elf_c.specs.Versions.{AllNamesLieIn, FillsVersions, defined_as,
 ghost use Rattle.elf_c.specs.Versions.{definition_items, need_record_at, need_items, needed_as};
 ghost use Rattle.elf_c.specs.Versions.{strings_range_of, file_version_tables, unnamed, unreadable};
 ghost use Rattle.elf_c.specs.Versions.{version_record, version_name_range};
-ghost use Rattle.elf_c.specs.declared.status.Refusal.{Refusal};
-ghost use Rattle.elf_c.specs.declared.status.Refusal.TheVariants.{Link};
+ghost use Rattle.elf_c.specs.declared.status.AnyError.{AnyError};
+ghost use Rattle.elf_c.specs.declared.status.AnyError.TheVariants.{Link};
 ghost use Rattle.elf_linking.specs.VersionTables.{definition_parts, definitions_left, need_parts};
 ghost use Rattle.elf_linking.specs.VersionTables.{needs_left};
 ghost use Rattle.elf_linking.specs.Versions as linked;
@@ -23,7 +23,7 @@ use crate::dynamic_symbols::symbol_count;
 use crate::dynamic_texts::{name_of, strings_of, text_by};
 use crate::file::Parsed;
 use crate::names::{Name, Range};
-use crate::status::{Numbered, OK, Refusal, give};
+use crate::status::{AnyError, Numbered, OK, give};
 use elf_linking::LinkError;
 use elf_linking::versions::{
     Definition, Definitions, NamedVersion, Need, Needs, SymbolVersion, Versions,
@@ -71,14 +71,14 @@ pub struct Version {
 // The range of the name at an offset in the string table, with its status.
 fn version_name(
     input: &[u8],
-    strings: Result<Range, Refusal>,
+    strings: Result<Range, AnyError>,
     offset: Result<u32, LinkError>,
 ) -> Name
     ensures { result ≡ version_name_range input.now strings offset }
 {
     match offset {
         Ok(offset) => name_of(text_by(input, strings, u64::from(offset))),
-        Err(error) => name_of(Err(Refusal::Link(error))),
+        Err(error) => name_of(Err(AnyError::Link(error))),
     }
 }
 
@@ -106,7 +106,7 @@ impl Version {
         ensures { result ≡ unreadable error }
     {
         Version {
-            status: Refusal::Link(error).number(),
+            status: AnyError::Link(error).number(),
             ..Version::unnamed(0, false)
         }
     }
@@ -114,7 +114,7 @@ impl Version {
     // A version whose number a definition has.
     fn defined(
         input: &[u8],
-        strings: Result<Range, Refusal>,
+        strings: Result<Range, AnyError>,
         number: u16,
         hidden: bool,
         definition: &Definition<'_>,
@@ -136,7 +136,7 @@ impl Version {
     // A version whose number a need has.
     fn needed(
         input: &[u8],
-        strings: Result<Range, Refusal>,
+        strings: Result<Range, AnyError>,
         number: u16,
         hidden: bool,
         need: &Need<'_>,
@@ -162,11 +162,11 @@ impl Version {
 #[derive(Drop)]
 struct Tables<'a> {
     versions: Versions<'a>,
-    strings: Result<Range, Refusal>,
+    strings: Result<Range, AnyError>,
 }
 
 // The version tables of a file with this number of symbols.
-fn tables_of<'a>(file: &ElfFile<'a>, count: u64) -> Result<Tables<'a>, Refusal>
+fn tables_of<'a>(file: &ElfFile<'a>, count: u64) -> Result<Tables<'a>, AnyError>
     ensures { MatchResult result
         (λ it. (file_version_tables file.now count ≡ Ok (version_tables it.versions))
         × (it.strings ≡ strings_range_of file.now))
@@ -183,7 +183,7 @@ fn tables_of<'a>(file: &ElfFile<'a>, count: u64) -> Result<Tables<'a>, Refusal>
 #[derive(Drop)]
 struct DefinitionList<'a> {
     definitions: Definitions<'a>,
-    strings: Result<Range, Refusal>,
+    strings: Result<Range, AnyError>,
     input: &'a [u8],
 }
 
@@ -208,7 +208,7 @@ impl Sequence for DefinitionList<'_> {
 #[derive(Drop)]
 struct NeedList<'a> {
     needs: Needs<'a>,
-    strings: Result<Range, Refusal>,
+    strings: Result<Range, AnyError>,
     input: &'a [u8],
 }
 
@@ -229,7 +229,7 @@ impl Sequence for NeedList<'_> {
 }
 
 // Stores the definitions from an index on in `out`, and returns their number.
-fn fill_definitions(file: &ElfFile<'_>, first: u64, out: &mut [Version]) -> Result<u64, Refusal>
+fn fill_definitions(file: &ElfFile<'_>, first: u64, out: &mut [Version]) -> Result<u64, AnyError>
     ensures exact { Fills (definition_record_at file.now) first out.old result out.new }
     ensures within { IfOk result (λ count. AllNamesLieIn file.now.input.now count out.new) }
 {
@@ -243,7 +243,7 @@ fn fill_definitions(file: &ElfFile<'_>, first: u64, out: &mut [Version]) -> Resu
 }
 
 // Stores the needs from an index on in `out`, and returns their number.
-fn fill_needs(file: &ElfFile<'_>, first: u64, out: &mut [Version]) -> Result<u64, Refusal>
+fn fill_needs(file: &ElfFile<'_>, first: u64, out: &mut [Version]) -> Result<u64, AnyError>
     ensures exact { Fills (need_record_at file.now) first out.old result out.new }
     ensures within { IfOk result (λ count. AllNamesLieIn file.now.input.now count out.new) }
 {
@@ -306,7 +306,7 @@ pub extern "C" fn xmas_elf_version_needs(
 // The version of a symbol, or why it can't be read.
 fn version_record(
     input: &[u8],
-    strings: Result<Range, Refusal>,
+    strings: Result<Range, AnyError>,
     answer: Result<Option<SymbolVersion<'_>>, LinkError>,
 ) -> Version
     ensures { result ≡ version_record input.now strings (linked.version_item answer.entry) }
@@ -366,14 +366,14 @@ fn has_numbers(versions: &Versions<'_>) -> bool
 }
 
 // Stores the versions of the symbols from an index on in `out`, and returns their number.
-fn fill_versions(file: &ElfFile<'_>, first: u64, out: &mut [Version]) -> Result<u64, Refusal>
+fn fill_versions(file: &ElfFile<'_>, first: u64, out: &mut [Version]) -> Result<u64, AnyError>
     ensures exact { FillsVersions file.now first out.old result out.new }
     ensures within { IfOk result (λ count. AllNamesLieIn file.now.input.now count out.new) }
 {
     let count = symbol_count(file)?;
     let tables = tables_of(file, count)?;
     if !has_numbers(&tables.versions) {
-        return Err(Refusal::NotFound);
+        return Err(AnyError::NotFound);
     }
     let versions = SymbolVersions {
         tables,
@@ -400,7 +400,7 @@ pub extern "C" fn xmas_elf_dynamic_symbol_versions(
     out: &mut [Version],
     count: &mut u64,
 ) -> u32
-    ensures exact { (answer : Result ℕ Refusal)
+    ensures exact { (answer : Result ℕ AnyError)
         × FillsVersions (file_of input.entry header.now) first out.old answer out.new
         × GivesHere answer count.old result count.new }
     ensures within { result ≡ 0 → AllNamesLieIn input.now count.new out.new }

@@ -50,8 +50,8 @@ pub record IsFileValueOf (file : ElfFile) (name : List ℕ) (found : Option ℕ)
   pub value : IsValueOf (dyn_symbols_in_64 file order bytes) name found
 
 -- why no symbol is looked for: the file has no such tables, or the check finds this fault in them
-pub data IsLinkRefused (file : ElfFile) : ElfError → Type 0 where
-  unlinked : NotLinked file → IsLinkRefused file ShortData
+pub data IsLinkError (file : ElfFile) : ElfError → Type 0 where
+  unlinked : NotLinked file → IsLinkError file ShortData
   unchecked : (table : HashTable) (order : Order) (bytes : List ℕ) (error : ElfError)
       → AreLinked file table order bytes
-      → IsCheck table (dyn_symbols_in_64 file order bytes) (Err error) → IsLinkRefused file error
+      → IsCheck table (dyn_symbols_in_64 file order bytes) (Err error) → IsLinkError file error

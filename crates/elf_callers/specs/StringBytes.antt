@@ -24,6 +24,6 @@ abbrev pub IsStringTotal : ElfFile → ℕ → Type 0
 IsStringTotal file = IsTotal (LiesThere file) string_size (section_list file)
 
 -- the first one that isn't is rejected for this
-abbrev pub IsStringRefused : ElfFile → ElfError → Type 0
-IsStringRefused file error = (section : SectionHeader)
+abbrev pub IsStringError : ElfFile → ElfError → Type 0
+IsStringError file error = (section : SectionHeader)
     × IsFirstWithout (LiesThere file) (section_list file) section × (section_data_of file section ≡ Err error)

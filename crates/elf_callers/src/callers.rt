@@ -8,7 +8,7 @@ ghost use Rattle.std.specs.List.{AllWithin, HoldsAt};
 ghost use Rattle.std.specs.Borrow.{Bor};
 ghost use Rattle.std.specs.Result.{result_ok};
 ghost use Rattle.elf_callers.specs.Names.{name_in_bytes, text_length};
-ghost use Rattle.elf_callers.specs.StringBytes.{IsStringRefused, IsStringTotal};
+ghost use Rattle.elf_callers.specs.StringBytes.{IsStringError, IsStringTotal};
 ghost use Rattle.elf_callers.specs.StringBytes.{LiesThere, string_size};
 ghost use Rattle.xmas_elf.specs.SectionHeader.{HasSectionHeader, section_by_u16};
 ghost use Rattle.xmas_elf.specs.SectionHeader.{section_fields, section_list};
@@ -40,7 +40,7 @@ use xmas_elf::{ElfError, ElfFile};
 pub fn class_byte(input: &[u8]) -> Result<u8, ElfError>
     ensures accepted { IsOk result ↔ IsAccepted input.now }
     ensures value { IfOk result (λ class. class ≡ byte_at 4 input.now) }
-    ensures refused { IfErr result (λ error. header_of input.now ≡ Err error) }
+    ensures failed { IfErr result (λ error. header_of input.now ≡ Err error) }
 {
     let file = ElfFile::new(input)?;
     Ok(file.header.pt1.class.raw())
@@ -54,7 +54,7 @@ pub fn size_64(file: &ElfFile<'_>, index: u16) -> Result<u64, ElfError>
     ensures value { IfOk result (λ size. size
         ≡ number (file_order file.now.header) 8
         (section_place file.now.header index + 32) file.now.input.now) }
-    ensures refused { IfErr result (λ error.
+    ensures failed { IfErr result (λ error.
         section_by_u16 file.now.input.now file.now.header index ≡ Err error) }
 {
     let section = file.section_header(index)?;
@@ -101,7 +101,7 @@ pub fn name_in<'a>(input: &'a [u8], index: u32) -> Result<&'a str, ElfError>
     ensures name { IfOk result (λ name. IsOkAnd (header_of input.now) (λ header.
         let file : ElfFile = record { input = input.entry; header = header } in shstr_of file index
         ≡ Ok name.now)) }
-    ensures refused { IfErr result (λ error. MatchResult (header_of input.now) (λ header.
+    ensures failed { IfErr result (λ error. MatchResult (header_of input.now) (λ header.
         let file : ElfFile = record { input = input.entry; header = header } in shstr_of file index
         ≡ Err error) (λ why. why ≡ error)) }
 {
@@ -116,9 +116,9 @@ pub fn string_bytes(input: &[u8]) -> Result<u64, ElfError>
     ensures sum { IfOk result (λ total. IsOkAnd (header_of input.now) (λ header.
         let file : ElfFile = record { input = input.entry; header = header } in
         IsStringTotal file total)) }
-    ensures refused { IfErr result (λ error. MatchResult (header_of input.now) (λ header.
+    ensures failed { IfErr result (λ error. MatchResult (header_of input.now) (λ header.
         let file : ElfFile = record { input = input.entry; header = header } in
-        IsStringRefused file error)
+        IsStringError file error)
         (λ why. why ≡ error)) }
 {
     let file = ElfFile::new(input)?;
@@ -128,7 +128,7 @@ pub fn string_bytes(input: &[u8]) -> Result<u64, ElfError>
 // The same of a file.
 fn string_bytes_of(file: &ElfFile<'_>) -> Result<u64, ElfError>
     ensures sum { IfOk result (IsStringTotal file.now) }
-    ensures refused { IfErr result (IsStringRefused file.now) }
+    ensures failed { IfErr result (IsStringError file.now) }
 {
     let mut total = 0u64;
     for section in file.section_iter() {
@@ -141,7 +141,7 @@ fn string_bytes_of(file: &ElfFile<'_>) -> Result<u64, ElfError>
 fn string_len(file: &ElfFile<'_>, section: &SectionHeader) -> Result<u64, ElfError>
     ensures len { IfOk result (λ len. LiesThere file.now section.now
         × (len ≡ string_size section.now)) }
-    ensures refused { IfErr result (λ error. ¬ LiesThere file.now section.now
+    ensures failed { IfErr result (λ error. ¬ LiesThere file.now section.now
         × (section_data_of file.now section.now ≡ Err error)) }
 {
     match section.get_type() {

@@ -2,7 +2,7 @@
 -- from each are those of glibc 2.36 with Debian's own test of the machine).
 use Rattle.std.specs.Prelude.{ℕ, ◌+◌, ◌*◌, ◌^◌, ◌==◌, ◌&&◌, ◌||◌, not, nat_lt, nat_le, is_err, Bool, List, [], ◌∷◌, ◌++◌, length, slice_index, Result, Ok, Err, if◌then◌else◌}
 use Rattle.elf_base.specs.Number.{number}
-use Rattle.elf_base.specs.Refusal.{and_then, unless}
+use Rattle.elf_base.specs.FirstError.{and_then, unless}
 use Rattle.elf_base.specs.declared.bytes.Order.TheVariants.{Little}
 use Rattle.elf_library.specs.declared.error.HeaderError.{HeaderError}
 use Rattle.elf_library.specs.declared.error.HeaderError.TheVariants as error

@@ -2,7 +2,7 @@
 //! be loaded as one, as `ld.so` of glibc 2.36 decides on Debian.
 
 ghost use Rattle.std.specs.Prelude.{◌≡◌, ◌≤◌, ◌||◌, ◌==◌, Err, Ok, length, not};
-ghost use Rattle.elf_base.specs.Refusal.{and_then, unless};
+ghost use Rattle.elf_base.specs.FirstError.{and_then, unless};
 ghost use Rattle.elf_library.specs.Fits.{are_headers_past, entry_size, first_row, fits_of};
 ghost use Rattle.elf_library.specs.Fits.{given_count, given_offset, given_size, header_size};
 ghost use Rattle.elf_library.specs.Fits.{ident_rows, is_abi, is_abi_version, is_elf};

@@ -5,7 +5,7 @@ use Rattle.std.proofs.lemmas.Slice.Eq.{bytes_eq-Decides}
 use Rattle.std.proofs.Math.Dec.{eqb}
 use Rattle.std.specs.Prelude.{not, ◌&&◌, ◌||◌}
 use Rattle.std.specs.Str.{bytes_eq}
-use Rattle.elf_base.specs.Refusal.{and_then}
+use Rattle.elf_base.specs.FirstError.{and_then}
 use Rattle.elf_linking.specs.Find.{IsAccepted, IsAcceptedBy, accepted, accepts_version, has_no_hash, is_below, is_open, is_version, nameless, same, unnumbered}
 use Rattle.elf_linking.specs.VersionTables.{result_map}
 use Rattle.elf_linking.specs.Versions.{VersionParts, number_of, version_at}

@@ -6,7 +6,7 @@ use Rattle.std.specs.Prelude.{option_map}
 use Rattle.elf_linking.specs.DynamicObject.{object_dynamic_symbols, object_view}
 use Rattle.elf_linking.specs.DynamicView.{is_symbolic, view_entries}
 use Rattle.elf_linking.specs.Find.{FindsRight, IsFound}
-use Rattle.elf_linking.specs.Scope.{IsBoundFor, BindsRightFor, AreGood, BindsReference, BindsRight, GivesAt, HasNamedSymbol, IsBound, IsBoundBy, IsFirstGiven, IsProtectedBound, IsReferenceBound, asked, asked_of, asked_parts, at_home, elsewhere, fails, refused, undefined, unfound, unread, wanted_parts}
+use Rattle.elf_linking.specs.Scope.{IsBoundFor, BindsRightFor, AreGood, BindsReference, BindsRight, GivesAt, HasNamedSymbol, IsBound, IsBoundBy, IsFirstGiven, IsProtectedBound, IsReferenceBound, asked, asked_of, asked_parts, at_home, elsewhere, fails, failed, undefined, unfound, unread, wanted_parts}
 use Rattle.elf_linking.specs.VersionTables.{result_map}
 use Rattle.elf_linking.specs.declared.error.LinkError.{LinkError}
 use Rattle.elf_linking.specs.declared.error.LinkError.TheVariants.{ObjectIndex}
@@ -68,7 +68,7 @@ module _ {E : Type 0} {r : _} (fields : E → SymbolFields) (objects : List (Dyn
     never_at name wanted purpose i error (asked file _ not there (fails _ right)) = right
 
     never_first : (name : List ℕ) (wanted : Wanted) (purpose : uses.Use) (symbolic : Bool) (error : LinkError) → IsFirstGiven (GivesAt FindsRight fields objects name wanted purpose) (length objects) symbolic from (Err error) → ⊥
-    never_first name wanted purpose symbolic error (refused index _ under none there) = never_at name wanted purpose index error there
+    never_first name wanted purpose symbolic error (failed index _ under none there) = never_at name wanted purpose index error there
 
     -- a look-up is no error
     never_bound : (name : List ℕ) (wanted : Wanted) (purpose : uses.Use) (error : LinkError) → IsBoundBy FindsRight fields objects from name wanted purpose (Err error) → ⊥

@@ -8,7 +8,7 @@ use Rattle.elf_base.specs.declared.error.ElfError.{ElfError}
 use Rattle.elf_base.specs.FileHeader.{file_class, file_order}
 use Rattle.elf_base.specs.Table.{table_data, table_order}
 use Rattle.elf_base.specs.declared.bytes.table.Table.{Table}
-use Rattle.elf_linking.specs.DynamicObject.{AreOfClassFor, IsNameAt, IsObjectFor, IsObjectRefusedFor, IsReachedObject, IsReachedRefused, no_part, same_class}
+use Rattle.elf_linking.specs.DynamicObject.{AreOfClassFor, IsNameAt, IsObjectFor, IsObjectErrorFor, IsReachedObject, IsReachedError, no_part, same_class}
 use Rattle.elf_linking.specs.DynamicView.{AreSymbols, as_link_error, counted_symbols_of, dynamic_entries_of, text_in_strings}
 use Rattle.elf_linking.specs.References.{IsReachedCount}
 use Rattle.elf_linking.specs.declared.object.DynamicObject.{DynamicObject}
@@ -47,9 +47,9 @@ count_in count size bytes above whole =
 -- the version tables, or why they are not read, by the bytes of the symbols
 pub versions_by : (file : ElfFile) (entries : List (Dynamic ℕ)) (strings : Result (List ℕ) LinkError) (text : List ℕ) (count size : ℕ) (bytes : List ℕ) (answer : Result VersionTables LinkError) → strings ≡ Ok text → 0 < size → count * size ≡ length bytes
     → version_tables_of file entries strings count ≡ answer → version_tables_of file entries (Ok text) (length bytes / size) ≡ answer
-versions_by file entries strings text count size bytes answer found above whole refused =
+versions_by file entries strings text count size bytes answer found above whole failed =
     subst (λ n. version_tables_of file entries (Ok text) n ≡ answer) (sym (count_in count size bytes above whole))
-    (subst (λ s. version_tables_of file entries s count ≡ answer) found refused)
+    (subst (λ s. version_tables_of file entries s count ≡ answer) found failed)
 
 -- the text that was read is the name of the symbol
 module _ {E : Type 0} (text : E → Option (List ℕ)) (symbol : E) where
@@ -82,6 +82,6 @@ texts_err text symbol at own error found same texts =
 
 -- what is read of a file with as many symbols as are reached
 pub reached : {E : Type 0} → {r : _} → (class size : ℕ) (file : ElfFile) (entries : List (Dynamic ℕ)) (count : ℕ) (found : Result (DynamicObject E r) LinkError) → dynamic_entries_of file ≡ Ok entries → IsReachedCount file entries (Ok count)
-    → MatchResult found (IsObjectFor (Some count) class size file) (IsObjectRefusedFor (Some count) class size file) → MatchResult found (IsReachedObject class size file) (IsReachedRefused class size file)
+    → MatchResult found (IsObjectFor (Some count) class size file) (IsObjectErrorFor (Some count) class size file) → MatchResult found (IsReachedObject class size file) (IsReachedError class size file)
 reached class size file entries count (Ok object) read counts is = record { entries = entries; count = count; entries_are = read; counted = counts; object_is = is }
 reached class size file entries count (Err error) read counts is = no_part entries count error read counts is

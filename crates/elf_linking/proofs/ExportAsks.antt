@@ -7,7 +7,7 @@ use base.SetCodes.{SetCoded-set, coded}
 use base.Stored.{Coded}
 use mathlib.Core.Logic.{∥∥₁_elim}
 use Rattle.std.specs.Coded.{codes}
-use Rattle.elf_base.specs.Refusal.{and_then}
+use Rattle.elf_base.specs.FirstError.{and_then}
 use Rattle.elf_base.specs.Text.{text_of}
 use Rattle.elf_base.specs.declared.error.ElfError.{ElfError}
 use Rattle.elf_linking.specs.AnyTable.{IsGoodBy}

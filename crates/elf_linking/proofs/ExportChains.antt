@@ -8,11 +8,11 @@ use Rattle.std.specs.Option.{option_or}
 use Rattle.std.specs.Prelude.{◌&&◌, ◌||◌, not, filter, find, filter_map, option_map}
 use Rattle.elf_base.specs.declared.error.ElfError.{ElfError}
 use Rattle.elf_base.specs.declared.error.ElfError.TheVariants.{BucketIndex, ChainIndex, ChainSum, HashCycle, HashData}
-use Rattle.elf_base.specs.Refusal.{unless}
+use Rattle.elf_base.specs.FirstError.{unless}
 use Rattle.elf_linking.specs.DynamicView.{as_link_error}
 use Rattle.elf_linking.specs.Exports.{HashChains, SymbolParts, chain_from, exports_below, exports_of, hash_chains, is_held, is_held_as, symbol_parts, symbols_from, symbols_of}
 use Rattle.elf_linking.specs.Find.{DynamicSymbols, Seeks, dynamic_symbols}
-use Rattle.elf_linking.specs.GnuHash.{EndsRun, IsHit, IsThere, LooksWhere, NoHit, Run, Stops, bucket_count_of, bucket_word, chain_word, ended, found, goes, may_hold, no_run, refused, start_at, start_of, symbol_end, too_early}
+use Rattle.elf_linking.specs.GnuHash.{EndsRun, IsHit, IsThere, LooksWhere, NoHit, Run, Stops, bucket_count_of, bucket_word, chain_word, ended, found, goes, may_hold, no_run, failed, start_at, start_of, symbol_end, too_early}
 use Rattle.elf_linking.specs.Layouts.{gnu_hash_number}
 use Rattle.elf_linking.specs.VersionList.{VersionList}
 use Rattle.elf_linking.specs.declared.any_table.AnyTable.{AnyTable}
@@ -26,7 +26,7 @@ use Rattle.xmas_elf.proofs.ChainPaths.{looks_halted}
 use Rattle.xmas_elf.proofs.ChainStarts as starts_at
 use Rattle.xmas_elf.proofs.lemmas.ChainOnce as gabi_once
 use Rattle.xmas_elf.specs.HashTable as gabi
-use Rattle.xmas_elf.specs.HashTable.{Comes, NoneBefore, StandsAt, at_end, bad_bucket, endless, no_bucket, past_chains, past_symbols, reaches, starts, too_many}
+use Rattle.xmas_elf.specs.HashTable.{Comes, NoneBefore, IsFoundAt, at_end, bad_bucket, endless, no_bucket, past_chains, past_symbols, reaches, starts, too_many}
 use Rattle.xmas_elf.specs.Symbol.{Symbols}
 use Rattle.xmas_elf.specs.Types.{HashTable}
 
@@ -203,7 +203,7 @@ module _ {E : Type 0} (table : GnuHashTable) (symbols : Symbols E) (versions : V
         step d i (from + suc d) (part (i, e)) (passes_to d (omega arith)) (omega arith) (symbol_at file i e at) (not_true (passes (part (i, e))) (λ is. missed i e (omega arith) (omega arith) (passes_hit i e at there is))) next
 
     stop_first : may_hold table (gnu_hash_number name) ≡ true → (n : ℕ) (answer : Result (Option (ℕ × E)) LinkError) → Stops P (gnu_hash_number name) table symbols.items last answer n → (o : Option (ℕ × E)) → answer ≡ Ok o → searched chains.next all passes (length all) from ≡ option_map part o
-    stop_first may _ _ (refused error lacks) o is = absurd (cc)
+    stop_first may _ _ (failed error lacks) o is = absurd (cc)
     stop_first may _ _ (found e hit) o is = by (length all - (last - from) - 1) (omega (arith, length_of file, within last hit.there)) ∙ same
       where
         by : (m : ℕ) → length all ≡ (last - from) + suc m → searched chains.next all passes (length all) from ≡ Some (part (last, e))
@@ -295,7 +295,7 @@ module _ {E : Type 0} (table : HashTable) (symbols : Symbols E) (versions : Vers
         (chain_value table i j l.next)
 
     -- a look-up that ends has passed fewer symbols than there are
-    few : (o : Option (ℕ × E)) (k : ℕ) → gabi.LooksFrom P links (Some (Ok first)) (Ok o) k → (n i : ℕ) (e : E) → Comes links first n i → NoneBefore P links first n → StandsAt links i e → n < length symbols.items
+    few : (o : Option (ℕ × E)) (k : ℕ) → gabi.LooksFrom P links (Some (Ok first)) (Ok o) k → (n i : ℕ) (e : E) → Comes links first n i → NoneBefore P links first n → IsFoundAt links i e → n < length symbols.items
     few o k looks n i e c none stands = elim (cases_lt n (length symbols.items)) [
       | inl below ↦ below
       | inr past ↦ absurd (
@@ -323,7 +323,7 @@ module _ {E : Type 0} (table : HashTable) (symbols : Symbols E) (versions : Vers
         searched_to n i (suc (length all' - n - 1)) c none (omega (arith, length_of file')) ∙ searched_hit chains'.next all' passes' (length all' - n - 1) i (part' (i, e)) stands.not_end (symbol_at file' i e stands.symbol) (stands_passes i e stands.symbol holds) ∙ ap (option_map part') one
     stop_first' n _ _ _ c none (past_chains i above past) o is = absurd (cc)
     stop_first' n _ _ _ c none (past_symbols i above below absent) o is = absurd (cc)
-    stop_first' n _ _ _ c none (gabi.refused i e error stands misses refuses) o is = absurd (cc)
+    stop_first' n _ _ _ c none (gabi.failed i e error stands misses fails) o is = absurd (cc)
 
   sysv_first : (start : Option (Result ℕ ElfError)) → gabi.start_of table name ≡ start → (n : ℕ) (answer : Result (Option (ℕ × E)) ElfError) → gabi.LooksFrom P links start answer n → (o : Option (ℕ × E)) → answer ≡ Ok o → find t (exports_of file') ≡ option_map part' o
   sysv_first _ begun _ _ no_bucket o is = go (cases_eq (gabi.bucket_count_of table) 0) ∙ ap (option_map part') (let one : None ≡ o = cc in one)

@@ -11,7 +11,7 @@ use base.SetCodes.{SetCoded-set, coded}
 use base.Stored.{Coded}
 use mathlib.Core.Logic.{∥∥₁_elim}
 use Rattle.std.specs.Coded.{codes}
-use Rattle.elf_base.specs.Refusal.{and_then}
+use Rattle.elf_base.specs.FirstError.{and_then}
 use Rattle.elf_linking.specs.AnyTable.{IsGoodBy}
 use Rattle.elf_linking.specs.Checked.{accepts, default_of, found_fields, found_in, found_parts, is_candidate, is_name, is_shown, is_version_name, lacks_hash, only}
 use Rattle.elf_linking.specs.Exports.{SymbolParts, exports_of, symbol_parts, version_in, version_name}
@@ -117,17 +117,17 @@ module _ {E : Type 0} (file : DynamicSymbols E) (readable : AreReadable file) (n
   candidate_tells : (i : ℕ) (e : E) → (file.symbols.text e ≡ Some name) × (serves purpose (file.symbols.fields e) ≡ true) → is_candidate name purpose (part (i, e)) ≡ true
   candidate_tells i e (named, served) = and_true (is_name name (file.symbols.text e)) (serves purpose (file.symbols.fields e)) (some_is_name name (file.symbols.text e) named) served
 
-  not_refuses : (b : Bool) (answer : Result Bool LinkError) → answer ≡ Ok b → answer ≢ Ok false → b ≡ true
-  not_refuses true answer is other = refl
-  not_refuses false answer is other = absurd (other is)
+  not_fails : (b : Bool) (answer : Result Bool LinkError) → answer ≡ Ok b → answer ≢ Ok false → b ≡ true
+  not_fails true answer is other = refl
+  not_fails false answer is other = absurd (other is)
 
   asked_test : IsTestOf file name (IsAsked file name wanted purpose) is_wanted
   asked_test = record {
     named = λ s is. candidate_named s (both_true (is_candidate name purpose s) (accepts wanted s.version) is).0;
     tells = λ i e at asked. and_true (is_candidate name purpose (part (i, e))) (accepts wanted (part (i, e)).version) (candidate_tells i e asked.0)
-        (not_refuses (accepts wanted (part (i, e)).version) (accepted file.versions wanted i) (accepted_is wanted i (slice_get_within file.symbols.items i e at)) asked.1);
+        (not_fails (accepts wanted (part (i, e)).version) (accepted file.versions wanted i) (accepted_is wanted i (slice_get_within file.symbols.items i e at)) asked.1);
     told = λ i e at is. (let (candidate, accepting) = both_true (is_candidate name purpose (part (i, e))) (accepts wanted (part (i, e)).version) is in
-        (candidate_told i e candidate, λ refuses. (let one = accepted_is wanted i (slice_get_within file.symbols.items i e at) in cc)));
+        (candidate_told i e candidate, λ fails. (let one = accepted_is wanted i (slice_get_within file.symbols.items i e at) in cc)));
   }
 
   -- a candidate whose version isn't hidden, for a reference without a version

@@ -23,7 +23,7 @@ use Rattle.elf_records.specs.HashNumber.{hash_number}
 use Rattle.xmas_elf.proofs.ChainPaths.{apart_before, by_order, comes_same, end_links, goes_on}
 use Rattle.xmas_elf.proofs.ChainStarts as starts_at
 use Rattle.xmas_elf.specs.HashTable as gabi
-use Rattle.xmas_elf.specs.HashTable.{Chains, Comes, StandsAt}
+use Rattle.xmas_elf.specs.HashTable.{Chains, Comes, IsFoundAt}
 use Rattle.xmas_elf.specs.Symbol.{IsGlobal, Symbols}
 use Rattle.xmas_elf.specs.Types.{HashTable}
 
@@ -102,7 +102,7 @@ module _ {E : Type 0} (i : ℕ) (e : E) (name : List ℕ) where
         let (j, link) = goes_on links first m 0 n i ends before comes in
         let new : (k : ℕ) → k < m → Comes links first k 0 → ⊥ = λ k under at. (let (x, further) = goes_on links first m 0 k 0 ends under at in end_links links 0 x refl further) in
         let apart = apart_before links first m 0 (m + 1) ends new (omega arith) in
-        let stands : StandsAt links i e = record { not_end = global.not_first; below = link.stands.below; symbol = global.stands } in (
+        let stands : IsFoundAt links i e = record { not_end = global.not_first; below = link.stands.below; symbol = global.stands } in (
           n + 1,
           (
             Ok (Some (i, e)),

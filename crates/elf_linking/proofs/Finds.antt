@@ -15,7 +15,7 @@ use Rattle.elf_linking.specs.declared.find.Use as uses
 use Rattle.elf_linking.specs.declared.find.Wanted.{Wanted}
 use Rattle.elf_linking.proofs.AnyTables.{looks_once_by}
 use Rattle.elf_linking.proofs.Looks as gnu
-use Rattle.elf_linking.proofs.VersionsRead.{accepted_read, not_refused}
+use Rattle.elf_linking.proofs.VersionsRead.{accepted_read, not_failed}
 use Rattle.xmas_elf.specs.HashTable.{FindsAllWhere, start_of}
 use Rattle.xmas_elf.specs.Symbol.{Symbols}
 use Rattle.xmas_elf.proofs.ChainFinds as chain_finds
@@ -108,6 +108,6 @@ module _ {E : Type 0} (file : DynamicSymbols E) (name : List ℕ) (wanted : Want
       go (Ok b) read =
           let here : answer ≡ Ok (Some at) = is ∙ ap (result_map (λ _. Some at)) read in
           subst (FindsRight file name wanted purpose) (sym here) (asked_first at (Ok (Some at)) found (sym here ∙ is))
-      go (Err error) read = absurd (not_refused _ (accepted_read file readable wanted at.0 (slice_get_within _ _ _ found.1)) error read)
+      go (Err error) read = absurd (not_failed _ (accepted_read file readable wanted at.0 (slice_get_within _ _ _ found.1)) error read)
   found_right _ (faulty error seeks) = absurd (finds (IsAsked file name wanted purpose) (Err error) seeks)
   found_right _ (otherwise found seeks default) = otherwise found (finds (IsAsked file name wanted purpose) (Ok None) seeks) (default_right found default)

@@ -2,7 +2,7 @@
 use Rattle.std.proofs.Common.{◌≡◌, ◌≢◌, ◌+◌, ◌<◌, ◌≤◌, ℕ, ◌⊎◌, inl, inr, Result, Ok, Err, refl, sym, ap, ◌∙◌, subst, arith, below_more}
 use Rattle.std.proofs.lemmas.Bool.{cases_lt, cases_order, le-ltb}
 use Rattle.std.specs.Prelude.{IfOk, if◌then◌else◌, nat_lt, Bool, true, false, length}
-use Rattle.elf_linking.specs.GnuCount.{CountStops, GoesTo, IsAboveRuns, IsGnuCount, IsLastRun, IsReachedByRun, counted, ended, no_run, refused, too_long}
+use Rattle.elf_linking.specs.GnuCount.{CountStops, GoesTo, IsAboveRuns, IsGnuCount, IsLastRun, IsReachedByRun, counted, ended, no_run, failed, too_long}
 use Rattle.elf_linking.specs.GnuHash.{EndsRun, HasChain, bucket_word, chain_of, chain_place, chain_word, first_symbol_of, gnu_data}
 use Rattle.elf_linking.specs.declared.error.LinkError.{LinkError}
 use Rattle.elf_linking.specs.declared.error.LinkError.TheVariants.{ChainData, ChainIndex}
@@ -14,16 +14,16 @@ pub record LastRunBelow (table : GnuHashTable) (n from : ℕ) : Type 0 where
   pub begins : from ≢ 0 → (k : ℕ) × (k < n) × (bucket_word table k ≡ from)
 
 -- if neither condition holds, there is no error
-unrefused : (a b : Bool) (word : ℕ) (error : LinkError) → a ≡ false → b ≡ false → (if a then Err ChainIndex else (if b then Err ChainData else Ok word)) ≡ Err error → ⊥
-unrefused false false word error e f g = cc
-unrefused true b word error e f g = cc
-unrefused false true word error e f g = cc
+without_error : (a b : Bool) (word : ℕ) (error : LinkError) → a ≡ false → b ≡ false → (if a then Err ChainIndex else (if b then Err ChainData else Ok word)) ≡ Err error → ⊥
+without_error false false word error e f g = cc
+without_error true b word error e f g = cc
+without_error false true word error e f g = cc
 
 -- a chain word within the data has no error
-there_refused : (table : GnuHashTable) (i : ℕ) (error : LinkError) → HasChain table i → chain_of table i ≡ Err error → ⊥
+there_failed : (table : GnuHashTable) (i : ℕ) (error : LinkError) → HasChain table i → chain_of table i ≡ Err error → ⊥
 unfolding chain_of
-there_refused table i error there =
-    unrefused (nat_lt i (first_symbol_of table)) (nat_lt (length (gnu_data table)) (chain_place table i + 4)) (chain_word table i) error
+there_failed table i error there =
+    without_error (nat_lt i (first_symbol_of table)) (nat_lt (length (gnu_data table)) (chain_place table i + 4)) (chain_word table i) error
     (le-ltb i (first_symbol_of table) there.0) (le-ltb (length (gnu_data table)) (chain_place table i + 4) there.1)
 
 module _ (table : GnuHashTable) where
@@ -68,21 +68,21 @@ module _ (table : GnuHashTable) where
   -- a count doesn't continue from where it stops
   stop_passed : (i last : ℕ) (answer : Result ℕ LinkError) → CountStops table i answer → i < last → HasChain table i → (EndsRun table i → ⊥) → (other : Result ℕ LinkError) → CountStops table last other → ⊥
   stop_passed i last _ (ended small word ends) before there on other stop = on ends
-  stop_passed i last _ (refused error small is) before there on other stop = there_refused table i error there is
+  stop_passed i last _ (failed error small is) before there on other stop = there_failed table i error there is
   stop_passed i last _ (too_long large) before there on _ (ended small word ends) = omega arith
-  stop_passed i last _ (too_long large) before there on _ (refused error small is) = omega arith
+  stop_passed i last _ (too_long large) before there on _ (failed error small is) = omega arith
   stop_passed i last _ (too_long large) before there on _ (too_long large') = omega arith
 
   -- a count has only one result where it stops
   stops_once : (i : ℕ) (one other : Result ℕ LinkError) → CountStops table i one → CountStops table i other → one ≡ other
   stops_once i _ _ (ended small word ends) (ended small' word' ends') = refl
-  stops_once i _ _ (ended small word ends) (refused error small' is) = absurd (there_refused table i error word is)
+  stops_once i _ _ (ended small word ends) (failed error small' is) = absurd (there_failed table i error word is)
   stops_once i _ _ (ended small word ends) (too_long large) = absurd (omega arith)
-  stops_once i _ _ (refused error small is) (ended small' word ends) = absurd (there_refused table i error word is)
-  stops_once i _ _ (refused error small is) (refused error' small' is') = ap (λ x. Err x) (let same : Err error ≡ Err error' = sym is ∙ is' in cc)
-  stops_once i _ _ (refused error small is) (too_long large) = absurd (omega arith)
+  stops_once i _ _ (failed error small is) (ended small' word ends) = absurd (there_failed table i error word is)
+  stops_once i _ _ (failed error small is) (failed error' small' is') = ap (λ x. Err x) (let same : Err error ≡ Err error' = sym is ∙ is' in cc)
+  stops_once i _ _ (failed error small is) (too_long large) = absurd (omega arith)
   stops_once i _ _ (too_long large) (ended small word ends) = absurd (omega arith)
-  stops_once i _ _ (too_long large) (refused error small is) = absurd (omega arith)
+  stops_once i _ _ (too_long large) (failed error small is) = absurd (omega arith)
   stops_once i _ _ (too_long large) (too_long large') = refl
 
   -- a count from an index on has only one result
@@ -132,7 +132,7 @@ module _ (table : GnuHashTable) where
           let h : bucket_word table reached.bucket ≤ from = last.each reached.bucket reached.below in
           let h' : from ≤ at = goes.ordered in
           absurd (reached.goes.goes_on at (omega (arith, h, h')) past ends)
-      go _ is (refused error small lacks) side = absurd (cc)
+      go _ is (failed error small lacks) side = absurd (cc)
       go _ is (too_long large) side = absurd (cc)
 
   pub count_above : (answer : Result ℕ LinkError) → IsGnuCount table answer → IfOk answer (IsAboveRuns table)

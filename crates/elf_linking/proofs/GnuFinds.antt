@@ -1,7 +1,7 @@
 -- A search by GNU's table comes to an index: what a look-up for a property says there.
 use Rattle.std.proofs.Common.{◌≡◌, ℕ, ◌+◌, ◌-◌, ◌/◌, ◌≤◌, ◌⊎◌, inl, inr, List, Option, Some, None, Result, Ok, Err, refl, sym, subst, slice_get, arith}
 use Rattle.elf_linking.specs.Find.{DynamicSymbols, IsAsked, IsFound, Seeks, asked_first, dynamic_symbols, faulty}
-use Rattle.elf_linking.specs.GnuHash.{EndsRun, IsThere, Lacks, NoHit, Run, Stops, chain_word, ended, first_symbol_of, found, goes, refused, start_of}
+use Rattle.elf_linking.specs.GnuHash.{EndsRun, IsThere, Lacks, NoHit, Run, Stops, chain_word, ended, first_symbol_of, found, goes, failed, start_of}
 use Rattle.elf_linking.specs.Layouts.{gnu_hash_number}
 use Rattle.elf_linking.specs.Kept.{EndsAt, GoesOn, kept_alone}
 use Rattle.elf_linking.specs.VersionList.{VersionList}
@@ -61,7 +61,7 @@ module _ {E : Type 0} (table : GnuHashTable) (symbols : Symbols E) (versions : V
       found_here there agrees answer at = asked_first (i, at.entry) answer (seeks_hit there agrees (IsAsked file name wanted purpose) at.entry at.symbol at.asked comes.asked) at.is_answer
 
       pub found_fault : (error : LinkError) → Lacks table symbols.items i error → IsFound file name wanted purpose (Err error)
-      found_fault error lacks = faulty error (seeks_by (IsAsked file name wanted purpose) (Err error) 0 comes.asked (refused error lacks))
+      found_fault error lacks = faulty error (seeks_by (IsAsked file name wanted purpose) (Err error) 0 comes.asked (failed error lacks))
 
     -- the search has passed index i, where the run ends
     pub found_last : (wanted : Wanted) (purpose : uses.Use) (kept : Kept E) → IsThere table symbols.items i → EndsRun table i → Comes file name wanted purpose (MissedUpTo (i + 1)) kept → IsFound file name wanted purpose (Ok (kept_alone kept))

@@ -79,7 +79,7 @@ module _ {E : Type 0} (file : DynamicSymbols E) (name : List ℕ) (wanted : Want
       asked = miss (IsAsked file name wanted purpose) (λ e at asked. (none e at).0 asked) comes.asked;
       kept_so = over Past Next kept (λ but. miss (Shown but) (λ e at shown. (none e at).1 (at_any but (i, e) shown))) comes.kept_so;
     }
-    comes_next kept _ (keeps e at refused shown) comes = record {
-      asked = miss (IsAsked file name wanted purpose) (λ d at' asked. (let same : d ≡ e = cc in refused (subst (λ x. IsAsked file name wanted purpose (i, x)) same asked))) comes.asked;
+    comes_next kept _ (keeps e at failed shown) comes = record {
+      asked = miss (IsAsked file name wanted purpose) (λ d at' asked. (let same : d ≡ e = cc in failed (subst (λ x. IsAsked file name wanted purpose (i, x)) same asked))) comes.asked;
       kept_so = with_one kept e at shown comes.kept_so;
     }

@@ -39,7 +39,7 @@ mod Scopes
 mod Questions
 mod Bindings
 pub mod DynamicObjects
-pub mod ObjectRefusals
+pub mod ObjectErrors
 pub mod VersionChecks
 mod VersionCounts
 pub mod ExportSearch

@@ -3,7 +3,7 @@ use Rattle.std.proofs.Common.{◌≡◌, ◌≢◌, ◌%◌, ◌<◌, ◌≤◌,
 use Rattle.std.proofs.Math.Dec.{eqb}
 use Rattle.std.proofs.lemmas.Bool.{cases_order, eqb-false}
 use Rattle.std.specs.Prelude.{◌||◌, not, if◌then◌else◌}
-use Rattle.elf_linking.specs.GnuHash.{AreGoodBelow, Ends, EndsRun, FindsAllWhere, IsBucketGood, IsExported, IsGood, IsHeld, IsHit, LooksFrom, LooksWhere, NoHit, Run, Stops, bucket_count_of, bucket_word, ended, first_symbol_of, found, goes, may_hold, no_run, refused, start_at, start_of, too_early}
+use Rattle.elf_linking.specs.GnuHash.{AreGoodBelow, Ends, EndsRun, FindsAllWhere, IsBucketGood, IsExported, IsGood, IsHeld, IsHit, LooksFrom, LooksWhere, NoHit, Run, Stops, bucket_count_of, bucket_word, ended, first_symbol_of, found, goes, may_hold, no_run, failed, start_at, start_of, too_early}
 use Rattle.elf_linking.specs.Layouts.{gnu_hash_number}
 use Rattle.elf_linking.specs.declared.error.LinkError.{LinkError}
 use Rattle.elf_linking.specs.declared.gnu_hash.GnuHashTable.{GnuHashTable}
@@ -90,7 +90,7 @@ module _ {E : Type 0} (P : ℕ × E → Type 0) (table : GnuHashTable) (symbols 
       (omega arith, omega arith, hit.symbol, hit.holds)
   stop_finds from last _ _ above begins run_ends starts good run missed (ended there ends none) =
       λ (i, e, exported, holds). missed_all from last starts good run missed ends none i e exported holds
-  stop_finds from last _ _ above begins run_ends starts good run missed (refused error lacks) =
+  stop_finds from last _ _ above begins run_ends starts good run missed (failed error lacks) =
       ends_cut table symbols.items from error run_ends (record { last = last; run = run; lacks = lacks })
 
   -- in a good table a look-up has no error and finds what must be found

@@ -2,7 +2,7 @@
 -- same look-up, wherever the texts lie.
 use Rattle.std.proofs.Common.{◌≡◌, ℕ, ◌<◌, ◌==◌, Bool, true, false, List, length, Option, Some, None, Result, Ok, Err, IfSome, IsOk, IsOkAnd, IsSomeAnd, slice_get, refl, if◌then◌else◌}
 use Rattle.std.proofs.lemmas.Option.{slice_get_within}
-use Rattle.elf_base.specs.Refusal.{and_then}
+use Rattle.elf_base.specs.FirstError.{and_then}
 use Rattle.elf_base.specs.Table.{table_items}
 use Rattle.elf_linking.specs.DynamicObject.{object_dynamic_symbols, object_machine, object_name, object_records, object_versions}
 use Rattle.elf_linking.specs.Find.{AreReadable, DynamicSymbols, IsFound, asked_first, faulty, none_shown, one_shown, otherwise, two_shown}

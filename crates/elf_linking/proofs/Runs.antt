@@ -1,7 +1,7 @@
 -- The runs of a GNU hash table, index by index.
 use Rattle.std.proofs.Common.{◌≡◌, ◌+◌, ◌-◌, ◌<◌, ◌≤◌, ℕ, ◌⊎◌, inl, inr, List, Option, Some, Result, Ok, Err, slice_get, length, refl, sym, ap, subst, arith, below_more}
 use Rattle.std.proofs.lemmas.Bool.{cases_lt, cases_order}
-use Rattle.elf_linking.specs.GnuHash.{ComeFrom, Ends, EndsRun, IsCut, IsHit, IsThere, Lacks, LooksFrom, NoHit, Run, Stops, chain_place, ended, first_symbol_of, found, gnu_data, no_symbol, no_word, refused, symbol_end}
+use Rattle.elf_linking.specs.GnuHash.{ComeFrom, Ends, EndsRun, IsCut, IsHit, IsThere, Lacks, LooksFrom, NoHit, Run, Stops, chain_place, ended, first_symbol_of, found, gnu_data, no_symbol, no_word, failed, symbol_end}
 use Rattle.elf_linking.specs.declared.error.LinkError.{LinkError}
 use Rattle.elf_linking.specs.declared.error.LinkError.TheVariants.{SymbolIndex}
 use Rattle.elf_linking.specs.declared.gnu_hash.GnuHashTable.{GnuHashTable}
@@ -116,7 +116,7 @@ module _ {E : Type 0} (table : GnuHashTable) (symbols : List E) where
       only i run (inr before) = absurd (stops (run.there index before (omega arith)) (run.goes_on index before (omega arith)))
 
   module _ (P : ℕ × E → Type 0) (h : ℕ) where
-    -- if there are no more symbols, a look-up is refused
+    -- if there are no more symbols, a look-up has an error
     pub looks_past : (from index n : ℕ) → Run table symbols from index → NoHit P h table symbols from index → symbol_end symbols ≤ index → (from ≤ symbol_end symbols → index ≤ symbol_end symbols) → n ≡ symbol_end symbols - from → LooksFrom P h table symbols from (Err SymbolIndex) n
     looks_past from index n run missed past within counted = go (cases_lt (symbol_end symbols) from)
       where
@@ -126,7 +126,7 @@ module _ {E : Type 0} (table : GnuHashTable) (symbols : List E) where
           here = 0;
           run = run_first from;
           missed = λ i e above below hit. absurd (omega arith);
-          stop = refused SymbolIndex (no_symbol (omega arith));
+          stop = failed SymbolIndex (no_symbol (omega arith));
           counted = omega arith;
         }
         go (inr in_) =
@@ -136,7 +136,7 @@ module _ {E : Type 0} (table : GnuHashTable) (symbols : List E) where
               here = 0;
               run = run;
               missed = missed;
-              stop = refused SymbolIndex (no_symbol past);
+              stop = failed SymbolIndex (no_symbol past);
               counted = omega arith;
             }
 
@@ -149,7 +149,7 @@ module _ {E : Type 0} (table : GnuHashTable) (symbols : List E) where
     pub stop_passed : (i n : ℕ) (a : Result (Option (ℕ × E)) LinkError) → Stops P h table symbols i a n → IsThere table symbols i → (EndsRun table i → ⊥) → ((e : E) → IsHit P h table symbols i e → ⊥) → ⊥
     stop_passed i _ _ (found e hit) there on no_hit = no_hit e hit
     stop_passed i _ _ (ended there ends none) there' on no_hit = on ends
-    stop_passed i _ _ (refused error lacks) there on no_hit = there_lacks i error there lacks
+    stop_passed i _ _ (failed error lacks) there on no_hit = there_lacks i error there lacks
 
     -- a look-up has only one result where it stops
     pub stops_once : (i n m : ℕ) (a b : Result (Option (ℕ × E)) LinkError) → Stops P h table symbols i a n → Stops P h table symbols i b m → (a ≡ b) × (n ≡ m)
@@ -159,13 +159,13 @@ module _ {E : Type 0} (table : GnuHashTable) (symbols : List E) where
         let same : e ≡ d = cc in
         (ap (λ x. Ok (Some (i, x))) same, refl)
     stops_once i _ _ _ _ (found e hit) (ended there ends none) = absurd (none e hit)
-    stops_once i _ _ _ _ (found e hit) (refused error lacks) = absurd (there_lacks i error hit.there lacks)
+    stops_once i _ _ _ _ (found e hit) (failed error lacks) = absurd (there_lacks i error hit.there lacks)
     stops_once i _ _ _ _ (ended there ends none) (found e hit) = absurd (none e hit)
     stops_once i _ _ _ _ (ended there ends none) (ended there' ends' none') = (refl, refl)
-    stops_once i _ _ _ _ (ended there ends none) (refused error lacks) = absurd (there_lacks i error there lacks)
-    stops_once i _ _ _ _ (refused error lacks) (found e hit) = absurd (there_lacks i error hit.there lacks)
-    stops_once i _ _ _ _ (refused error lacks) (ended there ends none) = absurd (there_lacks i error there lacks)
-    stops_once i _ _ _ _ (refused error lacks) (refused error' lacks') = (ap (λ x. Err x) (lacks_once i error error' lacks lacks'), refl)
+    stops_once i _ _ _ _ (ended there ends none) (failed error lacks) = absurd (there_lacks i error there lacks)
+    stops_once i _ _ _ _ (failed error lacks) (found e hit) = absurd (there_lacks i error hit.there lacks)
+    stops_once i _ _ _ _ (failed error lacks) (ended there ends none) = absurd (there_lacks i error there lacks)
+    stops_once i _ _ _ _ (failed error lacks) (failed error' lacks') = (ap (λ x. Err x) (lacks_once i error error' lacks lacks'), refl)
 
     -- a look-up from an index on has only one result
     pub looks_from_once : (from n m : ℕ) (a b : Result (Option (ℕ × E)) LinkError) → LooksFrom P h table symbols from a n → LooksFrom P h table symbols from b m → (a ≡ b) × (n ≡ m)

@@ -8,7 +8,7 @@ use Rattle.std.specs.Slice.{IsItemAt}
 use Rattle.elf_linking.specs.DynamicObject.{object_view}
 use Rattle.elf_linking.specs.DynamicView.{is_symbolic, view_entries}
 use Rattle.elf_linking.specs.Find.{DynamicSymbols}
-use Rattle.elf_linking.specs.Scope.{Gives, GivesAt, IsBoundBy, IsFirstGiven, NoneBefore, asked, fails, given, is_passed_over, lacks, nowhere, passed_over, refused, serves, serves_none, symbols_at}
+use Rattle.elf_linking.specs.Scope.{Gives, GivesAt, IsBoundBy, IsFirstGiven, NoneBefore, asked, fails, given, is_passed_over, lacks, nowhere, passed_over, failed, serves, serves_none, symbols_at}
 use Rattle.elf_linking.specs.Serves.{if_serving, serves_others}
 use Rattle.elf_linking.specs.VersionTables.{result_map}
 use Rattle.elf_linking.specs.declared.error.LinkError.{LinkError}
@@ -31,7 +31,7 @@ module _ {E : Type 0} (Gives : ℕ → Result (Option (ℕ × E)) LinkError → 
     first_some at is = given _ below none (subst (Gives index) is gives)
 
     pub first_error : (error : LinkError) → result ≡ Err error → IsFirstGiven Gives count symbolic from (Err error)
-    first_error error is = refused index error below none (subst (Gives index) is gives)
+    first_error error is = failed index error below none (subst (Gives index) is gives)
 
   -- no object comes before one that is asked first
   pub none_before : NoneBefore Gives true from from
@@ -49,13 +49,13 @@ module _ {E : Type 0} (Gives : ℕ → Result (Option (ℕ × E)) LinkError → 
     pub after_own : (answer : Result (Option (Bound E)) LinkError) → IsFirstGiven Gives count false from answer → IsFirstGiven Gives count true from answer
     after_own _ (given bound below none there) = given bound below (before_all bound.object none) there
     after_own _ (nowhere none) = nowhere none
-    after_own _ (refused index error below none there) = refused index error below (before_all index none) there
+    after_own _ (failed index error below none there) = failed index error below (before_all index none) there
 
 -- if what one object gives is what it gives in other words, so is what the first gives
 pub first_so : {E : Type 0} (Gives Others : ℕ → Result (Option (ℕ × E)) LinkError → Type 0) (count : ℕ) (symbolic : Bool) (from : ℕ) → ((i : ℕ) (answer : Result (Option (ℕ × E)) LinkError) → Gives i answer → Others i answer) → (answer : Result (Option (Bound E)) LinkError) → IsFirstGiven Gives count symbolic from answer → IsFirstGiven Others count symbolic from answer
 first_so Gives Others count symbolic from so _ (given bound below none there) = given bound below (λ i before. so i (Ok None) (none i before)) (so bound.object _ there)
 first_so Gives Others count symbolic from so _ (nowhere none) = nowhere (λ i below. so i (Ok None) (none i below))
-first_so Gives Others count symbolic from so _ (refused index error below none there) = refused index error below (λ i before. so i (Ok None) (none i before)) (so index (Err error) there)
+first_so Gives Others count symbolic from so _ (failed index error below none there) = failed index error below (λ i before. so i (Ok None) (none i before)) (so index (Err error) there)
 
 -- what an object gives, by the one thing that a search in it finds
 module _ {E : Type 0} (Finds : DynamicSymbols E → Result (Option (ℕ × E)) LinkError → Type 0) (file : DynamicSymbols E) where

@@ -1,6 +1,6 @@
 -- The symbols of a dynamic segment with their names, or why there are none.
 use Rattle.std.proofs.Common.{◌≡◌, ℕ, List, Result, Ok, Err, refl, ap, ◌∙◌}
-use Rattle.elf_base.specs.Refusal.{and_then}
+use Rattle.elf_base.specs.FirstError.{and_then}
 use Rattle.elf_linking.specs.DynamicView.{counted_symbols_of, dynamic_entries_of, strings_by}
 use Rattle.elf_linking.specs.FileSymbols.{AreSegmentSymbols, counted}
 use Rattle.elf_linking.specs.References.{IsReachedCount}

@@ -2,8 +2,8 @@
 -- same.
 use Rattle.std.proofs.Common.{◌≡◌, ◌+◌, ◌*◌, ◌%◌, ◌<◌, ◌≤◌, ℕ, List, length, Result, Ok, Err, sym, ap, ◌∙◌, subst}
 use Rattle.std.specs.Prelude.{ok_or}
-use Rattle.elf_base.specs.Refusal.{and_then}
-use Rattle.elf_linking.specs.GnuCount.{CountStops, GoesTo, IsGnuCount, IsLastRun, counted, ended, no_run, refused, too_long}
+use Rattle.elf_base.specs.FirstError.{and_then}
+use Rattle.elf_linking.specs.GnuCount.{CountStops, GoesTo, IsGnuCount, IsLastRun, counted, ended, no_run, failed, too_long}
 use Rattle.elf_linking.specs.DynamicView.{AreSymbols, IsSymbolCount, by_gnu, by_hash, gnu_hash_table_of, no_table, number_with}
 use Rattle.elf_linking.specs.GnuHash.{EndsRun, HasChain, bucket_count_of, bucket_word, chain_of, chain_place, chain_word, first_symbol_of, gnu_class, gnu_data, gnu_order}
 use Rattle.elf_linking.specs.Loaded.{bytes_at_of}
@@ -54,7 +54,7 @@ module _ (one other : GnuHashTable) (bytes : gnu_data one ≡ gnu_data other) (c
 
   stops : (i : ℕ) (answer : Result ℕ LinkError) → CountStops one i answer → CountStops other i answer
   stops i _ (ended small word ends) = ended small (has_chain i word) (ap (λ w. w % 2) (sym (same_word i)) ∙ ends)
-  stops i _ (refused error small is) = refused error small (sym (same_chain i) ∙ is)
+  stops i _ (failed error small is) = failed error small (sym (same_chain i) ∙ is)
   stops i _ (too_long large) = too_long large
 
   last_run : (from : ℕ) → IsLastRun one from → IsLastRun other from

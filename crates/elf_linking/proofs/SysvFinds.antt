@@ -12,7 +12,7 @@ use Rattle.elf_linking.specs.declared.find.Use as uses
 use Rattle.elf_linking.specs.declared.find.Wanted.{Wanted}
 use Rattle.elf_linking.specs.declared.find.kept.Kept.{Kept}
 use Rattle.elf_linking.proofs.Kept as search
-use Rattle.xmas_elf.specs.HashTable.{Chains, Comes, Halts, LooksFrom, NoneBefore, StandsAt, at_end, bad_bucket, chain_of, chains_of, found, no_bucket, refused, start_of}
+use Rattle.xmas_elf.specs.HashTable.{Chains, Comes, Halts, LooksFrom, NoneBefore, IsFoundAt, at_end, bad_bucket, chain_of, chains_of, found, no_bucket, failed, start_of}
 use Rattle.xmas_elf.specs.Symbol.{Symbols}
 use Rattle.xmas_elf.specs.Types.{HashTable}
 use Rattle.xmas_elf.proofs.ChainPaths.{by_order, comes_same, looks, looks_halted}
@@ -50,7 +50,7 @@ module _ {E : Type 0} (table : HashTable) (symbols : Symbols E) (versions : Vers
           (λ earlier. missed m earlier x e at stands holds)
           (λ later. omega arith)
 
-      seeks_hit : (d : E) → StandsAt chains i d → (P : ℕ × E → Type 0) (e : E) → slice_get symbols.items i ≡ Some e → P (i, e) → MissedIn n P → Seeks P file name (Ok (Some (i, e)))
+      seeks_hit : (d : E) → IsFoundAt chains i d → (P : ℕ × E → Type 0) (e : E) → slice_get symbols.items i ≡ Some e → P (i, e) → MissedIn n P → Seeks P file name (Ok (Some (i, e)))
       seeks_hit d stands P e symbol holds missed =
           seeks_from (Some (Ok first)) starts P (Ok (Some (i, e))) (n + 1) (looks P chains first i n 1 (n + 1) (Ok (Some (i, e))) comes missed
           (found i e (record { not_end = stands.not_end; below = stands.below; symbol = symbol }) holds) refl)
@@ -61,10 +61,10 @@ module _ {E : Type 0} (table : HashTable) (symbols : Symbols E) (versions : Vers
 
       -- the search comes to index i in n steps
       module _ (wanted : Wanted) (purpose : uses.Use) (kept : Kept E) (at : search.Comes file name wanted purpose (MissedIn n) kept) where
-        pub goes_behind : (d : E) → StandsAt chains i d → (next : Kept E) → GoesOn file name wanted purpose kept i next → search.Comes file name wanted purpose (MissedIn (n + 1)) next
+        pub goes_behind : (d : E) → IsFoundAt chains i d → (next : Kept E) → GoesOn file name wanted purpose kept i next → search.Comes file name wanted purpose (MissedIn (n + 1)) next
         goes_behind d stands next on = search.comes_next file name wanted purpose (MissedIn n) (MissedIn (n + 1)) i missed_at (seeks_hit d stands) kept next on at
 
-        pub found_here : (d : E) → StandsAt chains i d → (answer : Result (Option (ℕ × E)) LinkError) → EndsAt file name wanted purpose i answer → IsFound file name wanted purpose answer
+        pub found_here : (d : E) → IsFoundAt chains i d → (answer : Result (Option (ℕ × E)) LinkError) → EndsAt file name wanted purpose i answer → IsFound file name wanted purpose answer
         found_here d stands answer ends = asked_first (i, ends.entry) answer (seeks_hit d stands (IsAsked file name wanted purpose) ends.entry ends.symbol ends.asked at.asked) ends.is_answer
 
         pub found_halt : (error : ElfError) → 0 < i → Halts chains n i error → IsFound file name wanted purpose (Err (Elf error))
@@ -75,7 +75,7 @@ module _ {E : Type 0} (table : HashTable) (symbols : Symbols E) (versions : Vers
         found_last last = search.found_end file name wanted purpose (MissedIn n) kept (seeks_none last) at
 
       -- the chain can't be read behind index i
-      pub found_break : (wanted : Wanted) (purpose : uses.Use) (kept : Kept E) (d : E) → StandsAt chains i d → (error : ElfError) → chain_of table i ≡ Err error → search.Comes file name wanted purpose (MissedIn (n + 1)) kept → IsFound file name wanted purpose (Err (Elf error))
-      found_break wanted purpose kept d stands error refuses at =
+      pub found_break : (wanted : Wanted) (purpose : uses.Use) (kept : Kept E) (d : E) → IsFoundAt chains i d → (error : ElfError) → chain_of table i ≡ Err error → search.Comes file name wanted purpose (MissedIn (n + 1)) kept → IsFound file name wanted purpose (Err (Elf error))
+      found_break wanted purpose kept d stands error fails at =
           faulty (Elf error) (seeks_from (Some (Ok first)) starts (IsAsked file name wanted purpose) (Err error) (n + 1) (looks (IsAsked file name wanted purpose) chains first i n 1 (n + 1) (Err error) comes (λ m below. at.asked m (omega arith))
-          (refused i d error stands (at.asked n (omega arith) i d comes stands) refuses) refl))
+          (failed i d error stands (at.asked n (omega arith) i d comes stands) fails) refl))

@@ -3,7 +3,7 @@ use Rattle.std.proofs.Common.{◌≡◌, ℕ, ◌<◌, ◌==◌, Bool, true, fal
 use Rattle.std.proofs.lemmas.List.Elements.{All-head, All-tail}
 use Rattle.std.specs.Prelude.{◌||◌}
 use Rattle.std.specs.Str.{bytes_eq}
-use Rattle.elf_base.specs.Refusal.{and_then}
+use Rattle.elf_base.specs.FirstError.{and_then}
 use Rattle.elf_linking.specs.Find.{AreReadable, DynamicSymbols, accepted, accepts_version, is_below, is_open, is_version}
 use Rattle.elf_linking.specs.VersionTables.{is_hidden, result_map, version_number}
 use Rattle.elf_linking.specs.Versions.{CanBeRead, HasReadableName, VersionParts, first_item, item_with, number_of, version_at, version_with}
@@ -69,9 +69,9 @@ accepted_read file readable Unversioned i below = item_ok (is_below 3) (number_o
 accepted_read file readable Newest i below = item_ok (is_below 2) (number_of file.versions.numbers i) (readable.numbers i below)
 
 -- a result that is no error is not this one
-pub not_refused : {A : Type 0} (answer : Result A LinkError) → IsOk answer → (error : LinkError) → answer ≡ Err error → ⊥
-not_refused (Ok item) ok error is = cc
-not_refused (Err other) ok error is = cc
+pub not_failed : {A : Type 0} (answer : Result A LinkError) → IsOk answer → (error : LinkError) → answer ≡ Err error → ⊥
+not_failed (Ok item) ok error is = cc
+not_failed (Err other) ok error is = cc
 
 -- the version of a symbol, if the versions of so many symbols can be read
 pub version_readable : (list : VersionList) (index count : ℕ) (answer : Result (Option (VersionParts VersionEntry)) LinkError) → answer ≡ version_at list index → CanBeRead list count → index < count → IsOkAnd answer HasReadableName

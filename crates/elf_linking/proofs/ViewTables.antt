@@ -8,7 +8,7 @@ use Rattle.elf_base.specs.declared.header.numbers.Class.{Class}
 use Rattle.elf_base.specs.Number.{number}
 use Rattle.elf_linking.specs.Layouts.{IsGnuTable, bloom_count_in, chains_in, gnu_table_of, is_known}
 use Rattle.elf_linking.specs.Loaded.{IsAt}
-use Rattle.elf_base.specs.Refusal.{and_then, unless}
+use Rattle.elf_base.specs.FirstError.{and_then, unless}
 use Rattle.elf_linking.specs.declared.error.LinkError.{LinkError}
 use Rattle.elf_linking.specs.declared.error.LinkError.TheVariants.{BloomCount, ShortTable, UnknownClass}
 use Rattle.xmas_elf.specs.declared.ElfFile.{ElfFile}

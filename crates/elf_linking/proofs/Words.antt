@@ -9,16 +9,16 @@ use Rattle.elf_linking.specs.declared.error.LinkError.TheVariants.{ChainData, Ch
 use Rattle.elf_linking.specs.declared.gnu_hash.GnuHashTable.{GnuHashTable}
 
 -- of two errors, if the first condition does not hold, it is the second
-second_refused : (a b : Bool) (word : ℕ) (error : LinkError) → (if a then Err ChainIndex else (if b then Err ChainData else Ok word)) ≡ Err error → a ≡ false → (b ≡ true) × (error ≡ ChainData)
-second_refused true b word error e f = absurd (cc)
-second_refused false true word error e f = (refl, cc)
-second_refused false false word error e f = absurd (cc)
+second_failed : (a b : Bool) (word : ℕ) (error : LinkError) → (if a then Err ChainIndex else (if b then Err ChainData else Ok word)) ≡ Err error → a ≡ false → (b ≡ true) × (error ≡ ChainData)
+second_failed true b word error e f = absurd (cc)
+second_failed false true word error e f = (refl, cc)
+second_failed false false word error e f = absurd (cc)
 
--- from the first symbol on, a chain word that is refused extends past the end of the data
-pub chain_refused : {E : Type 0} (table : GnuHashTable) (symbols : List E) (i : ℕ) (error : LinkError) → i < symbol_end symbols → first_symbol_of table ≤ i → chain_of table i ≡ Err error → Lacks table symbols i error
+-- from the first symbol on, a chain word that has an error extends past the end of the data
+pub chain_failed : {E : Type 0} (table : GnuHashTable) (symbols : List E) (i : ℕ) (error : LinkError) → i < symbol_end symbols → first_symbol_of table ≤ i → chain_of table i ≡ Err error → Lacks table symbols i error
 unfolding chain_of
-chain_refused table symbols i error below begins e =
-    let (out, same) = second_refused (nat_lt i (first_symbol_of table)) (nat_lt (length (gnu_data table)) (chain_place table i + 4)) (chain_word table i) error e (le-ltb i (first_symbol_of table) begins) in
+chain_failed table symbols i error below begins e =
+    let (out, same) = second_failed (nat_lt i (first_symbol_of table)) (nat_lt (length (gnu_data table)) (chain_place table i + 4)) (chain_word table i) error e (le-ltb i (first_symbol_of table) begins) in
     subst (λ x. Lacks table symbols i x) (sym same) (no_word below (ltb-true (length (gnu_data table)) (chain_place table i + 4) out))
 
 -- the chain words before a chain word within the data are within the data

@@ -53,7 +53,7 @@ references_from from (object ∷ rest) =
 -- the reference of an item, with the index of its object
 abbrev pub reference_of_item : {E : Type 0} → Result (Binding E) (ℕ × LinkError) → ℕ × Result Reference LinkError
 reference_of_item (Ok binding) = (binding.from, Ok binding.reference)
-reference_of_item (Err refused) = (refused.0, Err refused.1)
+reference_of_item (Err failed) = (failed.0, Err failed.1)
 
 -- the references that are left of the object that was read last
 abbrev pub current_left : Option References → List Reference

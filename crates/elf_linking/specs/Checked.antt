@@ -5,7 +5,7 @@ use Rattle.std.specs.Prelude.{◌≡◌, ℕ, ◌==◌, ◌&&◌, ◌||◌, nat_
 use Rattle.std.specs.List.{list_any}
 use Rattle.std.specs.Option.{option_or}
 use Rattle.std.specs.Str.{bytes_eq}
-use Rattle.elf_base.specs.Refusal.{and_then}
+use Rattle.elf_base.specs.FirstError.{and_then}
 use Rattle.elf_linking.specs.AnyTable.{IsCheckBy}
 use Rattle.elf_linking.specs.Exports.{NumberedVersion, SymbolParts, VersionName}
 use Rattle.elf_linking.specs.Find.{DynamicSymbols, is_by_version, serves}

@@ -4,7 +4,7 @@ use Rattle.std.specs.Prelude.{◌≡◌, ◌≢◌, ◌/◌, ℕ, List, Option, 
 use Rattle.std.specs.Borrow.{Bor}
 use Rattle.std.specs.Result.{result_ok}
 use Rattle.elf_base.specs.FileHeader.{file_class, file_order, header_fields, machine_number}
-use Rattle.elf_base.specs.Refusal.{and_then}
+use Rattle.elf_base.specs.FirstError.{and_then}
 use Rattle.elf_base.specs.Table.{records, table_bytes, table_data, table_items, table_order}
 use Rattle.elf_base.specs.Text.{text_of}
 use Rattle.elf_base.specs.declared.bytes.Order.{Order}
@@ -124,26 +124,26 @@ pub record AreVersionedSymbols {E : Type 0} (class size : ℕ) (entry : Order �
 
 -- why there is no such object: the first error, of the entries, of the hash table, of the symbols, of the
 -- string table, or of the version tables
-pub data IsObjectRefusedFor (count : Option ℕ) (class size : ℕ) (file : ElfFile) : LinkError → Type 0 where
-  no_entries : (error : LinkError) → dynamic_entries_of file ≡ Err error → IsObjectRefusedFor count class size file error
+pub data IsObjectErrorFor (count : Option ℕ) (class size : ℕ) (file : ElfFile) : LinkError → Type 0 where
+  no_entries : (error : LinkError) → dynamic_entries_of file ≡ Err error → IsObjectErrorFor count class size file error
   no_table : (entries : List (Dynamic ℕ)) (error : LinkError) → dynamic_entries_of file ≡ Ok entries
-      → IsLinkedTable file entries (Err error) → IsObjectRefusedFor count class size file error
+      → IsLinkedTable file entries (Err error) → IsObjectErrorFor count class size file error
   no_symbols : (entries : List (Dynamic ℕ)) (table : AnyTable) (error : LinkError)
       → dynamic_entries_of file ≡ Ok entries → IsLinkedTable file entries (Ok table)
-      → AreOfClassFor count class size file entries (Err error) → IsObjectRefusedFor count class size file error
+      → AreOfClassFor count class size file entries (Err error) → IsObjectErrorFor count class size file error
   no_strings : (entries : List (Dynamic ℕ)) (table : AnyTable) (symbols : List ℕ) (error : LinkError)
       → dynamic_entries_of file ≡ Ok entries → IsLinkedTable file entries (Ok table)
       → AreOfClassFor count class size file entries (Ok symbols) → strings_by file entries ≡ Err error
-      → IsObjectRefusedFor count class size file error
+      → IsObjectErrorFor count class size file error
   no_versions : (entries : List (Dynamic ℕ)) (table : AnyTable) (symbols strings : List ℕ) (error : LinkError)
       → dynamic_entries_of file ≡ Ok entries → IsLinkedTable file entries (Ok table)
       → AreOfClassFor count class size file entries (Ok symbols) → strings_by file entries ≡ Ok strings
       → version_tables_of file entries (Ok strings) (length symbols / size) ≡ Err error
-      → IsObjectRefusedFor count class size file error
+      → IsObjectErrorFor count class size file error
 
 -- the same where the hash table counts the symbols
-abbrev pub IsObjectRefused : ℕ → ℕ → ElfFile → LinkError → Type 0
-IsObjectRefused class size file error = IsObjectRefusedFor None class size file error
+abbrev pub IsObjectError : ℕ → ℕ → ElfFile → LinkError → Type 0
+IsObjectError class size file error = IsObjectErrorFor None class size file error
 
 -- the object is that of a file with as many symbols as look-ups and relocations reach
 pub record IsReachedObject {E : Type 0} {r : _} (class size : ℕ) (file : ElfFile) (object : DynamicObject E r) : Type 0 where
@@ -154,13 +154,13 @@ pub record IsReachedObject {E : Type 0} {r : _} (class size : ℕ) (file : ElfFi
   pub object_is : IsObjectFor (Some count) class size file object
 
 -- why there is no such object: the first error, of the entries, of the count, or of what is read then
-pub data IsReachedRefused (class size : ℕ) (file : ElfFile) : LinkError → Type 0 where
-  no_view : (error : LinkError) → dynamic_entries_of file ≡ Err error → IsReachedRefused class size file error
+pub data IsReachedError (class size : ℕ) (file : ElfFile) : LinkError → Type 0 where
+  no_view : (error : LinkError) → dynamic_entries_of file ≡ Err error → IsReachedError class size file error
   no_count : (entries : List (Dynamic ℕ)) (error : LinkError) → dynamic_entries_of file ≡ Ok entries
-      → IsReachedCount file entries (Err error) → IsReachedRefused class size file error
+      → IsReachedCount file entries (Err error) → IsReachedError class size file error
   no_part : (entries : List (Dynamic ℕ)) (count : ℕ) (error : LinkError) → dynamic_entries_of file ≡ Ok entries
-      → IsReachedCount file entries (Ok count) → IsObjectRefusedFor (Some count) class size file error
-      → IsReachedRefused class size file error
+      → IsReachedCount file entries (Ok count) → IsObjectErrorFor (Some count) class size file error
+      → IsReachedError class size file error
 
 -- the name of the symbol at an index of an object, or why there is none
 abbrev pub object_name : {E : Type 0} → {r : _} → (E → SymbolFields) → DynamicObject E r → ℕ → Result (List ℕ) LinkError

@@ -3,7 +3,7 @@
 use Rattle.std.specs.Prelude.{ℕ, ◌==◌, List, [], ◌∷◌, length, filter, Option, Result, Err, option_map, ok_or, if◌then◌else◌, ◌≡◌, None, Some, IfOk, IsSomeAnd, Ok, IsOkAnd, nat_lt, ◌*◌, ◌^◌}
 use Rattle.std.specs.List.{last_or}
 use Rattle.std.specs.Borrow.{Bor}
-use Rattle.elf_base.specs.Refusal.{and_then, unless}
+use Rattle.elf_base.specs.FirstError.{and_then, unless}
 use Rattle.elf_base.specs.FileHeader.{class_of, file_class, file_order}
 use Rattle.elf_base.specs.Lent.{LiesAt}
 use Rattle.elf_base.specs.Text.{as_text, bytes_up_to_zero_of, text_of}
@@ -184,10 +184,10 @@ counted_symbols_of file entries count size = if nat_lt (2 ^ 32) count then Err S
     else and_then (ok_or (number_with DT_SYMTAB entries) NoEntry) (λ address. bytes_at_of file address (count * size))
 
 -- why there are no symbols with names: there are no symbols, or there is no string table
-pub data AreSymbolsRefused (file : ElfFile) (entries : List (Dynamic ℕ)) (strings : Result (List ℕ) LinkError) (size : ℕ) : LinkError → Type 0 where
-  no_records : (error : LinkError) → AreSymbols file entries size (Err error) → AreSymbolsRefused file entries strings size error
+pub data AreSymbolsFailed (file : ElfFile) (entries : List (Dynamic ℕ)) (strings : Result (List ℕ) LinkError) (size : ℕ) : LinkError → Type 0 where
+  no_records : (error : LinkError) → AreSymbols file entries size (Err error) → AreSymbolsFailed file entries strings size error
   no_names : (bytes : List ℕ) (error : LinkError) → AreSymbols file entries size (Ok bytes) → strings ≡ Err error
-      → AreSymbolsRefused file entries strings size error
+      → AreSymbolsFailed file entries strings size error
 
 -- the place of the symbols, at the address in the entry SymTab
 abbrev pub LieAsSymbols : ElfFile → List (Dynamic ℕ) → Bor (List ℕ) → Type 0

@@ -1,7 +1,7 @@
 -- The entries of a dynamic segment in order (gABI, "Dynamic Section": DT_NULL).
 use Rattle.std.specs.Prelude.{ℕ, ◌/◌, ◌%◌, ◌==◌, ◌||◌, is_some, false, not, Bool, List, [], ◌∷◌, length, map, filter, Option, None, Some, Result, Err, option_map, if◌then◌else◌}
 use Rattle.std.specs.List.{find, last_or}
-use Rattle.elf_base.specs.Refusal.{unless}
+use Rattle.elf_base.specs.FirstError.{unless}
 use Rattle.elf_base.specs.Table.{records, table_items, table_rest}
 use Rattle.elf_base.specs.declared.bytes.Order.{Order}
 use Rattle.elf_base.specs.declared.error.ElfError.TheVariants as elf_error

@@ -3,7 +3,7 @@
 use Rattle.std.specs.Prelude.{◌≡◌, ◌≢◌, ℕ, ◌%◌, ◌==◌, ◌&&◌, ◌||◌, nat_lt, not, Bool, true, false, List, length, slice_get, Option, Some, None, Result, Ok, Err, IsOkAnd, option_map, unwrap_or, if◌then◌else◌}
 use Rattle.std.specs.Borrow.{Bor}
 use Rattle.std.specs.Str.{bytes_eq}
-use Rattle.elf_base.specs.Refusal.{and_then}
+use Rattle.elf_base.specs.FirstError.{and_then}
 use Rattle.elf_records.specs.HashNumber.{hash_number}
 use Rattle.elf_linking.specs.AnyTable.{FindsAllWhereBy, LooksWhereBy}
 use Rattle.elf_linking.specs.VersionList.{VersionEntry, VersionList}

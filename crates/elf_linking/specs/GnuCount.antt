@@ -28,7 +28,7 @@ pub record IsLastRun (table : GnuHashTable) (from : ℕ) : Type 0 where
 -- a count stops at index i, with the next index at the end of the run, or with the error there
 pub data CountStops (table : GnuHashTable) (i : ℕ) : Result ℕ LinkError → Type 0 where
   ended : i < 2 ^ 32 → HasChain table i → EndsRun table i → CountStops table i (Ok (i + 1))
-  refused : (error : LinkError) → i < 2 ^ 32 → chain_of table i ≡ Err error → CountStops table i (Err error)
+  failed : (error : LinkError) → i < 2 ^ 32 → chain_of table i ≡ Err error → CountStops table i (Err error)
   too_long : i ≡ 2 ^ 32 → CountStops table i (Err SymbolIndex)
 
 -- the result of the count: the first index of the table if there is no run; otherwise that of the stop that the last

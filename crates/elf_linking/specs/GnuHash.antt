@@ -7,7 +7,7 @@ use Rattle.elf_base.specs.Number.{number}
 use Rattle.elf_base.specs.declared.bytes.Order.{Order}
 use Rattle.elf_base.specs.declared.header.numbers.Class.{Class}
 use Rattle.elf_linking.specs.Layouts.{bloom_count_in, bloom_size, bucket_count_in, buckets_in, chains_in, gnu_hash_number}
-use Rattle.elf_base.specs.Refusal.{unless}
+use Rattle.elf_base.specs.FirstError.{unless}
 use Rattle.elf_linking.specs.declared.error.LinkError.{LinkError}
 use Rattle.elf_linking.specs.declared.error.LinkError.TheVariants.{BucketIndex, ChainData, ChainIndex, SymbolIndex, Missing}
 use Rattle.elf_linking.specs.declared.gnu_hash.GnuHashTable.{GnuHashTable}
@@ -154,7 +154,7 @@ pub data Stops {E : Type 0} (P : ℕ × E → Type 0) (h : ℕ) (table : GnuHash
   found : (e : E) → IsHit P h table symbols i e → Stops P h table symbols i (Ok (Some (i, e))) 1
   ended : IsThere table symbols i → EndsRun table i → ((e : E) → IsHit P h table symbols i e → ⊥)
       → Stops P h table symbols i (Ok None) 1
-  refused : (error : LinkError) → Lacks table symbols i error → Stops P h table symbols i (Err error) 0
+  failed : (error : LinkError) → Lacks table symbols i error → Stops P h table symbols i (Err error) 0
 
 -- the result of a look-up for P from an index on, and the number of chain words read: that of the stop that
 -- its run comes to

@@ -2,7 +2,7 @@
 -- glibc), in the class and byte order of the file.
 use Rattle.std.specs.Prelude.{◌≡◌, ◌≢◌, List, Option, None, Some, Result, Ok, Err, ℕ, IsSomeAnd, MatchResult, ok_or}
 use Rattle.elf_base.specs.FileHeader.{class_of, file_class, file_order}
-use Rattle.elf_base.specs.Refusal.{and_then}
+use Rattle.elf_base.specs.FirstError.{and_then}
 use Rattle.elf_linking.specs.DynamicView.{as_link_error, number_with}
 use Rattle.elf_linking.specs.Layouts.{gnu_table_of}
 use Rattle.elf_linking.specs.Loaded.{bytes_at_of}

@@ -7,7 +7,7 @@ use Rattle.std.specs.List.{AllWithin, HoldsAt, last_or}
 use Rattle.elf_base.specs.FileHeader.{file_class, file_order}
 use Rattle.elf_base.specs.Lent.{LiesAt}
 use Rattle.elf_base.specs.Number.{number}
-use Rattle.elf_base.specs.Refusal.{and_then}
+use Rattle.elf_base.specs.FirstError.{and_then}
 use Rattle.elf_base.specs.declared.error.ElfError.{ElfError}
 use Rattle.elf_linking.specs.declared.error.LinkError.{LinkError}
 use Rattle.elf_linking.specs.declared.error.LinkError.TheVariants.{Address, Elf, UnknownClass}

@@ -2,7 +2,7 @@
 -- "Symbol Versioning"; the order of files, and which symbols of them serve, as glibc's linker has it).
 use Rattle.std.specs.Prelude.{◌≡◌, ◌≢◌, ℕ, ◌/◌, ◌%◌, ◌<◌, ◌==◌, ◌||◌, Bool, true, false, List, length, slice_get, Option, Some, None, option_and_then, option_map, Result, Ok, Err, MatchOption, MatchResult, IfSome, IsOk, IsOkAnd, IsSomeAnd, if◌then◌else◌}
 use Rattle.std.specs.Borrow.{Bor}
-use Rattle.elf_base.specs.Refusal.{and_then}
+use Rattle.elf_base.specs.FirstError.{and_then}
 use Rattle.elf_base.specs.Table.{table_items}
 use Rattle.elf_linking.specs.AnyTable.{IsGoodBy}
 use Rattle.elf_linking.specs.DynamicObject.{object_dynamic_symbols, object_machine, object_name}
@@ -129,7 +129,7 @@ pub data IsFirstGiven {E : Type 0} (AtIndex : ℕ → Result (Option (ℕ × E))
       → AtIndex bound.object (Ok (Some (bound.index, bound.symbol)))
       → IsFirstGiven AtIndex count symbolic from (Ok (Some bound))
   nowhere : ((i : ℕ) → i < count → AtIndex i (Ok None)) → IsFirstGiven AtIndex count symbolic from (Ok None)
-  refused : (index : ℕ) (error : LinkError) → index < count → NoneBefore AtIndex symbolic from index
+  failed : (index : ℕ) (error : LinkError) → index < count → NoneBefore AtIndex symbolic from index
       → AtIndex index (Err error) → IsFirstGiven AtIndex count symbolic from (Err error)
 
 -- the symbol that the objects give for a name, a version and a use, where `Finds` says what a search in an object finds:

@@ -4,7 +4,7 @@ use Rattle.std.specs.Prelude.{◌≡◌, ◌≢◌, ℕ, true, false, List, Opti
 use Rattle.elf_base.specs.FileHeader.{file_class}
 use Rattle.elf_base.specs.declared.bytes.Order.{Order}
 use Rattle.elf_linking.specs.AnyTable.{IsCheckBy}
-use Rattle.elf_linking.specs.DynamicObject.{AreDynamicSymbols, IsObjectRefusedFor}
+use Rattle.elf_linking.specs.DynamicObject.{AreDynamicSymbols, IsObjectErrorFor}
 use Rattle.elf_linking.specs.Find.{DynamicSymbols, Seeks, has_linked_type, has_place, is_below, is_default}
 use Rattle.elf_linking.specs.Serves.{if_serving}
 use Rattle.elf_linking.specs.VersionTables.{result_map}
@@ -55,7 +55,7 @@ pub data IsChecked {E : Type 0} (name : List ℕ) : Result (DynamicSymbols E) Li
 -- the result for a file of a class, whose symbols have this size: that of what is read of it
 abbrev pub IsValueOf : {E : Type 0} → ℕ → ℕ → (Order → List ℕ → E) → (E → SymbolFields) → ElfFile → List ℕ → Result (Option ℕ) LinkError → Type 0
 IsValueOf {E} class size entry fields file name answer = (read : Result (DynamicSymbols E) LinkError)
-    × MatchResult read (AreDynamicSymbols class size entry fields file) (IsObjectRefusedFor None class size file) × IsChecked name read answer
+    × MatchResult read (AreDynamicSymbols class size entry fields file) (IsObjectErrorFor None class size file) × IsChecked name read answer
 
 -- the result for a file, by its class; a file that is of no known class has no dynamic entries
 pub data IsValueIn (file : ElfFile) (name : List ℕ) (answer : Result (Option ℕ) LinkError) : Type 0 where

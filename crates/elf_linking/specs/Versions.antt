@@ -1,7 +1,7 @@
 -- The version of a symbol: its number, and the version of its object with that number (LSB, "Symbol Versioning"; that
 -- the first one in the list counts is this project's own).
 use Rattle.std.specs.Prelude.{All, IfSome, IsOk, IsOkAnd, true, false, ◌≡◌, ℕ, ◌<◌, ◌≤◌, ◌==◌, ◌&&◌, nat_lt, not, Bool, List, [], ◌∷◌, length, slice_get, Option, Some, None, option_map, ok_or, unwrap_or, Result, Ok, Err, if◌then◌else◌}
-use Rattle.elf_base.specs.Refusal.{and_then}
+use Rattle.elf_base.specs.FirstError.{and_then}
 use Rattle.elf_linking.specs.VersionList.{NamedParts, Defined, Needed, VersionEntry, VersionList, entry_of, is_base, named_in, numbers_in}
 use Rattle.elf_linking.specs.VersionTables.{DefinitionParts, NeedParts, VersionTables, definition_parts, is_hidden, result_map, need_parts, tables_with, version_number}
 use Rattle.elf_linking.specs.declared.error.LinkError.{LinkError}
@@ -34,7 +34,7 @@ pub data IsFirst {A : Type 0} (P : A → Type 0) (items : List (Result A LinkErr
   found : (i : ℕ) (item : A) → NoItemBefore P items i → slice_get items i ≡ Some (Ok item) → P item
       → IsFirst P items (Ok (Some item))
   missing : NoItemBefore P items (length items) → IsFirst P items (Ok None)
-  refused : (i : ℕ) (error : LinkError) → NoItemBefore P items i → slice_get items i ≡ Some (Err error)
+  failed : (i : ℕ) (error : LinkError) → NoItemBefore P items i → slice_get items i ≡ Some (Err error)
       → IsFirst P items (Err error)
 
 -- the same as a function

@@ -131,7 +131,7 @@ impl<'a> AnyTable<'a> {
         match self {
             AnyTable::Sysv(table) => match table.lookup_where(name, symbols, f) {
                 Ok(found) => Ok(found),
-                Err(refusal) => Err(LinkError::Elf(refusal)),
+                Err(failure) => Err(LinkError::Elf(failure)),
             },
             AnyTable::Gnu(table) => table.lookup_where(name, symbols, f),
         }

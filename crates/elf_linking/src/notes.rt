@@ -3,8 +3,8 @@
 ghost use Rattle.std.specs.Prelude.{◌≡◌, ◌+◌, ◌^◌, ◌<◌, ◌≤◌, IfErr, IfOk, MatchOption};
 ghost use Rattle.std.specs.Prelude.{MatchResult, length, Err, Ok};
 ghost use Rattle.elf_base.specs.FileHeader.{file_order};
-ghost use Rattle.elf_base.specs.Lent.{Answers, Lends};
-ghost use Rattle.elf_base.specs.Text.{IsText, TextRefused, text_of};
+ghost use Rattle.elf_base.specs.Lent.{Answers, IfPart};
+ghost use Rattle.elf_base.specs.Text.{IsText, TextError, text_of};
 ghost use Rattle.xmas_elf.specs.Place.{LiesAsSection, LiesAsSegment};
 ghost use Rattle.xmas_elf.specs.ProgramHeader.{IsSegmentData, program_fields, segment_data_of};
 ghost use Rattle.xmas_elf.specs.SectionData.{section_data_of};
@@ -52,8 +52,8 @@ impl<'a> Note<'a> {
     ///
     /// An empty name has no zero byte either, so its error is `TextEnd`.
     pub fn name(&self) -> Result<&'a str, ElfError>
-        ensures text { Lends (IsText (note_parts self.now).name.now 0) result }
-        ensures refused { IfErr result (TextRefused (note_parts self.now).name.now 0) }
+        ensures text { IfPart (IsText (note_parts self.now).name.now 0) result }
+        ensures failed { IfErr result (TextError (note_parts self.now).name.now 0) }
         ensures exact { Answers (text_of (note_parts self.now).name.now 0) result }
     {
         text_at(self.name, 0)

@@ -58,11 +58,11 @@ impl<'a, E: LinkedSymbol> DynamicObject<'a, E> {
     ghost use Rattle.elf_linking.specs.AnyTable.{FindsAllBy, IsDefinedBy, LooksBy, LooksForDefined};
     ghost use Rattle.elf_linking.specs.AnyTable.{IsCheckBy, IsGoodBy};
     ghost use Rattle.elf_linking.specs.DynamicObject.{AreOfClassFor, object_file, object_symbols};
-    ghost use Rattle.elf_linking.specs.DynamicObject.{IsNameAt, IsObjectRefused, IsReachedObject};
+    ghost use Rattle.elf_linking.specs.DynamicObject.{IsNameAt, IsObjectError, IsReachedObject};
     ghost use Rattle.elf_linking.specs.DynamicObject.{IsObject, object_name, object_view};
     ghost use Rattle.elf_linking.specs.DynamicObject.{IsObjectFor, object_machine, object_versions};
-    ghost use Rattle.elf_linking.specs.DynamicObject.{IsObjectRefusedFor, object_dynamic_symbols};
-    ghost use Rattle.elf_linking.specs.DynamicObject.{IsReachedRefused, object_name_bytes};
+    ghost use Rattle.elf_linking.specs.DynamicObject.{IsObjectErrorFor, object_dynamic_symbols};
+    ghost use Rattle.elf_linking.specs.DynamicObject.{IsReachedError, object_name_bytes};
     ghost use Rattle.elf_linking.specs.DynamicObject.{object_records, object_strings, object_table};
     ghost use Rattle.elf_linking.specs.Find.{AreReadable, FindsRight, IsFound};
     ghost use Rattle.elf_linking.specs.Layouts.{gnu_hash_number};
@@ -80,7 +80,7 @@ impl<'a, E: LinkedSymbol> DynamicObject<'a, E> {
     /// `DynamicView::strings`; those of `Versions::read`.
     pub fn read(file: &ElfFile<'a>) -> Result<Self, LinkError>
         ensures { MatchResult result (IsObject E.CLASS E.SIZE file.now)
-            (IsObjectRefused E.CLASS E.SIZE file.now) }
+            (IsObjectError E.CLASS E.SIZE file.now) }
     {
         Self::read_for(file, None)
     }
@@ -94,7 +94,7 @@ impl<'a, E: LinkedSymbol> DynamicObject<'a, E> {
     /// of `DynamicView::strings`; those of `Versions::read`.
     pub fn read_counted(file: &ElfFile<'a>, count: u64) -> Result<Self, LinkError>
         ensures { MatchResult result (IsObjectFor (Some count) E.CLASS E.SIZE file.now)
-            (IsObjectRefusedFor (Some count) E.CLASS E.SIZE file.now) }
+            (IsObjectErrorFor (Some count) E.CLASS E.SIZE file.now) }
     {
         Self::read_for(file, Some(count))
     }
@@ -106,7 +106,7 @@ impl<'a, E: LinkedSymbol> DynamicObject<'a, E> {
     /// `DynamicView::reached_count`; those of `read_counted`.
     pub fn read_reached(file: &ElfFile<'a>) -> Result<Self, LinkError>
         ensures { MatchResult result (IsReachedObject E.CLASS E.SIZE file.now)
-            (IsReachedRefused E.CLASS E.SIZE file.now) }
+            (IsReachedError E.CLASS E.SIZE file.now) }
     {
         let view = DynamicView::read(file)?;
         let count = view.reached_count(file)?;
@@ -117,7 +117,7 @@ impl<'a, E: LinkedSymbol> DynamicObject<'a, E> {
     // as the hash table counts.
     fn read_for(file: &ElfFile<'a>, count: Option<u64>) -> Result<Self, LinkError>
         ensures { MatchResult result (IsObjectFor count E.CLASS E.SIZE file.now)
-            (IsObjectRefusedFor count E.CLASS E.SIZE file.now) }
+            (IsObjectErrorFor count E.CLASS E.SIZE file.now) }
     {
         let view = DynamicView::read(file)?;
         let table = AnyTable::read(&view, file)?;

@@ -11,7 +11,7 @@ use base.SetCodes.{SetCoded-set, coded}
 use base.Stored.{Coded}
 use mathlib.Core.Logic.{∥∥₁_elim}
 use Rattle.std.specs.Coded.{codes}
-use Rattle.elf_base.specs.Refusal.{unless}
+use Rattle.elf_base.specs.FirstError.{unless}
 use Rattle.elf_linking.specs.CheckedScope.{bound_fields, bound_in}
 use Rattle.elf_linking.specs.DynamicObject.{object_dynamic_symbols, object_file, object_records}
 use Rattle.elf_linking.specs.Exports.{SymbolParts, symbol_parts}

@@ -11,7 +11,7 @@ use base.SetCodes.{SetCoded-set, coded}
 use base.Stored.{Coded}
 use mathlib.Core.Logic.{∥∥₁_elim}
 use Rattle.std.specs.Coded.{codes}
-use Rattle.elf_base.specs.Refusal.{and_then, unless}
+use Rattle.elf_base.specs.FirstError.{and_then, unless}
 use Rattle.elf_base.specs.Table.{table_items}
 use Rattle.elf_linking.specs.CheckedScope.{bound_fields, bound_in}
 use Rattle.elf_linking.specs.DynamicObject.{object_dynamic_symbols, object_file, object_records}
@@ -313,7 +313,7 @@ module _ {E : Type 0} {r : _} (fields : E → SymbolFields) (objects : Bor (List
     module _ (before after : List ℕ) (result : Result ℕ LoadError) (relocation : IsRelocation fields sources own plan false before after result) where
       relocated_is : result ≡ as_load (image_result lists places.now images.now (length before))
       relocated_is = by_sizes fields sources own plan before after law.plan_is (result ≡ as_load (image_result lists places.now images.now (length before))) result law.apart
-          (λ is refused same. refused ∙ ap (λ wrong. as_load (if wrong then Err faults.Size else rest_is)) (sym is ∙ size_same (length before)))
+          (λ is has_error same. has_error ∙ ap (λ wrong. as_load (if wrong then Err faults.Size else rest_is)) (sym is ∙ size_same (length before)))
           (λ is writing. written_is before after is (map relocation_of law.apart.items) result law.apart.relocations_are writing
           ∙ ap (λ wrong. as_load (if wrong then Err faults.Size else rest_is)) (sym is ∙ size_same (length before))) relocation
 
@@ -322,7 +322,7 @@ module _ {E : Type 0} {r : _} (fields : E → SymbolFields) (objects : Bor (List
 
       bytes_left : (reason : LoadError) → result ≡ Err reason → BytesBy before after (written_words lists places.now images.now (length before))
       bytes_left reason failed = by_sizes fields sources own plan before after law.plan_is (BytesBy before after (written_words lists places.now images.now (length before))) result law.apart
-          (λ is refused same. subst (λ wrong. BytesBy before after (words_by wrong)) (sym is ∙ size_same (length before)) (λ i below. ap (λ all. slice_index all i) same))
+          (λ is has_error same. subst (λ wrong. BytesBy before after (words_by wrong)) (sym is ∙ size_same (length before)) (λ i below. ap (λ all. slice_index all i) same))
           (λ is writing. subst (λ wrong. BytesBy before after (words_by wrong)) (sym is ∙ size_same (length before))
           (subst (BytesBy before after) (references_read (map relocation_of law.apart.items) law.apart.relocations_are) (bytes_before before after is (map relocation_of law.apart.items) result reason failed law.apart.relocations_are writing))) relocation
         where

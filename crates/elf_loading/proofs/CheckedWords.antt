@@ -5,7 +5,7 @@ use Rattle.std.specs.List.{count_by}
 use Rattle.std.proofs.lemmas.Bool.{and_parts}
 use Rattle.std.proofs.lemmas.List.Elements.{All-head, All-tail}
 use Rattle.std.proofs.lemmas.List.Sums.{sum_by-append}
-use Rattle.elf_base.specs.Refusal.{unless}
+use Rattle.elf_base.specs.FirstError.{unless}
 use Rattle.elf_linking.specs.DynamicObject.{object_file}
 use Rattle.elf_linking.specs.References.{file_machine}
 use Rattle.elf_loading.specs.Types.{Bound, DynamicObject, Formula, LinkError, LoadError, Reference, Relocated, Relocation, Row, Segment, Terms, Word}

@@ -6,7 +6,7 @@ use Rattle.elf_loading.specs.LoadCheck.{holds_address, load_end, load_start, che
 use Rattle.elf_loading.specs.Spans.{IsInLoad, HasUncovered, relro_span}
 use Rattle.elf_loading.proofs.LoadChecks.{AreApart, holds_between, start_le_end, checks_apart}
 use Rattle.std.specs.Prelude.{MatchOption}
-use Rattle.elf_base.specs.Refusal.{and_then, unless}
+use Rattle.elf_base.specs.FirstError.{and_then, unless}
 use Rattle.xmas_elf.specs.Types.{ElfFile}
 use Rattle.elf_loading.specs.Types.{LoadError, Segment}
 use Rattle.elf_loading.specs.Pages.{down}

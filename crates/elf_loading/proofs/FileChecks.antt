@@ -2,8 +2,8 @@
 use Rattle.std.proofs.Common.{◌≡◌, ℕ, ◌+◌, ◌-◌, ◌^◌, ◌==◌, ◌<◌, ◌≤◌, ◌||◌, not, nat_lt, nat_le, slice_index, if◌then◌else◌, Bool, true, false, List, [], ◌∷◌, length, Option, Some, None, ok_or, option_map, Result, Ok, Err, refl, sym, ap, subst, arith}
 use Rattle.std.proofs.lemmas.Bool.{and_parts, eqb-true, eq-eqb, leb-true, ltb-false, or_parts}
 use Rattle.std.specs.List.{list_all}
-use Rattle.elf_base.specs.Refusal.{and_then, unless}
-use Rattle.elf_base.specs.Text.{BytesRefused}
+use Rattle.elf_base.specs.FirstError.{and_then, unless}
+use Rattle.elf_base.specs.Text.{BytesError}
 use Rattle.elf_loading.specs.Types.{ElfError, Extent, LoadError, Loader, Segment, Span}
 use Rattle.elf_base.specs.declared.error.ElfError.TheVariants.{TextStart, TextEnd}
 use Rattle.xmas_elf.specs.Types.{ElfFile}
@@ -50,19 +50,19 @@ un_not true is = refl
 un_not false is = absurd (cc)
 
 -- a path in a file ends in it
-path_ends : (input : List ℕ) (segment : Segment) (why : ElfError) → is_no_path input (Some segment) ≡ false → BytesRefused input segment.offset why → ⊥
-path_ends input segment why path refused =
+path_ends : (input : List ℕ) (segment : Segment) (why : ElfError) → is_no_path input (Some segment) ≡ false → BytesError input segment.offset why → ⊥
+path_ends input segment why path failed =
     let all = or_parts (nat_lt segment.file_size 2 || nat_lt 4096 segment.file_size || nat_lt (length input) (segment.offset + segment.file_size)) (not (slice_index input (segment.offset + segment.file_size - 1) == 0)) path in
     let front = or_parts (nat_lt segment.file_size 2 || nat_lt 4096 segment.file_size) (nat_lt (length input) (segment.offset + segment.file_size)) all.0 in
     let small = or_parts (nat_lt segment.file_size 2) (nat_lt 4096 segment.file_size) front.0 in
     let some : 2 ≤ segment.file_size = ltb-false _ _ small.0 in
     let inside : segment.offset + segment.file_size ≤ length input = ltb-false _ _ front.1 in
-    by_error why (not_zero (slice_index input (segment.offset + segment.file_size - 1)) all.1) some inside refused
+    by_error why (not_zero (slice_index input (segment.offset + segment.file_size - 1)) all.1) some inside failed
   where
     not_zero : (n : ℕ) → not (n == 0) ≡ false → n ≡ 0
     not_zero n is = eqb-true n 0 (un_not (n == 0) is)
 
-    by_error : (error : ElfError) → slice_index input (segment.offset + segment.file_size - 1) ≡ 0 → 2 ≤ segment.file_size → segment.offset + segment.file_size ≤ length input → BytesRefused input segment.offset error → ⊥
+    by_error : (error : ElfError) → slice_index input (segment.offset + segment.file_size - 1) ≡ 0 → 2 ≤ segment.file_size → segment.offset + segment.file_size ≤ length input → BytesError input segment.offset error → ⊥
     by_error TextStart zero_there some inside short = omega arith
     by_error TextEnd zero_there some inside (start, none) = none (segment.offset + segment.file_size - 1) (omega arith) (omega arith) zero_there
     by_error _ zero_there some inside never = never
@@ -145,12 +145,12 @@ module _ (file : ElfFile) (page limit end : ℕ) where
       let below : segment.address < 2 ^ 64 = omega (arith, same, at) in
       subst (λ m. down page (m.start + m.size) < 2 ^ 64) part (passes_relro (2 ^ 64) segment is found le below)
 
-  pub passes_path : (path : Extent) (why : ElfError) → ends_at (check_file file page limit) end ≡ true → Some path ≡ option_map data_of (interpreter_of file) → BytesRefused file.input.now path.start why → ⊥
-  passes_path path why is there refused =
+  pub passes_path : (path : Extent) (why : ElfError) → ends_at (check_file file page limit) end ≡ true → Some path ≡ option_map data_of (interpreter_of file) → BytesError file.input.now path.start why → ⊥
+  passes_path path why is there failed =
       let (segment, found, part) = some_of data_of (interpreter_of file) path there in
       let pass = passes (ends_ok (check_file file page limit) end is) in
       let checked : is_no_path file.input.now (Some segment) ≡ false = subst (λ o. is_no_path file.input.now o ≡ false) found pass.rest.1.0 in
-      path_ends file.input.now segment why checked (subst (λ p. BytesRefused file.input.now p.start why) (sym part) refused)
+      path_ends file.input.now segment why checked (subst (λ p. BytesError file.input.now p.start why) (sym part) failed)
 
   pub passes_follow : (by : Loader) → 0 < page → ends_at (check_file file page limit) end ≡ true → FollowEachOther (first_start page (loads_of file)) (last_end page 0 (loads_of file)) (mappings_of page by None (loads_of file))
   passes_follow by h is = follow page limit by h (loads_of file) (passes_fit is) (passes_apart is)

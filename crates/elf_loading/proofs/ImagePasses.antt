@@ -5,7 +5,7 @@ use Rattle.std.proofs.lemmas.List.Folds.{find_at}
 use Rattle.std.proofs.lemmas.Option.{get_or_from_slice_get, slice_get_read, slice_get_within}
 use Rattle.std.specs.Prelude.{IfOk, slice_get, ⊤}
 use Rattle.std.specs.List.{Contains, find, list_any, position_or_len}
-use Rattle.elf_base.specs.Refusal.{and_then, unless}
+use Rattle.elf_base.specs.FirstError.{and_then, unless}
 use Rattle.elf_linking.specs.DynamicObject.{object_view}
 use Rattle.elf_linking.specs.DynamicView.{view_entries}
 use Rattle.elf_loading.specs.Types.{DynamicObject, LoadError, Segment, TableLocation, Word}

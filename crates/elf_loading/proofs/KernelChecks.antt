@@ -4,7 +4,7 @@ use Rattle.std.proofs.lemmas.Bool.{and_left, and_right, eq-eqb, eqb-false, eqb-t
 use Rattle.std.specs.Prelude.{IsOk}
 use Rattle.std.specs.List.{list_all}
 use Rattle.elf_base.specs.FileHeader.{header_fields}
-use Rattle.elf_base.specs.Refusal.{and_then, unless}
+use Rattle.elf_base.specs.FirstError.{and_then, unless}
 use Rattle.elf_linking.specs.Segments.{table_size}
 use Rattle.xmas_elf.specs.Types.{ElfFile}
 use Rattle.elf_loading.specs.Types.{LoadError, Segment}

@@ -2,7 +2,7 @@
 use Rattle.std.proofs.Common.{◌≡◌, ℕ, ◌+◌, ◌%◌, ◌==◌, ◌≤◌, ◌&&◌, not, nat_lt, nat_le, Bool, true, false, List, [], ◌∷◌, Option, Some, unwrap_or, Result, Ok, Err, if◌then◌else◌, refl, ap, ◌∙◌, zero, suc, ◌<◌, length, slice_index_or, sym, subst, arith}
 use Rattle.std.proofs.lemmas.Bool.{and_from, le-leb, ltb-false, or_parts, and_right, le-ltb, lt-ltb, and_parts, leb-true}
 use Rattle.std.specs.List.{list_all, Contains, find}
-use Rattle.elf_base.specs.Refusal.{and_then, unless}
+use Rattle.elf_base.specs.FirstError.{and_then, unless}
 use Rattle.elf_loading.specs.Types.{LoadError, Segment}
 use Rattle.elf_loading.specs.FileCheck.{NoneApplies}
 use Rattle.elf_loading.specs.LoadCheck.{check_load, check_loads, fits_below, is_inside_page, load_end, load_rows, load_start, holds_address, file_end}

@@ -19,7 +19,7 @@ use Rattle.elf_loading.specs.declared.relocate.Sources.{Sources}
 use Rattle.xmas_elf.specs.Symbol.{SymbolFields}
 use Rattle.std.proofs.lemmas.Bool.{cases_lt, eqb-true, le-ltb}
 use Rattle.std.proofs.lemmas.List.Elements.{All-head, All-tail}
-use Rattle.elf_base.specs.Refusal.{and_then, unless}
+use Rattle.elf_base.specs.FirstError.{and_then, unless}
 use Rattle.elf_loading.proofs.ImageLoads.{held_in_plan}
 use Rattle.elf_loading.specs.declared.error.LoadError.TheVariants as error
 
@@ -107,7 +107,7 @@ module _ {E : Type 0} {r : _} (fields : E → SymbolFields) (sources : Sources E
           → IsByOneWord fields sources own plan lazy before after
       by_sizes (Ok relocations) is writing =
           once_by (Ok count) count relocations refl (are_words (is_wrong_size sources plan (length before)) (own_relocations (Some own)) relocations is) writing
-      by_sizes (Err reason) is (refused, same) = absurd (cc)
+      by_sizes (Err reason) is (failed, same) = absurd (cc)
 
 -- the relocation of an image keeps its length
 module _ {E : Type 0} {r : _} (fields : E → SymbolFields) (before after : List ℕ) (sources : Sources E r) (own : DynamicObject E r) (plan : LoadPlan) (lazy : Bool) (result : Result ℕ LoadError) where
@@ -122,7 +122,7 @@ module _ {E : Type 0} {r : _} (fields : E → SymbolFields) (before after : List
           → MatchResult sized (λ relocations. IsWriting fields sources own lazy relocations before after result) (λ reason. (result ≡ Err reason) × (after ≡ before))
           → length after ≡ length before
       by_sizes (Ok relocations) writing = by_writing relocations writing
-      by_sizes (Err reason) (refused, same) = ap length same
+      by_sizes (Err reason) (failed, same) = ap length same
 
 -- The object and the plan at an index of a scope.
 
@@ -137,14 +137,14 @@ module _ {E : Type 0} {r : _} (fields : E → SymbolFields) (objects : Bor (List
   once_at : (own : Option (DynamicObject E r)) (plan : Option LoadPlan) (result : Result ℕ LoadError) → slice_get plans.now of ≡ plan → IsDone own plan result
       → IfOk result (λ count. MatchBoth own plan ⊥ (λ own plan. IsByOneWord fields (sources_of objects plans of places images own) own plan (lazy_of own) before after))
   once_at own plan (Err reason) there relocation = tt
-  once_at None plan (Ok count) there (refused, same) = absurd (cc)
-  once_at (Some own) None (Ok count) there (refused, same) = absurd (cc)
+  once_at None plan (Ok count) there (failed, same) = absurd (cc)
+  once_at (Some own) None (Ok count) there (failed, same) = absurd (cc)
   once_at (Some own) (Some plan) (Ok count) there relocation =
       once_of fields (sources_of objects plans of places images own) own plan (lazy_of own) before after there (Ok count) relocation
 
   kept_at : (own : Option (DynamicObject E r)) (plan : Option LoadPlan) (result : Result ℕ LoadError) → IsDone own plan result → length after ≡ length before
-  kept_at None plan result (refused, same) = ap length same
-  kept_at (Some own) None result (refused, same) = ap length same
+  kept_at None plan result (failed, same) = ap length same
+  kept_at (Some own) None result (failed, same) = ap length same
   kept_at (Some own) (Some plan) result relocation =
       kept_size fields before after (sources_of objects plans of places images own) own plan (lazy_of own) result relocation
 
@@ -266,14 +266,14 @@ module _ {E : Type 0} {r : _} (fields : E → SymbolFields) (sources : Sources E
       by_size : (b : Bool) → is_wrong_size sources plan (length before) ≡ b → Holds
       by_size true is =
           let sized : sized_relocations sources own plan (length before) ≡ Err error.ImageSize = rw is refl in
-          let (refused, same) = subst (IsSized result) sized relocation in
-          wrong is refused same
+          let (failed, same) = subst (IsSized result) sized relocation in
+          wrong is failed same
       by_size false is =
           let sized : sized_relocations sources own plan (length before) ≡ Ok (map relocation_of law.items) = rw (is, law.relocations_are) refl in
           right is (subst (IsSized result) sized relocation)
 
   error_left : (reason : LoadError) → AreWordsApart fields sources.objects.now sources.of own (plan_loads plan) → IsRelocation fields sources own plan false before after (Err reason) → IsErrorLeft reason
-  error_left reason law = by_sizes (IsErrorLeft reason) (Err reason) law (λ is refused same. inl (cc))
+  error_left reason law = by_sizes (IsErrorLeft reason) (Err reason) law (λ is failed same. inl (cc))
       (λ is writing. writing_left law is reason (map relocation_of law.items) (Err reason) refl law.relocations_are writing)
 
 module _ {E : Type 0} {r : _} (fields : E → SymbolFields) (objects : Bor (List (DynamicObject E r))) (plans : Bor (List LoadPlan)) (of : ℕ) (when : Binding) (places : Bor (List Place)) (images : Bor (List (Bor (List ℕ)))) (before after : List ℕ) where
@@ -282,8 +282,8 @@ module _ {E : Type 0} {r : _} (fields : E → SymbolFields) (objects : Bor (List
       (λ own plan. IsRelocation fields (sources_of objects plans of places images own) own plan (binds_lazily (view_entries (object_view own)) when) before after (Err reason))
       → MatchBoth own plan (reason ≡ error.Link ObjectIndex)
       (λ own plan. AreWordsApart fields objects.now of own (plan_loads plan) → binds_lazily (view_entries (object_view own)) when ≡ false → IsErrorLeft reason)
-  left_at None plan reason there (refused, same) = cc
-  left_at (Some own) None reason there (refused, same) = cc
+  left_at None plan reason there (failed, same) = cc
+  left_at (Some own) None reason there (failed, same) = cc
   left_at (Some own) (Some plan) reason there relocation = λ law now.
       let from = sources_of objects plans of places images own in
       error_left fields from own plan before after there reason law

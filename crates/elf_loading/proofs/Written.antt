@@ -8,7 +8,7 @@ use Rattle.std.specs.List.{count_by, find}
 use Rattle.std.proofs.lemmas.List.{map-append}
 use Rattle.std.proofs.lemmas.List.Elements.{All-append, All-cons, All-nil}
 use Rattle.std.proofs.lemmas.List.Sums.{sum_by-append}
-use Rattle.elf_base.specs.Refusal.{and_then, unless}
+use Rattle.elf_base.specs.FirstError.{and_then, unless}
 use Rattle.elf_base.specs.FileHeader.{file_order}
 use Rattle.elf_loading.specs.Types.{Binding, DynamicObject, ElfFile, LoadError, Order, Place, Relocated, Relocation, Word, Asked, Bound, LinkError, Reference, Row}
 use Rattle.elf_linking.specs.DynamicObject.{object_file, object_view, object_records}

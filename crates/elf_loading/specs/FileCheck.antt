@@ -3,7 +3,7 @@ use Rattle.std.specs.Prelude.{◌≡◌, ⊤, ◌++◌, ℕ, ◌+◌, ◌-◌, �
 use Rattle.std.specs.Int.{is_power_of_two}
 use Rattle.std.specs.List.{filter, last_or, list_any}
 use Rattle.elf_base.specs.FileHeader.{file_class, header_fields, type_number}
-use Rattle.elf_base.specs.Refusal.{and_then, unless}
+use Rattle.elf_base.specs.FirstError.{and_then, unless}
 use Rattle.xmas_elf.specs.Types.{ElfFile, Header}
 use Rattle.elf_loading.specs.Types.{LoadError, Segment}
 use Rattle.elf_loading.specs.LoadCheck.{check_loads, holds_address, load_end, loads_rows}

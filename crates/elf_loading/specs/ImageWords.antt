@@ -3,7 +3,7 @@ use Rattle.std.specs.Prelude.{◌≡◌, ℕ, zero, suc, ◌+◌, ◌*◌, ◌/�
 use Rattle.std.specs.Borrow.{Bor}
 use Rattle.std.specs.Int.{bit_at}
 use Rattle.std.specs.List.{Contains, find, list_any}
-use Rattle.elf_base.specs.Refusal.{and_then, unless}
+use Rattle.elf_base.specs.FirstError.{and_then, unless}
 use Rattle.elf_linking.specs.DynamicObject.{object_file, object_view}
 use Rattle.elf_linking.specs.DynamicView.{view_entries}
 use Rattle.elf_linking.specs.References.{relocation_tables}

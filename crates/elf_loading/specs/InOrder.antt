@@ -1,7 +1,7 @@
 -- The relocations of a file in the order in which a dynamic linker applies them (gABI, "Relocation" and "Dynamic
 -- Section"; the order, and which records are passed over, as glibc 2.36 has it).
 use Rattle.std.specs.Prelude.{ℕ, ◌+◌, ◌-◌, ◌/◌, ◌==◌, ◌&&◌, is_some, nat_le, Bool, true, false, List, [], ◌++◌, map, take, Option, None, Some, option_map, unwrap_or, Result, Ok, if◌then◌else◌}
-use Rattle.elf_base.specs.Refusal.{and_then}
+use Rattle.elf_base.specs.FirstError.{and_then}
 use Rattle.elf_linking.specs.DynamicView.{number_with}
 use Rattle.elf_linking.specs.LinkedSections.{relr_at}
 use Rattle.elf_linking.specs.References.{file_machine, record_size, relocation_tables, table_left}

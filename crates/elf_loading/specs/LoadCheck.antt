@@ -1,7 +1,7 @@
 -- Why a load can't be mapped, as Linux and glibc decide it (this project's own list).
 use Rattle.std.specs.Prelude.{ℕ, ◌+◌, ◌%◌, ◌==◌, ◌&&◌, ◌||◌, bit_and, not, nat_le, nat_lt, Bool, List, [], ◌∷◌, ◌++◌, Option, Some, is_none, unwrap_or, Result, Ok}
 use Rattle.std.specs.Int.{is_power_of_two}
-use Rattle.elf_base.specs.Refusal.{and_then, unless}
+use Rattle.elf_base.specs.FirstError.{and_then, unless}
 use Rattle.elf_loading.specs.Types.{LoadError, Segment}
 use Rattle.elf_loading.specs.Pages.{down, up}
 use Rattle.elf_loading.specs.declared.error.LoadError.TheVariants as error

@@ -4,7 +4,7 @@ use Rattle.std.specs.Prelude.{◌≡◌, ℕ, ◌+◌, ◌-◌, ◌*◌, ◌/◌
 use Rattle.std.specs.Borrow.{Bor}
 use Rattle.std.specs.List.{count_by}
 use Rattle.elf_base.specs.FileHeader.{file_order}
-use Rattle.elf_base.specs.Refusal.{and_then, unless}
+use Rattle.elf_base.specs.FirstError.{and_then, unless}
 use Rattle.elf_base.specs.Table.{table_items}
 use Rattle.elf_loading.specs.Types.{Binding, Bound, DynamicObject, LinkError, LoadError, Order, Origin, Place, Relocated, Relocation, Value, Word}
 use Rattle.elf_base.specs.declared.bytes.Order.TheVariants.{Big, Little}

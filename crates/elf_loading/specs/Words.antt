@@ -3,7 +3,7 @@
 use Rattle.std.specs.Prelude.{◌≡◌, ℕ, ◌+◌, ◌%◌, ◌^◌, ◌==◌, ◌&&◌, ◌||◌, not, nat_le, is_none, is_some, Bool, true, false, List, [], ◌∷◌, slice_get, Option, None, Some, Result, Ok, Err, if◌then◌else◌}
 use Rattle.std.specs.List.{list_any}
 use Rattle.elf_base.specs.FileHeader.{file_class}
-use Rattle.elf_base.specs.Refusal.{unless}
+use Rattle.elf_base.specs.FirstError.{unless}
 use Rattle.elf_base.specs.Table.{table_items}
 use Rattle.elf_linking.specs.DynamicObject.{object_records}
 use Rattle.elf_linking.specs.DynamicView.{flag_in, number_with}

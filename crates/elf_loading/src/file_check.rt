@@ -3,7 +3,7 @@
 ghost use Rattle.std.specs.Prelude.{◌≡◌, ◌≤◌, ◌<◌, ◌+◌, nat_lt, length};
 ghost use Rattle.std.specs.Prelude.{Err, IfOk, MatchResult, Ok, true, ◌==◌};
 ghost use Rattle.elf_base.specs.FileHeader.{file_class};
-ghost use Rattle.elf_base.specs.Refusal.{unless};
+ghost use Rattle.elf_base.specs.FirstError.{unless};
 ghost use Rattle.elf_loading.specs.FileCheck.{check_file, header_rows, is_entry_past, kind_of};
 ghost use Rattle.elf_loading.specs.FileCheck.{segment_rows};
 ghost use Rattle.elf_loading.specs.LoadPass.{IsPassOf, is_elsewhere, is_past_covered};

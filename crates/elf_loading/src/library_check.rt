@@ -2,7 +2,7 @@
 
 ghost use Rattle.std.specs.Prelude.{◌≡◌, ◌<◌, None, length, nat_lt, slice_get};
 ghost use Rattle.std.specs.List.{last_or, list_any};
-ghost use Rattle.elf_base.specs.Refusal.{unless};
+ghost use Rattle.elf_base.specs.FirstError.{unless};
 ghost use Rattle.elf_library.specs.Fits.{header_of_library};
 ghost use Rattle.elf_loading.specs.LoaderCheck.{check_between, check_each, check_ends, check_library};
 ghost use Rattle.elf_loading.specs.LoaderCheck.{command_rows, has_template, header_error, kind_rows};

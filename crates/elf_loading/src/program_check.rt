@@ -2,7 +2,7 @@
 
 ghost use Rattle.std.specs.Prelude.{◌≡◌, ◌<◌, length, slice_get};
 ghost use Rattle.std.specs.List.{list_all};
-ghost use Rattle.elf_base.specs.Refusal.{unless};
+ghost use Rattle.elf_base.specs.FirstError.{unless};
 ghost use Rattle.elf_loading.specs.LoaderCheck.{are_nothing, check_each, check_program};
 ghost use Rattle.elf_loading.specs.LoaderCheck.{is_nothing_at, kernel_rows, start_rows};
 ghost use Rattle.elf_loading.specs.Loads.{loads_left};

@@ -2,7 +2,7 @@
 
 ghost use Rattle.std.specs.Prelude.{◌≡◌, ◌<◌, ◌≤◌, ◌^◌, Err, IfOk, IfSome, MatchResult, Ok, Some, slice_get};
 ghost use Rattle.std.specs.Iterator.{YieldsFirst, YieldsFirstBy, item_count};
-ghost use Rattle.elf_base.specs.Refusal.{unless};
+ghost use Rattle.elf_base.specs.FirstError.{unless};
 ghost use Rattle.elf_linking.specs.DynamicView.{flag_in, view_entries};
 ghost use Rattle.elf_linking.specs.References.{file_machine};
 ghost use Rattle.elf_linking.specs.Scope.{scope_objects};

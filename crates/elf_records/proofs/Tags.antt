@@ -1,7 +1,7 @@
 -- An entry of the dynamic section has both a value and a pointer exactly if its tag is OS-specific or
 -- processor-specific; different numbers mean different tags.
 use Rattle.std.proofs.Common.{◌≡◌, ℕ, nat_le, ◌&&◌, ◌⊎◌, inl, inr, Bool, true, false, List, [], ◌∷◌, Result, Ok, Err, is_ok, if◌then◌else◌, refl, sym, ap, ◌∙◌, ◌↔◌}
-use Rattle.elf_base.specs.Refusal.{and_then}
+use Rattle.elf_base.specs.FirstError.{and_then}
 use Rattle.elf_base.specs.declared.error.ElfError.{ElfError}
 use Rattle.elf_base.specs.declared.error.ElfError.TheVariants.{InvalidTag}
 use Rattle.elf_records.specs.Dynamic.{pointer_in, pointer_of, tag_row_in_range, tag_row_of, tag_of, value_in, value_of}

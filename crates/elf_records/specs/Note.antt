@@ -2,8 +2,8 @@
 -- four bytes and sizes are rounded up to four, as in files of class 64).
 use Rattle.std.specs.Prelude.{◌≡◌, ◌≢◌, ℕ, ◌+◌, ◌*◌, ◌/◌, ◌≤◌, nat_eq, nat_lt, not, List, [], ◌∷◌, length, drop, take, Result}
 use Rattle.elf_base.specs.Number.{number}
-use Rattle.elf_base.specs.Refusal.{and_then, unless}
-use Rattle.elf_base.specs.Text.{IsText, TextRefused, text_of}
+use Rattle.elf_base.specs.FirstError.{and_then, unless}
+use Rattle.elf_base.specs.Text.{IsText, TextError, text_of}
 use Rattle.elf_base.specs.declared.bytes.Order.{Order}
 use Rattle.elf_base.specs.declared.error.ElfError.{ElfError}
 use Rattle.elf_base.specs.declared.error.ElfError.TheVariants.{NoteDesc, NoteName}
@@ -37,9 +37,9 @@ pub record IsNoteName (body : List ℕ) (name_size : ℕ) (text : List ℕ) : Ty
   pub size : length text + 1 ≡ name_size
 
 -- why there is no name: no text, or one of another size
-abbrev pub NoteNameRefused : List ℕ → ℕ → ElfError → Type 0
-NoteNameRefused body name_size NoteName = (text : List ℕ) × IsText body 0 text × (length text + 1 ≢ name_size)
-NoteNameRefused body name_size error = TextRefused body 0 error
+abbrev pub NoteNameError : List ℕ → ℕ → ElfError → Type 0
+NoteNameError body name_size NoteName = (text : List ℕ) × IsText body 0 text × (length text + 1 ≢ name_size)
+NoteNameError body name_size error = TextError body 0 error
 
 -- the name, or why there is none, as a function
 unfoldable pub note_name_of : List ℕ → ℕ → Result (List ℕ) ElfError

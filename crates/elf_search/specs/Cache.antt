@@ -7,7 +7,7 @@ use Rattle.std.specs.List.{starts_with}
 use Rattle.std.specs.declared.cmp.Ordering.{Ordering}
 use Rattle.std.specs.declared.cmp.Ordering.TheVariants.{Less, Equal, Greater}
 use Rattle.elf_base.specs.Number.{byte_at, number}
-use Rattle.elf_base.specs.Refusal.{unless}
+use Rattle.elf_base.specs.FirstError.{unless}
 use Rattle.elf_base.specs.Text.{before_zero}
 use Rattle.elf_base.specs.declared.bytes.Order.TheVariants.{Little}
 use Rattle.elf_search.specs.Pieces.{are_small, name_order, pieces}

@@ -4,7 +4,7 @@ use Rattle.std.specs.Prelude.{ℕ, ◌+◌, ◌==◌, ◌/◌, ◌%◌, nat_eq, 
 use Rattle.std.specs.Cmp.Lexicographic.{pointwise}
 use Rattle.std.specs.List.{list_any}
 use Rattle.std.specs.Str.{bytes_eq}
-use Rattle.elf_base.specs.Refusal.{and_then}
+use Rattle.elf_base.specs.FirstError.{and_then}
 use Rattle.elf_linking.specs.VersionTables.{DefinitionParts, NeedParts, definitions_in, need_parts, needs_left}
 use Rattle.elf_linking.specs.Versions.{version_tables}
 use Rattle.elf_linking.specs.declared.error.LinkError.{LinkError}

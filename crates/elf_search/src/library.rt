@@ -2,7 +2,7 @@
 //! (gABI, "Program Header" and "Dynamic Section").
 
 ghost use Rattle.std.specs.Prelude.{◌≡◌, ◌==◌, None, not, ◌&&◌};
-ghost use Rattle.elf_base.specs.Refusal.{unless};
+ghost use Rattle.elf_base.specs.FirstError.{unless};
 ghost use Rattle.elf_linking.specs.DynamicView.{view_entries};
 ghost use Rattle.elf_linking.specs.Segments.{segments_of};
 ghost use Rattle.elf_search.specs.Library.{has_flag_1};

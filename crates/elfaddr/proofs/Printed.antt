@@ -5,9 +5,9 @@ use Rattle.std.specs.Prelude.{MatchResult, ⊤}
 use Rattle.elf_addresses.specs.declared.claim.Claim.{Claim}
 use Rattle.elf_base.specs.FileHeader.{header_of}
 use Rattle.elf_linking.specs.declared.error.LinkError.{LinkError}
-use Rattle.elfaddr.specs.Asked.{AreLinesBy, AreOfFile, AreRefusedOfFile, AreThere}
+use Rattle.elfaddr.specs.Asked.{AreLinesBy, AreOfFile, AreFailedOfFile, AreThere}
 use Rattle.elfaddr.specs.Debug.{AreNaming}
-use Rattle.elfaddr.specs.Ends.{AreInputLines, AreInputRefused, AreInputThere, AreNamedLines, AreNamedThere, IsNamedRefused, no_symbols}
+use Rattle.elfaddr.specs.Ends.{AreInputLines, AreInputFailed, AreInputThere, AreNamedLines, AreNamedThere, IsNamedError, no_symbols}
 use Rattle.elfaddr.specs.Lines.{AreLines}
 use Rattle.elfaddr.specs.declared.Options.{Options}
 use Rattle.elfaddr.specs.declared.Source.{Source}
@@ -23,7 +23,7 @@ use Rattle.xmas_elf.specs.Types.{ElfFile}
 
 -- lines have no error of their own
 pub lines_fault : (path : Bor (List ℕ)) (Written : Type 0) (stop : stops.Stop LinkError) → IsStop (λ error. ⊥) Written ⊤ stop → IsFault path (λ error. ⊥) ⊤ (fault_of path stop)
-lines_fault path Written (stops_are.Refused error) never = absurd never
+lines_fault path Written (stops_are.Failed error) never = absurd never
 lines_fault path Written stops_are.Write why = tt
 lines_fault path Written stops_are.Memory why = tt
 
@@ -39,22 +39,22 @@ module _ {W : Type 0} (contents : W → Option (List ℕ)) (path : Bor (List ℕ
   pub printed_so : (file : ElfFile) (Asked Wanted : (ℕ → Option Claim) → (ℕ → List ℕ) → Type 0) (Was Is : LinkError → Type 0) (result : Result W (Fault LinkError)) → ((claim_of : ℕ → Option Claim) (name_of : ℕ → List ℕ) → Asked claim_of name_of → Wanted claim_of name_of) → ((error : LinkError) → Was error → Is error)
       → MatchResult result (λ back. AppendsSome (AreLinesBy Asked file addresses) old (contents back)) (IsFault path Was (AreThere Asked))
       → MatchResult result (λ back. AppendsSome (AreLinesBy Wanted file addresses) old (contents back)) (IsFault path Is (AreThere Wanted))
-  printed_so file Asked Wanted Was Is (Ok back) so refused (text, are, grown) = (text, record { claim_of = are.claim_of; name_of = are.name_of; asked = so are.claim_of are.name_of are.asked; lines = are.lines }, grown)
-  printed_so file Asked Wanted Was Is (Err fault) so refused why = fault_so path Was Is (AreThere Asked) (AreThere Wanted) fault refused (λ there. record { claim_of = there.claim_of; name_of = there.name_of; asked = so there.claim_of there.name_of there.asked }) why
+  printed_so file Asked Wanted Was Is (Ok back) so failed (text, are, grown) = (text, record { claim_of = are.claim_of; name_of = are.name_of; asked = so are.claim_of are.name_of are.asked; lines = are.lines }, grown)
+  printed_so file Asked Wanted Was Is (Err fault) so failed why = fault_so path Was Is (AreThere Asked) (AreThere Wanted) fault failed (λ there. record { claim_of = there.claim_of; name_of = there.name_of; asked = so there.claim_of there.name_of there.asked }) why
 
   -- lines by a file are those by its input
   pub printed_input : (source : Source) (input : Bor (List ℕ)) (file : ElfFile) (result : Result W (Fault LinkError)) → file.input ≡ input → header_of input.now ≡ Ok file.header
-      → MatchResult result (λ back. AppendsSome (AreLinesBy (AreOfFile file source) file addresses) old (contents back)) (IsFault path (AreRefusedOfFile file source) (AreThere (AreOfFile file source)))
-      → MatchResult result (λ back. AppendsSome (AreInputLines source addresses input) old (contents back)) (IsFault path (AreInputRefused source input) (AreInputThere source input))
+      → MatchResult result (λ back. AppendsSome (AreLinesBy (AreOfFile file source) file addresses) old (contents back)) (IsFault path (AreFailedOfFile file source) (AreThere (AreOfFile file source)))
+      → MatchResult result (λ back. AppendsSome (AreInputLines source addresses input) old (contents back)) (IsFault path (AreInputFailed source input) (AreInputThere source input))
   printed_input source input file (Ok back) same header (text, are, grown) = (text, of_header (λ f. AreLinesBy (AreOfFile f source) f addresses text) input file same header are, grown)
-  printed_input source input file (Err fault) same header why = fault_so path (AreRefusedOfFile file source) (AreInputRefused source input) (AreThere (AreOfFile file source)) (AreInputThere source input) fault
-      (λ error refused. no_symbols error (of_header (λ f. AreRefusedOfFile f source error) input file same header refused))
+  printed_input source input file (Err fault) same header why = fault_so path (AreFailedOfFile file source) (AreInputFailed source input) (AreThere (AreOfFile file source)) (AreInputThere source input) fault
+      (λ error failed. no_symbols error (of_header (λ f. AreFailedOfFile f source error) input file same header failed))
       (λ there. of_header (λ f. AreThere (AreOfFile f source)) input file same header there) why
 
   -- lines by the bytes that name the addresses of an input
   pub printed_named : (options : Options) (input bytes : Bor (List ℕ)) (result : Result W (Fault LinkError)) → AreNaming options input bytes
-      → MatchResult result (λ back. AppendsSome (AreInputLines options.source addresses bytes) old (contents back)) (IsFault path (AreInputRefused options.source bytes) (AreInputThere options.source bytes))
-      → MatchResult result (λ back. AppendsSome (AreNamedLines options addresses input) old (contents back)) (IsFault path (IsNamedRefused options input) (AreNamedThere options input))
+      → MatchResult result (λ back. AppendsSome (AreInputLines options.source addresses bytes) old (contents back)) (IsFault path (AreInputFailed options.source bytes) (AreInputThere options.source bytes))
+      → MatchResult result (λ back. AppendsSome (AreNamedLines options addresses input) old (contents back)) (IsFault path (IsNamedError options input) (AreNamedThere options input))
   printed_named options input bytes (Ok back) naming (text, are, grown) = (text, (bytes, naming, are), grown)
-  printed_named options input bytes (Err fault) naming why = fault_so path (AreInputRefused options.source bytes) (IsNamedRefused options input) (AreInputThere options.source bytes) (AreNamedThere options input) fault
-      (λ error refused. (bytes, naming, refused)) (λ there. (bytes, naming, there)) why
+  printed_named options input bytes (Err fault) naming why = fault_so path (AreInputFailed options.source bytes) (IsNamedError options input) (AreInputThere options.source bytes) (AreNamedThere options input) fault
+      (λ error failed. (bytes, naming, failed)) (λ there. (bytes, naming, there)) why

@@ -14,14 +14,14 @@ use Rattle.elf_base.specs.Number.{number}
 use Rattle.elf_base.specs.Table.{records, table_items}
 use Rattle.elf_base.specs.declared.bytes.Order.{Order}
 use Rattle.elf_linking.specs.AnyTable.{IsLinkedTable}
-use Rattle.elf_linking.specs.DynamicObject.{AreDynamicSymbols, AreOfClassFor, IsObjectRefused}
+use Rattle.elf_linking.specs.DynamicObject.{AreDynamicSymbols, AreOfClassFor, IsObjectError}
 use Rattle.elf_linking.specs.DynamicView.{dynamic_entries_of, dynamic_strings_of}
 use Rattle.elf_linking.specs.Find.{DynamicSymbols}
 use Rattle.elf_linking.specs.References.{file_machine}
 use Rattle.elf_linking.specs.declared.any_table.AnyTable.{AnyTable}
 use Rattle.elf_linking.specs.declared.error.LinkError.{LinkError}
 use Rattle.elfaddr.specs.Lines.{AreLines, name_in}
-use Rattle.elfaddr.specs.Tables.{IsDladdrRefused, IsReach, IsTableCount}
+use Rattle.elfaddr.specs.Tables.{IsDladdrError, IsReach, IsTableCount}
 use Rattle.elfaddr.specs.declared.Source.{Source}
 use Rattle.elfaddr.specs.declared.Source.TheVariants.{Dladdr, Dynamic, Symtab}
 use Rattle.xmas_elf.specs.First.{FindsFirstAt}
@@ -164,14 +164,14 @@ pub record AreLinesBy (Asked : (ℕ → Option Claim) → (ℕ → List ℕ) →
 
 -- in a file of a class, where symbols have a size: the first error of the file's symbols, of the dynamic segment, or of what
 -- `dladdr` reads
-abbrev pub AreRefused : ℕ → ℕ → ElfFile → Source → LinkError → Type 0
-AreRefused class size file Symtab error = HasNoSymbols class size file error
-AreRefused class size file Dynamic error = IsObjectRefused class size file error
-AreRefused class size file Dladdr error = IsDladdrRefused class size file error
+abbrev pub AreFailed : ℕ → ℕ → ElfFile → Source → LinkError → Type 0
+AreFailed class size file Symtab error = HasNoSymbols class size file error
+AreFailed class size file Dynamic error = IsObjectError class size file error
+AreFailed class size file Dladdr error = IsDladdrError class size file error
 
 -- the same of a file, of either class
-pub data AreRefusedOfFile (file : ElfFile) (source : Source) (error : LinkError) : Type 0 where
-  narrow_refused : file_class file.header ≡ 1 → AreRefused 1 16 file source error
-      → AreRefusedOfFile file source error
-  wide_refused : file_class file.header ≢ 1 → AreRefused 2 24 file source error
-      → AreRefusedOfFile file source error
+pub data AreFailedOfFile (file : ElfFile) (source : Source) (error : LinkError) : Type 0 where
+  narrow_failed : file_class file.header ≡ 1 → AreFailed 1 16 file source error
+      → AreFailedOfFile file source error
+  wide_failed : file_class file.header ≢ 1 → AreFailed 2 24 file source error
+      → AreFailedOfFile file source error

@@ -4,7 +4,7 @@ use Rattle.std.specs.Borrow.{Bor}
 use Rattle.elf_base.specs.FileHeader.{header_of}
 use Rattle.elf_linking.specs.declared.error.LinkError.{LinkError}
 use Rattle.elf_linking.specs.declared.error.LinkError.TheVariants.{Elf}
-use Rattle.elfaddr.specs.Asked.{AreLinesBy, AreOfFile, AreRefusedOfFile, AreThere}
+use Rattle.elfaddr.specs.Asked.{AreLinesBy, AreOfFile, AreFailedOfFile, AreThere}
 use Rattle.elfaddr.specs.Debug.{ByNaming}
 use Rattle.elfaddr.specs.declared.Options.{Options}
 use Rattle.elfaddr.specs.declared.Source.{Source}
@@ -22,10 +22,10 @@ abbrev pub AreInputThere : Source → Bor (List ℕ) → Type 0
 AreInputThere source input = OfHeader input (λ file. AreThere (AreOfFile file source))
 
 -- why there are none: an error of the header of an input, or of the file
-pub data AreInputRefused (source : Source) (input : Bor (List ℕ)) : LinkError → Type 0 where
-  no_header : (error : ElfError) → header_of input.now ≡ Err error → AreInputRefused source input (Elf error)
-  no_symbols : (error : LinkError) → OfHeader input (λ file. AreRefusedOfFile file source error)
-      → AreInputRefused source input error
+pub data AreInputFailed (source : Source) (input : Bor (List ℕ)) : LinkError → Type 0 where
+  no_header : (error : ElfError) → header_of input.now ≡ Err error → AreInputFailed source input (Elf error)
+  no_symbols : (error : LinkError) → OfHeader input (λ file. AreFailedOfFile file source error)
+      → AreInputFailed source input error
 
 -- the same by the bytes that name the addresses of an input
 abbrev pub AreNamedLines : Options → List ℕ → Bor (List ℕ) → List ℕ → Type 0
@@ -34,10 +34,10 @@ AreNamedLines options addresses input text = ByNaming options input (λ bytes. A
 abbrev pub AreNamedThere : Options → Bor (List ℕ) → Type 0
 AreNamedThere options input = ByNaming options input (AreInputThere options.source)
 
-abbrev pub IsNamedRefused : Options → Bor (List ℕ) → LinkError → Type 0
-IsNamedRefused options input error = ByNaming options input (λ bytes. AreInputRefused options.source bytes error)
+abbrev pub IsNamedError : Options → Bor (List ℕ) → LinkError → Type 0
+IsNamedError options input error = ByNaming options input (λ bytes. AreInputFailed options.source bytes error)
 
 -- how the program ends for the file at a path: there is a text of its lines, or the fault
 abbrev pub IsEnd : {R : Type 0} → Bor (List ℕ) → Options → List ℕ → (R → Option (List ℕ)) → Option R → Result (Unit {0}) (Fault LinkError) → Type 0
 IsEnd path options addresses remaining file =
-    ends.IsEnd path remaining file (AreNamedLines options addresses) (IsNamedRefused options) (AreNamedThere options)
+    ends.IsEnd path remaining file (AreNamedLines options addresses) (IsNamedError options) (AreNamedThere options)

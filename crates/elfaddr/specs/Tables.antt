@@ -4,7 +4,7 @@ use Rattle.elf_addresses.specs.Reached.{AreReached}
 use Rattle.elf_addresses.specs.declared.dladdr.Reach.{Reach}
 use Rattle.elf_addresses.specs.declared.dladdr.Reach.TheVariants.{Buckets, Chains}
 use Rattle.elf_linking.specs.AnyTable.{IsLinkedTable}
-use Rattle.elf_linking.specs.DynamicObject.{IsObjectFor, IsObjectRefusedFor}
+use Rattle.elf_linking.specs.DynamicObject.{IsObjectFor, IsObjectErrorFor}
 use Rattle.elf_linking.specs.DynamicView.{dynamic_entries_of}
 use Rattle.elf_linking.specs.GnuCount.{IsGnuCount}
 use Rattle.elf_linking.specs.declared.any_table.AnyTable.{AnyTable}
@@ -35,10 +35,10 @@ pub record IsDladdrObject {E : Type 0} {r : _} (class size : ℕ) (file : ElfFil
   pub is_object : IsObjectFor (Some count) class size file object
 
 -- why there is no such object: the first error, of the number of symbols, or of the object
-pub data IsDladdrRefused (class size : ℕ) (file : ElfFile) (error : LinkError) : Type 0 where
-  no_count : IsTableCount file (Err error) → IsDladdrRefused class size file error
-  no_object : (count : ℕ) → IsTableCount file (Ok count) → IsObjectRefusedFor (Some count) class size file error
-      → IsDladdrRefused class size file error
+pub data IsDladdrError (class size : ℕ) (file : ElfFile) (error : LinkError) : Type 0 where
+  no_count : IsTableCount file (Err error) → IsDladdrError class size file error
+  no_object : (count : ℕ) → IsTableCount file (Ok count) → IsObjectErrorFor (Some count) class size file error
+      → IsDladdrError class size file error
 
 -- what a hash table reaches of as many symbols: for GNU's, words that say it for each
 abbrev pub IsReach : AnyTable → ℕ → Reach → Type 0

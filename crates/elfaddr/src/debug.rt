@@ -140,7 +140,7 @@ fn read_wanted<'p>(
     };
     match check(wanted, how, &bytes) {
         Ok(()) => Ok(bytes),
-        Err(error) => Err(Fault::Refused { path, error }),
+        Err(error) => Err(Fault::Failed { path, error }),
     }
 }
 

@@ -34,9 +34,9 @@ impl<C: Named> Output for Lines<'_, '_, C> {
     ghost flushed = { λ lines. appended_flushed (AreLines (C.claim_of lines.claims.now)
         (C.name_of lines.claims.now) lines.file.now lines.addresses.now) };
 
-    type Refusal = LinkError;
+    type AnyError = LinkError;
 
-    ghost Refuses = { λ lines error. ⊥ };
+    ghost Fails = { λ lines error. ⊥ };
 
     ghost Begins = { λ lines. ⊤ };
 

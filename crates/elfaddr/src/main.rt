@@ -14,8 +14,8 @@ ghost use Rattle.std.specs.Prelude.{◌≡◌, ◌≢◌, ◌≤◌, IfErr, IfOk
 ghost use Rattle.std.specs.Prelude.{MatchResult, OnOk, Result};
 ghost use Rattle.elf_base.specs.FileHeader.{header_of};
 ghost use Rattle.elf_linking.specs.declared.error.LinkError.{LinkError};
-ghost use Rattle.elfaddr.specs.Ends.{AreInputLines, AreInputRefused, AreInputThere, IsEnd};
-ghost use Rattle.elfaddr.specs.Ends.{AreNamedLines, AreNamedThere, IsNamedRefused};
+ghost use Rattle.elfaddr.specs.Ends.{AreInputLines, AreInputFailed, AreInputThere, IsEnd};
+ghost use Rattle.elfaddr.specs.Ends.{AreNamedLines, AreNamedThere, IsNamedError};
 ghost use Rattle.program_ends.specs.Appended.{AppendsSome};
 ghost use Rattle.program_ends.specs.Ends.{IsFault, OfFile, quiet_status_of};
 ghost use Rattle.program_ends.specs.declared.Fault.{Fault};
@@ -145,7 +145,7 @@ fn print_addresses<'a, R: Read + Drop, W: Write + Drop, E: Write>(
         AppendsSome (AreNamedLines options.entry addresses.now input)
         (W.contents out) (W.contents back))) }
     ensures fault { IfErr result (IsFault path.entry
-        (λ error. OfFile R.remaining file (λ input. IsNamedRefused options.entry input error))
+        (λ error. OfFile R.remaining file (λ input. IsNamedError options.entry input error))
         (OfFile R.remaining file (λ input. AreNamedThere options.entry input))) }
 {
     let Some(input) = read_whole(rt.alloc(), file) else {
@@ -171,7 +171,7 @@ fn print_named<'a, W: Write + Drop, E: Write>(
     ensures { MatchResult result
         (λ back. AppendsSome (AreNamedLines options.entry addresses.now input.entry)
         (W.contents out) (W.contents back))
-        (IsFault path.entry (IsNamedRefused options.entry input.entry)
+        (IsFault path.entry (IsNamedError options.entry input.entry)
         (AreNamedThere options.entry input.entry)) }
 {
     match debug_bytes(rt, path, options, input, err) {
@@ -193,12 +193,12 @@ fn print_input<'a, W: Write + Drop>(
     ensures { MatchResult result
         (λ back. AppendsSome (AreInputLines source addresses.now input.entry)
         (W.contents out) (W.contents back))
-        (IsFault path.entry (AreInputRefused source input.entry)
+        (IsFault path.entry (AreInputFailed source input.entry)
         (AreInputThere source input.entry)) }
 {
     match ElfFile::new(input) {
         Ok(file) => print_file(alloc, path, &file, source, addresses, out),
-        Err(error) => Err(Fault::Refused {
+        Err(error) => Err(Fault::Failed {
             path,
             error: LinkError::Elf(error),
         }),

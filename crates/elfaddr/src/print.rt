@@ -3,13 +3,13 @@
 ghost use Rattle.std.specs.Prelude.{◌≡◌, MatchResult, Ok, length, ⊤};
 ghost use Rattle.elf_addresses.specs.OfFile.{HasNoSymbols};
 ghost use Rattle.elf_addresses.specs.SymbolClaims.{symbol_items};
-ghost use Rattle.elf_linking.specs.DynamicObject.{IsObjectRefused};
+ghost use Rattle.elf_linking.specs.DynamicObject.{IsObjectError};
 ghost use Rattle.elf_linking.specs.DynamicView.{dynamic_strings_of};
-ghost use Rattle.elfaddr.specs.Asked.{AreAsked, AreLinesBy, AreOfFile, AreRefused, AreRefusedOfFile};
+ghost use Rattle.elfaddr.specs.Asked.{AreAsked, AreLinesBy, AreOfFile, AreFailed, AreFailedOfFile};
 ghost use Rattle.elfaddr.specs.Asked.{AreThere, FromDladdr, FromDynamic, FromFile};
 ghost use Rattle.elfaddr.specs.Asked.{claims_of, kind, parts_in};
 ghost use Rattle.elfaddr.specs.Lines.{AreLines, name_in};
-ghost use Rattle.elfaddr.specs.Tables.{IsDladdrObject, IsDladdrRefused};
+ghost use Rattle.elfaddr.specs.Tables.{IsDladdrObject, IsDladdrError};
 ghost use Rattle.elfaddr.specs.Tables.{IsReach, IsTableCount};
 ghost use Rattle.program_ends.specs.Appended.{AppendsSome};
 ghost use Rattle.program_ends.specs.Ends.{IsFault};
@@ -40,7 +40,7 @@ pub(crate) fn print_file<'a, W: Write + Drop>(
     ensures { let asked = AreOfFile file.now source in
         MatchResult result (λ back. AppendsSome (AreLinesBy asked file.now addresses.now)
         (W.contents out) (W.contents back))
-        (IsFault path.entry (AreRefusedOfFile file.now source) (AreThere asked)) }
+        (IsFault path.entry (AreFailedOfFile file.now source) (AreThere asked)) }
 {
     if file.header.pt1.class.raw() == 1 {
         return print_by::<DynEntry32, W>(alloc, path, file, source, addresses, out);
@@ -61,7 +61,7 @@ fn print_by<'a, D: LinkedSymbol, W: Write + Drop>(
     ensures { let asked = AreAsked D.CLASS (kind D.SIZE D.value D.fields) file.now source in
         MatchResult result (λ back. AppendsSome (AreLinesBy asked file.now addresses.now)
         (W.contents out) (W.contents back))
-        (IsFault path.entry (AreRefused D.CLASS D.SIZE file.now source) (AreThere asked)) }
+        (IsFault path.entry (AreFailed D.CLASS D.SIZE file.now source) (AreThere asked)) }
 {
     match source {
         Source::Symtab => print_symtab::<D, W>(alloc, path, file, addresses, out),
@@ -85,7 +85,7 @@ fn print_symtab<'a, D: LinkedSymbol, W: Write + Drop>(
 {
     match AddressSymbols::<D>::of_file(file) {
         Ok(symbols) => print_symbols(alloc, path, file, &symbols, addresses, out),
-        Err(error) => Err(Fault::Refused { path, error }),
+        Err(error) => Err(Fault::Failed { path, error }),
     }
 }
 
@@ -100,11 +100,11 @@ fn print_dynamic<'a, D: LinkedSymbol, W: Write + Drop>(
     ensures { let asked = FromDynamic D.CLASS (kind D.SIZE D.value D.fields) file.now in
         MatchResult result (λ back. AppendsSome (AreLinesBy asked file.now addresses.now)
         (W.contents out) (W.contents back))
-        (IsFault path.entry (IsObjectRefused D.CLASS D.SIZE file.now) (AreThere asked)) }
+        (IsFault path.entry (IsObjectError D.CLASS D.SIZE file.now) (AreThere asked)) }
 {
     match AddressSymbols::<D>::of_dynamic(file) {
         Ok(symbols) => print_symbols(alloc, path, file, &symbols, addresses, out),
-        Err(error) => Err(Fault::Refused { path, error }),
+        Err(error) => Err(Fault::Failed { path, error }),
     }
 }
 
@@ -141,13 +141,13 @@ fn print_dladdr<'a, D: LinkedSymbol, W: Write + Drop>(
     ensures { let asked = FromDladdr D.CLASS (kind D.SIZE D.value D.fields) file.now in
         MatchResult result (λ back. AppendsSome (AreLinesBy asked file.now addresses.now)
         (W.contents out) (W.contents back))
-        (IsFault path.entry (IsDladdrRefused D.CLASS D.SIZE file.now) (AreThere asked)) }
+        (IsFault path.entry (IsDladdrError D.CLASS D.SIZE file.now) (AreThere asked)) }
 {
     match object_with_strings::<D>(file) {
         Ok((object, strings)) => {
             print_reached(alloc, path, file, &object, strings, addresses, out)
         }
-        Err(error) => Err(Fault::Refused { path, error }),
+        Err(error) => Err(Fault::Failed { path, error }),
     }
 }
 
@@ -172,7 +172,7 @@ fn object_with_strings<'a, D: LinkedSymbol>(
     ensures { MatchResult result
         (λ parts. IsDladdrObject D.CLASS D.SIZE file.now parts.0
         × (dynamic_strings_of file.now ≡ Ok parts.1.now))
-        (IsDladdrRefused D.CLASS D.SIZE file.now) }
+        (IsDladdrError D.CLASS D.SIZE file.now) }
 {
     let count = table_count(file)?;
     let object = DynamicObject::<D>::read_counted(file, count)?;
@@ -197,7 +197,7 @@ fn print_reached<'a, 'f, D: LinkedSymbol, W: Write + Drop>(
     ensures { let asked = FromDladdr D.CLASS (kind D.SIZE D.value D.fields) file.now in
         MatchResult result (λ back. AppendsSome (AreLinesBy asked file.now addresses.now)
         (W.contents out) (W.contents back))
-        (IsFault path.entry (IsDladdrRefused D.CLASS D.SIZE file.now) (AreThere asked)) }
+        (IsFault path.entry (IsDladdrError D.CLASS D.SIZE file.now) (AreThere asked)) }
 {
     let table = object.symbols().table();
     let count = table.len();

@@ -29,7 +29,7 @@ use Rattle.elfbind.specs.Bindings.{IsErrorIn, IsErrorOf, IsItemOf, is_missing, i
 use Rattle.elfbind.specs.Checks.{ArePassed}
 use Rattle.linking_programs.specs.Files.{IsOfInput}
 use Rattle.linking_programs.specs.declared.Input.{Input}
-use Rattle.linking_programs.specs.declared.Refused as reasons
+use Rattle.linking_programs.specs.declared.Failed as reasons
 use Rattle.program_ends.specs.Appended.{AppendsSome}
 use Rattle.xmas_elf.specs.Symbol.{SymbolFields}
 
@@ -109,8 +109,8 @@ module _ {E : Type 0} {r : _} (fields : E → SymbolFields) (inputs : List Input
     has_line passed asked answer_is = subst IsSome (sym (line_by_asked passed asked answer_is)) refl
 
     -- why a reference has no line
-    pub asked_error : (error : LinkError) → answer ≡ Err error → (refused : reasons.Refused LinkError) → IsOfInput inputs binding.from refused × (refused.error ≡ error) → IsErrorOf fields inputs objects (item_parts fields item) refused
-    asked_error error answer_is refused (path, same) =
-        subst (λ one. IsErrorOf fields inputs objects (item_parts fields one) refused) (sym item_is)
-        (subst (λ one. IsSomeAnd one (λ object. IsOfInput inputs binding.from refused × IsErrorIn fields object (Some (binding.reference, found)) refused.error)) (sym at)
+    pub asked_error : (error : LinkError) → answer ≡ Err error → (failed : reasons.Failed LinkError) → IsOfInput inputs binding.from failed × (failed.error ≡ error) → IsErrorOf fields inputs objects (item_parts fields item) failed
+    asked_error error answer_is failed (path, same) =
+        subst (λ one. IsErrorOf fields inputs objects (item_parts fields one) failed) (sym item_is)
+        (subst (λ one. IsSomeAnd one (λ object. IsOfInput inputs binding.from failed × IsErrorIn fields object (Some (binding.reference, found)) failed.error)) (sym at)
         (path, sym asks ∙ ap (result_map asked_parts) answer_is ∙ ap (λ e. Err e) (sym same)))

@@ -8,10 +8,10 @@ use Rattle.elf_linking.specs.declared.error.LinkError.{LinkError}
 use Rattle.elf_linking.specs.declared.object.DynamicObject.{DynamicObject}
 use Rattle.elf_linking.specs.declared.references.Reference.{Reference}
 use Rattle.elf_linking.specs.declared.scope.Bound.{Bound}
-use Rattle.elfbind.specs.Bindings.{AreBindingsBegun, AreBindingsRefused, AreBindingsWritten, IsAtItem, IsErrorOf, IsItemOf, IsLine, line_of}
+use Rattle.elfbind.specs.Bindings.{AreBindingsBegun, AreBindingsFailed, AreBindingsWritten, IsAtItem, IsErrorOf, IsItemOf, IsLine, line_of}
 use Rattle.elfbind.specs.Files.{AreWritten}
 use Rattle.linking_programs.specs.declared.Input.{Input}
-use Rattle.linking_programs.specs.declared.Refused as reasons
+use Rattle.linking_programs.specs.declared.Failed as reasons
 use Rattle.elfbind.proofs.Steps.{AreWrittenSoFar, next_more, none_so_far}
 use Rattle.program_ends.proofs.Ends.{stop_so}
 use Rattle.program_ends.specs.Appended.{AppendsSome}
@@ -105,9 +105,9 @@ module _ (inputs : List Input) (objects : List ObjectParts) (only_missing : Bool
 module _ {E : Type 0} {r : _} (fields : E → SymbolFields) (inputs : List Input) (objects : List (DynamicObject E r)) (only_missing : Bool) where
   -- why an item stops the lines
   pub lines_stop : (left later : List Item) (item : Item) (missing : Bool) (old before : Option (List ℕ)) → AreLinesSoFar inputs (map (object_parts fields) objects) only_missing left missing old before → left ≡ item ∷ later
-      → (stop : Stop (reasons.Refused LinkError)) → IsStop (IsErrorOf fields inputs objects item) (IsSome (line_of inputs (map (object_parts fields) objects) only_missing item)) ⊥ stop
-      → IsStop (AreBindingsRefused fields inputs objects only_missing) (AreBindingsBegun inputs (map (object_parts fields) objects) only_missing) ⊥ stop
+      → (stop : Stop (reasons.Failed LinkError)) → IsStop (IsErrorOf fields inputs objects item) (IsSome (line_of inputs (map (object_parts fields) objects) only_missing item)) ⊥ stop
+      → IsStop (AreBindingsFailed fields inputs objects only_missing) (AreBindingsBegun inputs (map (object_parts fields) objects) only_missing) ⊥ stop
   lines_stop left later item missing old before so_far first stop why =
       let here = at_item inputs (map (object_parts fields) objects) only_missing left later item missing old before so_far first in
-      stop_so _ _ _ _ _ _ stop (λ refused error. here (λ one. IsErrorOf fields inputs objects one refused) error)
+      stop_so _ _ _ _ _ _ stop (λ failed error. here (λ one. IsErrorOf fields inputs objects one failed) error)
       (λ some. here (λ one. IsSome (line_of inputs (map (object_parts fields) objects) only_missing one)) some) (λ never. never) why

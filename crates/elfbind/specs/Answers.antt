@@ -3,15 +3,15 @@ use Rattle.std.specs.Prelude.{◌≡◌, ℕ, Bool, true, false, cond, List, map
 use Rattle.elf_linking.specs.Exports.{object_parts}
 use Rattle.elf_linking.specs.declared.error.LinkError.{LinkError}
 use Rattle.elf_linking.specs.declared.object.DynamicObject.{DynamicObject}
-use Rattle.elfbind.specs.Bindings.{AreBindingsBegun, AreBindingsRefused, AreBindingsWritten}
-use Rattle.elfbind.specs.Checks.{ArePassed, IsCheckLine, IsCheckRefused}
+use Rattle.elfbind.specs.Bindings.{AreBindingsBegun, AreBindingsFailed, AreBindingsWritten}
+use Rattle.elfbind.specs.Checks.{ArePassed, IsCheckLine, IsCheckFailed}
 use Rattle.elfbind.specs.Files.{AreWritten}
-use Rattle.linking_programs.specs.Files.{AreObjectsOf, IsInputRefused, is_first_narrow, refused_fault_of}
+use Rattle.linking_programs.specs.Files.{AreObjectsOf, IsInputError, is_first_narrow, failed_fault_of}
 use Rattle.elfbind.specs.declared.Question as questions
 use Rattle.program_ends.specs.declared.TheConstants.{CLOSED}
 use Rattle.elfbind.specs.declared.Question.TheVariants.{Bindings, Checks}
 use Rattle.linking_programs.specs.declared.Input.{Input}
-use Rattle.linking_programs.specs.declared.Refused.{Refused}
+use Rattle.linking_programs.specs.declared.Failed.{Failed}
 use Rattle.program_ends.specs.Appended.{AppendsSome}
 use Rattle.program_ends.specs.Stops.{HasBegun, IsStop}
 use Rattle.program_ends.specs.declared.Fault.{Fault}
@@ -30,12 +30,12 @@ pub data IsAnswer {E : Type 0} {r : _} (fields : E → SymbolFields) (inputs : L
       → IsAnswer fields inputs objects question wrong text
 
 -- why there is no output: a check fails, or an error of a reference; the lines of checks always have one
-pub data IsAnswerRefused {E : Type 0} {r : _} (fields : E → SymbolFields) (inputs : List Input) (objects : List (DynamicObject E r)) (question : questions.Question) (refused : Refused LinkError) : Type 0 where
-  by_check : (only_missing : Bool) → question ≡ Bindings only_missing → IsCheckRefused fields inputs objects refused
-      → IsAnswerRefused fields inputs objects question refused
+pub data IsAnswerError {E : Type 0} {r : _} (fields : E → SymbolFields) (inputs : List Input) (objects : List (DynamicObject E r)) (question : questions.Question) (failed : Failed LinkError) : Type 0 where
+  by_check : (only_missing : Bool) → question ≡ Bindings only_missing → IsCheckFailed fields inputs objects failed
+      → IsAnswerError fields inputs objects question failed
   by_binding : (only_missing : Bool) → question ≡ Bindings only_missing → ArePassed fields objects
-      → AreBindingsRefused fields inputs objects only_missing refused
-      → IsAnswerRefused fields inputs objects question refused
+      → AreBindingsFailed fields inputs objects only_missing failed
+      → IsAnswerError fields inputs objects question failed
 
 -- how far the program has come when the first line is written
 pub data IsAnswerBegun {E : Type 0} {r : _} (fields : E → SymbolFields) (inputs : List Input) (objects : List (DynamicObject E r)) (question : questions.Question) : Type 0 where
@@ -59,12 +59,12 @@ pub record IsAnswerOf {E : Type 0} (r : _) (fields : E → SymbolFields) (class 
   pub answer : IsAnswer fields inputs objects question wrong text
 
 -- the error of the files: one of them is no file of the class, or there is no output
-pub data AreFilesRefused {E : Type 0} (r : _) (fields : E → SymbolFields) (class size : ℕ) (inputs : List Input) (question : questions.Question) (refused : Refused LinkError) : Type 0 where
-  by_input : IsInputRefused {E = E} r class size inputs refused
-      → AreFilesRefused r fields class size inputs question refused
+pub data AreFilesFailed {E : Type 0} (r : _) (fields : E → SymbolFields) (class size : ℕ) (inputs : List Input) (question : questions.Question) (failed : Failed LinkError) : Type 0 where
+  by_input : IsInputError {E = E} r class size inputs failed
+      → AreFilesFailed r fields class size inputs question failed
   by_answer : (objects : List (DynamicObject E r)) → AreObjectsOf class size inputs objects
-      → IsAnswerRefused fields inputs objects question refused
-      → AreFilesRefused r fields class size inputs question refused
+      → IsAnswerError fields inputs objects question failed
+      → AreFilesFailed r fields class size inputs question failed
 
 -- how far the program has come when a write fails
 pub record AreFilesWritten {E : Type 0} (r : _) (fields : E → SymbolFields) (class size : ℕ) (inputs : List Input) (question : questions.Question) : Type 0 where
@@ -76,9 +76,9 @@ pub record AreFilesWritten {E : Type 0} (r : _) (fields : E → SymbolFields) (c
 pub data IsEndOf {E : Type 0} (r : _) (fields : E → SymbolFields) (class size : ℕ) (inputs : List Input) (question : questions.Question) : Result Bool (Fault LinkError) → Type 0 where
   answered : (wrong : Bool) → IsAnswerOf r fields class size inputs question wrong
       → IsEndOf r fields class size inputs question (Ok wrong)
-  stopped : (stop : stops.Stop (Refused LinkError)) → IsStop (AreFilesRefused r fields class size inputs question)
+  stopped : (stop : stops.Stop (Failed LinkError)) → IsStop (AreFilesFailed r fields class size inputs question)
       (AreFilesWritten r fields class size inputs question) ⊤ stop
-      → IsEndOf r fields class size inputs question (Err (refused_fault_of stop))
+      → IsEndOf r fields class size inputs question (Err (failed_fault_of stop))
 
 -- The same of files of the class of the first. The first two arguments say how the record of a symbol of each class is
 -- read.

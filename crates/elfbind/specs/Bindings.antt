@@ -21,7 +21,7 @@ use Rattle.elf_linking.specs.declared.scope.asking.Asked.TheVariants.{Look, Own}
 use Rattle.elfbind.specs.Files.{AreWritten}
 use Rattle.linking_programs.specs.Files.{IsOfInput}
 use Rattle.linking_programs.specs.declared.Input.{Input}
-use Rattle.linking_programs.specs.declared.Refused.{Refused}
+use Rattle.linking_programs.specs.declared.Failed.{Failed}
 use Rattle.xmas_elf.specs.Symbol.{SymbolFields}
 
 -- The text of a line.
@@ -94,9 +94,9 @@ IsErrorIn fields object None error = references_of (object_file object) (view_en
 IsErrorIn fields object (Some binding) error = asked_of fields object binding.0 ≡ Err error
 
 -- the same, with the path of the file
-abbrev pub IsErrorOf : {E : Type 0} → {r : _} → (E → SymbolFields) → List Input → List (DynamicObject E r) → ℕ × Option (Reference × Option (Bound SymbolFields)) → Refused LinkError → Type 0
-IsErrorOf fields inputs objects item refused = IsSomeAnd (slice_get objects item.0) (λ object.
-    IsOfInput inputs item.0 refused × IsErrorIn fields object item.1 refused.error)
+abbrev pub IsErrorOf : {E : Type 0} → {r : _} → (E → SymbolFields) → List Input → List (DynamicObject E r) → ℕ × Option (Reference × Option (Bound SymbolFields)) → Failed LinkError → Type 0
+IsErrorOf fields inputs objects item failed = IsSomeAnd (slice_get objects item.0) (λ object.
+    IsOfInput inputs item.0 failed × IsErrorIn fields object item.1 failed.error)
 
 -- an item is of an object; if it has no reference, the relocations of the object can't be read
 abbrev pub IsItemOf : List ObjectParts → ℕ × Option (Reference × Option (Bound SymbolFields)) → Type 0
@@ -124,9 +124,9 @@ pub record IsAtItem (inputs : List Input) (objects : List ObjectParts) (only_mis
   pub here : P item
 
 -- why the lines end before the last: the first item that has an error
-abbrev pub AreBindingsRefused : {E : Type 0} → {r : _} → (E → SymbolFields) → List Input → List (DynamicObject E r) → Bool → Refused LinkError → Type 0
-AreBindingsRefused fields inputs objects only_missing refused =
-    IsAtItem inputs (map (object_parts fields) objects) only_missing (λ item. IsErrorOf fields inputs objects item refused)
+abbrev pub AreBindingsFailed : {E : Type 0} → {r : _} → (E → SymbolFields) → List Input → List (DynamicObject E r) → Bool → Failed LinkError → Type 0
+AreBindingsFailed fields inputs objects only_missing failed =
+    IsAtItem inputs (map (object_parts fields) objects) only_missing (λ item. IsErrorOf fields inputs objects item failed)
 
 -- an item has its line, as those before it have
 abbrev pub AreBindingsBegun : List Input → List ObjectParts → Bool → Type 0

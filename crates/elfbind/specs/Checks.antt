@@ -9,7 +9,7 @@ use Rattle.elf_linking.specs.declared.error.LinkError.{LinkError}
 use Rattle.elf_linking.specs.declared.object.DynamicObject.{DynamicObject}
 use Rattle.linking_programs.specs.Files.{IsOfInput}
 use Rattle.linking_programs.specs.declared.Input.{Input}
-use Rattle.linking_programs.specs.declared.Refused.{Refused}
+use Rattle.linking_programs.specs.declared.Failed.{Failed}
 use Rattle.xmas_elf.specs.Symbol.{SymbolFields}
 
 -- the line of a file: its path, and that its checks pass, or why not
@@ -34,10 +34,10 @@ abbrev pub ArePassed : {E : Type 0} → {r : _} → (E → SymbolFields) → Lis
 ArePassed fields objects = (i : ℕ) → IsPassedAt fields objects i
 
 -- the first object whose checks fail, and why; those of the objects before it pass
-pub record IsCheckRefused {E : Type 0} {r : _} (fields : E → SymbolFields) (inputs : List Input) (objects : List (DynamicObject E r)) (refused : Refused LinkError) : Type 0 where
+pub record IsCheckFailed {E : Type 0} {r : _} (fields : E → SymbolFields) (inputs : List Input) (objects : List (DynamicObject E r)) (failed : Failed LinkError) : Type 0 where
   pub index : ℕ
   pub object : DynamicObject E r
   pub object_is : slice_get objects index ≡ Some object
   pub passed : (i : ℕ) → i < index → IsPassedAt fields objects i
-  pub path_is : IsOfInput inputs index refused
-  pub error_is : AreChecked (object_dynamic_symbols fields object) (Err refused.error)
+  pub path_is : IsOfInput inputs index failed
+  pub error_is : AreChecked (object_dynamic_symbols fields object) (Err failed.error)

@@ -9,7 +9,7 @@ ghost use Rattle.elf_linking.specs.DynamicObject.{object_file, object_view};
 ghost use Rattle.elf_linking.specs.DynamicView.{view_entries};
 ghost use Rattle.elf_linking.specs.Exports.{object_parts};
 ghost use Rattle.elf_linking.specs.References.{references_of};
-ghost use Rattle.elfbind.specs.Bindings.{AreBindingsBegun, AreBindingsRefused, AreBindingsWritten};
+ghost use Rattle.elfbind.specs.Bindings.{AreBindingsBegun, AreBindingsFailed, AreBindingsWritten};
 ghost use Rattle.elfbind.specs.Bindings.{IsErrorOf, IsItemOf, is_missing, is_weak, line_of};
 ghost use Rattle.elfbind.specs.Bindings.{line_text, path_in, shown_text, target_of, target_text};
 ghost use Rattle.elfbind.specs.Bindings.{version_text};
@@ -23,7 +23,7 @@ use elf_linking::find::Wanted;
 use elf_linking::scope::{Asked, Bound};
 use elf_linking::view::LinkedSymbol;
 use elf_linking::{CheckedObject, DynamicObject, LinkError};
-use linking_programs::{Input, Refused, refusal_at};
+use linking_programs::{Failed, Input, failure_at};
 use program_ends::Stop;
 use std::fmt::Display;
 use std::io::Write;
@@ -38,14 +38,14 @@ pub(crate) fn write_bindings<'s, E: LinkedSymbol, W: Write>(
     checked: &[CheckedObject<'_, E>],
     only_missing: bool,
     out: &mut W,
-) -> Result<bool, Stop<Refused<'s, LinkError>>>
+) -> Result<bool, Stop<Failed<'s, LinkError>>>
     requires same { length objects.now ≡ length inputs.now }
     requires passed { ArePassed E.fields objects.now }
     requires checked { checked.now ≡ map (object_parts E.fields) objects.now }
     ensures { MatchResult result (λ missing. AppendsSome
         (AreBindingsWritten inputs.now (map (object_parts E.fields) objects.now) only_missing missing)
         (W.contents out.old) (W.contents out.new))
-        (IsStop (AreBindingsRefused E.fields inputs.now objects.now only_missing)
+        (IsStop (AreBindingsFailed E.fields inputs.now objects.now only_missing)
         (AreBindingsBegun inputs.now (map (object_parts E.fields) objects.now) only_missing) ⊥) }
 {
     let mut missing = false;
@@ -65,7 +65,7 @@ fn write_item<'s, E: LinkedSymbol, W: Write>(
     item: Result<CheckedBinding<E>, usize>,
     only_missing: bool,
     out: &mut W,
-) -> Result<bool, Stop<Refused<'s, LinkError>>>
+) -> Result<bool, Stop<Failed<'s, LinkError>>>
     requires same { length objects.now ≡ length inputs.now }
     requires passed { ArePassed E.fields objects.now }
     requires item { IsItemOf (map (object_parts E.fields) objects.now) (item_parts E.fields item) }
@@ -78,7 +78,7 @@ fn write_item<'s, E: LinkedSymbol, W: Write>(
 {
     let binding = match item {
         Ok(binding) => binding,
-        Err(from) => return Err(refusal_at(inputs, from, references_error(&objects[from]))),
+        Err(from) => return Err(failure_at(inputs, from, references_error(&objects[from]))),
     };
     let CheckedBinding {
         from,
@@ -89,7 +89,7 @@ fn write_item<'s, E: LinkedSymbol, W: Write>(
     let (name, wanted) = match object.asked(&reference) {
         Ok(Asked::Own(_)) => return Ok(false),
         Ok(Asked::Look { name, wanted, .. }) => (name, wanted),
-        Err(error) => return Err(refusal_at(inputs, from, error)),
+        Err(error) => return Err(failure_at(inputs, from, error)),
     };
     let weak = is_weak(&object.symbol(reference.symbol));
     let missing = is_missing(weak, &bound);

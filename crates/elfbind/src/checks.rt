@@ -10,7 +10,7 @@ ghost use Rattle.program_ends.specs.Stops.{IsStop};
 use crate::files::either;
 use elf_linking::view::LinkedSymbol;
 use elf_linking::{CheckedObject, DynamicObject, LinkError};
-use linking_programs::{Input, Refused};
+use linking_programs::{Failed, Input};
 use program_ends::Stop;
 use std::fmt;
 use std::fmt::Display;
@@ -21,7 +21,7 @@ pub(crate) fn write_checks<'s, E: LinkedSymbol, W: Write>(
     inputs: &'s [Input<'_>],
     objects: &[DynamicObject<'_, E>],
     out: &mut W,
-) -> Result<bool, Stop<Refused<'s, LinkError>>>
+) -> Result<bool, Stop<Failed<'s, LinkError>>>
     requires same { length objects.now ≡ length inputs.now }
     ensures { MatchResult result (λ failing. AppendsSome
         (AreWritten (IsCheckLine E.fields inputs.now) objects.now failing)
@@ -43,7 +43,7 @@ fn write_check<'s, E: LinkedSymbol, W: Write>(
     objects: &[DynamicObject<'_, E>],
     index: usize,
     out: &mut W,
-) -> Result<bool, Stop<Refused<'s, LinkError>>>
+) -> Result<bool, Stop<Failed<'s, LinkError>>>
     requires same { length objects.now ≡ length inputs.now }
     requires below { index < length objects.now }
     ensures { IsSomeAnd (slice_get objects.now index) (λ object. MatchResult result

@@ -2,12 +2,12 @@
 
 ghost use Rattle.std.specs.Prelude.{◌≡◌, ◌||◌, MatchResult, length, map, ⊤};
 ghost use Rattle.elf_linking.specs.Exports.{object_parts};
-ghost use Rattle.elfbind.specs.Checks.{ArePassed, IsCheckRefused};
+ghost use Rattle.elfbind.specs.Checks.{ArePassed, IsCheckFailed};
 ghost use Rattle.program_ends.specs.Stops.{IsStop};
 
 use elf_linking::view::LinkedSymbol;
 use elf_linking::{CheckedObject, DynamicObject, LinkError};
-use linking_programs::{Input, Refused, refusal_at};
+use linking_programs::{Failed, Input, failure_at};
 use program_ends::Stop;
 use std::alloc::Global;
 
@@ -17,11 +17,11 @@ pub(crate) fn checked_objects<'a, 'f, E: LinkedSymbol>(
     alloc: Global,
     inputs: &'a [Input<'_>],
     objects: &[DynamicObject<'f, E>],
-) -> Result<Vec<CheckedObject<'f, E>>, Stop<Refused<'a, LinkError>>>
+) -> Result<Vec<CheckedObject<'f, E>>, Stop<Failed<'a, LinkError>>>
     requires { length objects.now ≡ length inputs.now }
     ensures { MatchResult result (λ checked. ArePassed E.fields objects.now
         × (checked.items ≡ map (object_parts E.fields) objects.now))
-        (IsStop (IsCheckRefused E.fields inputs.now objects.now) ⊥ ⊤) }
+        (IsStop (IsCheckFailed E.fields inputs.now objects.now) ⊥ ⊤) }
 {
     let mut checked = Vec::new(alloc);
     for index in 0..objects.len() {
@@ -31,7 +31,7 @@ pub(crate) fn checked_objects<'a, 'f, E: LinkedSymbol>(
                     return Err(Stop::Memory);
                 }
             }
-            Err(error) => return Err(refusal_at(inputs, index, error)),
+            Err(error) => return Err(failure_at(inputs, index, error)),
         }
     }
     Ok(checked)

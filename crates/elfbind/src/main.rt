@@ -14,11 +14,11 @@ ghost use Rattle.std.specs.Prelude.{IsFalse, OnOk, Result, length, ⊤};
 ghost use Rattle.std.specs.Io.Buffered.{writer_buffer, writer_inner};
 ghost use Rattle.elf_linking.specs.declared.error.LinkError.{LinkError};
 ghost use Rattle.elf_linking.specs.declared.object.DynamicObject.{DynamicObject};
-ghost use Rattle.elfbind.specs.Answers.{AreFilesRefused, AreFilesWritten, IsAnswer, IsAnswerBegun};
-ghost use Rattle.elfbind.specs.Answers.{IsAnswerRefused, IsAnswerWritten, IsEnd, status_of};
+ghost use Rattle.elfbind.specs.Answers.{AreFilesFailed, AreFilesWritten, IsAnswer, IsAnswerBegun};
+ghost use Rattle.elfbind.specs.Answers.{IsAnswerError, IsAnswerWritten, IsEnd, status_of};
 ghost use Rattle.elfbind.specs.Files.{AreAccepted};
 ghost use Rattle.elfbind.specs.Found.{IsFoundEnd, with_missing};
-ghost use Rattle.linking_programs.specs.Files.{AreObjectsOf, refused_fault_of};
+ghost use Rattle.linking_programs.specs.Files.{AreObjectsOf, failed_fault_of};
 ghost use Rattle.program_ends.specs.Appended.{AppendsSome};
 ghost use Rattle.program_ends.specs.Stops.{IsStop};
 ghost use Rattle.program_ends.specs.declared.Fault.{Fault};
@@ -32,7 +32,7 @@ use elf_base::bytes::Record;
 use elf_linking::view::LinkedSymbol;
 use elf_linking::{DynamicObject, LinkError};
 use linking_programs::{
-    Input, Refused, is_first_narrow, read_inputs, read_objects, refused_fault_of,
+    Failed, Input, failed_fault_of, is_first_narrow, read_inputs, read_objects,
 };
 use program_ends::{CLOSED, Fault, Stop, Watched, arguments, exit_code, say, write_about};
 use program_libraries::{
@@ -163,14 +163,14 @@ fn answer<'a, W: Write>(
 
 // Whether something is wrong, or what the program says, by how the output ended.
 fn ended<W: Drop>(
-    written: Result<(W, bool), Stop<Refused<'_, LinkError>>>,
+    written: Result<(W, bool), Stop<Failed<'_, LinkError>>>,
 ) -> Result<bool, Fault<'_, LinkError>>
     ensures { MatchResult written.entry (λ back. result ≡ Ok back.1)
-        (λ stop. result ≡ Err (refused_fault_of stop)) }
+        (λ stop. result ≡ Err (failed_fault_of stop)) }
 {
     match written {
         Ok((_, wrong)) => Ok(wrong),
-        Err(stop) => Err(refused_fault_of(stop)),
+        Err(stop) => Err(failed_fault_of(stop)),
     }
 }
 
@@ -181,14 +181,14 @@ fn print<'a, E: LinkedSymbol, W: Write + Drop>(
     question: Question,
     inputs: &'a [Input<'_>],
     out: W,
-) -> Result<(W, bool), Stop<Refused<'a, LinkError>>>
+) -> Result<(W, bool), Stop<Failed<'a, LinkError>>>
     ensures accepted { OnOk result (AreAccepted inputs.now) }
     ensures written { IfOk result (λ back. (objects : List (DynamicObject E E.Record))
         × AreObjectsOf E.CLASS E.SIZE inputs.now objects
         × AppendsSome (IsAnswer E.fields inputs.now objects question back.1)
         (W.contents out) (W.contents back.0)) }
     ensures stopped { IfErr result
-        (IsStop (AreFilesRefused E.Record E.fields E.CLASS E.SIZE inputs.now question)
+        (IsStop (AreFilesFailed E.Record E.fields E.CLASS E.SIZE inputs.now question)
         (AreFilesWritten E.Record E.fields E.CLASS E.SIZE inputs.now question) ⊤) }
 {
     let objects = match read_objects::<E>(alloc, inputs) {
@@ -206,12 +206,12 @@ fn print_objects<'a, E: LinkedSymbol, W: Write + Drop>(
     inputs: &'a [Input<'_>],
     objects: &[DynamicObject<'_, E>],
     out: W,
-) -> Result<(W, bool), Stop<Refused<'a, LinkError>>>
+) -> Result<(W, bool), Stop<Failed<'a, LinkError>>>
     requires same { length objects.now ≡ length inputs.now }
     ensures { MatchResult result (λ back. AppendsSome
         (IsAnswer E.fields inputs.now objects.now question back.1)
         (W.contents out) (W.contents back.0))
-        (IsStop (IsAnswerRefused E.fields inputs.now objects.now question)
+        (IsStop (IsAnswerError E.fields inputs.now objects.now question)
         (IsAnswerWritten E.fields inputs.now objects.now question) ⊤) }
 {
     let mut buffered = match BufWriter::new(alloc, out) {
@@ -234,13 +234,13 @@ fn write_flushed<'s, E: LinkedSymbol, W: Write + Drop>(
     inputs: &'s [Input<'_>],
     objects: &[DynamicObject<'_, E>],
     buffered: &mut BufWriter<W>,
-) -> Result<bool, Stop<Refused<'s, LinkError>>>
+) -> Result<bool, Stop<Failed<'s, LinkError>>>
     requires same { length objects.now ≡ length inputs.now }
     requires empty { writer_buffer buffered.old ≡ [] }
     ensures { MatchResult result (λ wrong. AppendsSome
         (IsAnswer E.fields inputs.now objects.now question wrong)
         (W.contents (writer_inner buffered.old)) (W.contents (writer_inner buffered.new)))
-        (IsStop (IsAnswerRefused E.fields inputs.now objects.now question)
+        (IsStop (IsAnswerError E.fields inputs.now objects.now question)
         (IsAnswerWritten E.fields inputs.now objects.now question) ⊤) }
 {
     let wrong = match write_answer(alloc, question, inputs, objects, buffered) {
@@ -258,12 +258,12 @@ fn write_answer<'s, E: LinkedSymbol, W: Write>(
     inputs: &'s [Input<'_>],
     objects: &[DynamicObject<'_, E>],
     out: &mut W,
-) -> Result<bool, Stop<Refused<'s, LinkError>>>
+) -> Result<bool, Stop<Failed<'s, LinkError>>>
     requires same { length objects.now ≡ length inputs.now }
     ensures { MatchResult result (λ wrong. AppendsSome
         (IsAnswer E.fields inputs.now objects.now question wrong)
         (W.contents out.old) (W.contents out.new))
-        (IsStop (IsAnswerRefused E.fields inputs.now objects.now question)
+        (IsStop (IsAnswerError E.fields inputs.now objects.now question)
         (IsAnswerBegun E.fields inputs.now objects.now question) ⊤) }
 {
     match question {

@@ -40,7 +40,7 @@ enum Fault<'a> {
     #[error("cannot read {path}")]
     Read { path: &'a str },
     #[error("{0}")]
-    Refused(ElfError),
+    Failed(ElfError),
     #[error("cannot write")]
     Write,
     #[error("not enough memory")]
@@ -105,9 +105,9 @@ impl Output for Report<'_> {
 
     ghost flushed = { λ report. report_flushed report.input };
 
-    type Refusal = ElfError;
+    type AnyError = ElfError;
 
-    ghost Refuses = { λ report error. header_of report.input.now ≡ Err error };
+    ghost Fails = { λ report error. header_of report.input.now ≡ Err error };
 
     ghost Begins = { λ report. (error : ElfError) → header_of report.input.now ≢ Err error };
 
@@ -117,7 +117,7 @@ impl Output for Report<'_> {
         let mut words = words.unwrap_or(Vec::new(self.alloc));
         match report_with(self.input, out, &mut words) {
             Ok(()) => Ok(()),
-            Err(ReportFault::Elf(error)) => Err(Stop::Refused(error)),
+            Err(ReportFault::Elf(error)) => Err(Stop::Failed(error)),
             Err(ReportFault::Write) => Err(Stop::Write),
         }
     }
@@ -142,7 +142,7 @@ fn print_report<'a, R: Read + Drop, W: Write + Drop>(
         input: &input,
     };
     write_buffered(alloc, &report, out).map_err(|stop| match stop {
-        Stop::Refused(error) => Fault::Refused(error),
+        Stop::Failed(error) => Fault::Failed(error),
         Stop::Write => Fault::Write,
         Stop::Memory => Fault::Memory,
     })

@@ -5,15 +5,15 @@ use Rattle.std.specs.Prelude.{MatchResult, slice_get, ⊤}
 use Rattle.elf_linking.specs.DynamicObject.{object_dynamic_symbols}
 use Rattle.elfload.specs.Types.{DynamicObject, Input, LoadError, LoadPlan, Stop}
 use Rattle.elf_loading.specs.ImageWords.{IsImageCheck}
-use Rattle.elfload.specs.Images.{IsChecked, IsCheckError, IsImageGood, IsRefusedAt, by_words}
+use Rattle.elfload.specs.Images.{IsChecked, IsCheckError, IsImageGood, IsFailedAt, by_words}
 use Rattle.linking_programs.specs.Checks.{IsGood}
-use Rattle.linking_programs.specs.declared.Refused as reasons
+use Rattle.linking_programs.specs.declared.Failed as reasons
 use Rattle.program_ends.specs.Stops.{IsStop}
 use Rattle.xmas_elf.specs.Symbol.{SymbolFields}
 
 module _ {E : Type 0} {r : _} (size : ℕ) (fields : E → SymbolFields) (inputs : List Input) (objects : List (DynamicObject E r)) (plans : List LoadPlan) (index : ℕ) (object : DynamicObject E r) (there : slice_get objects index ≡ Some object) (good : IsGood (object_dynamic_symbols fields object)) where
-  pub checked_ends : (result : Result (Unit {0}) (Stop (reasons.Refused LoadError))) → MatchResult result (λ done. IsImageGood size fields objects plans index) (IsStop (IsRefusedAt size fields inputs objects plans index) ⊥ ⊤)
-      → MatchResult result (λ done. IsChecked size fields objects plans index) (IsStop (IsRefusedAt size fields inputs objects plans index) ⊥ ⊤)
+  pub checked_ends : (result : Result (Unit {0}) (Stop (reasons.Failed LoadError))) → MatchResult result (λ done. IsImageGood size fields objects plans index) (IsStop (IsFailedAt size fields inputs objects plans index) ⊥ ⊤)
+      → MatchResult result (λ done. IsChecked size fields objects plans index) (IsStop (IsFailedAt size fields inputs objects plans index) ⊥ ⊤)
   checked_ends (Ok done) image = record { object = object; object_is = there; good = good; image = image }
   checked_ends (Err stop) why = why
 
@@ -27,5 +27,5 @@ module _ {E : Type 0} {r : _} (size : ℕ) (fields : E → SymbolFields) (lent o
   pub image_good : IsImageCheck size fields lent.now planned.now index bits (Ok tt) → IsImageGood size fields objects.now plans.now index
   image_good is = (bits, same_check (Ok tt) is)
 
-  pub image_refused : (error : LoadError) → IsImageCheck size fields lent.now planned.now index bits (Err error) → IsCheckError size fields objects.now plans.now index error
-  image_refused error is = by_words bits error (same_check (Err error) is)
+  pub image_failed : (error : LoadError) → IsImageCheck size fields lent.now planned.now index bits (Err error) → IsCheckError size fields objects.now plans.now index error
+  image_failed error is = by_words bits error (same_check (Err error) is)

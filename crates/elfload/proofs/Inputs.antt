@@ -4,8 +4,8 @@ use Rattle.std.specs.Borrow.{Bor}
 use Rattle.std.specs.Prelude.{IsOk, MatchResult, OnOk}
 use Rattle.elf_loading.specs.Plan.{IsPlanOf}
 use Rattle.elf_loading.specs.declared.plan.LoadPlan.{LoadPlan}
-use Rattle.elfload.specs.Plans.{IsFilePlan, IsFileRefused, IsLoaded, IsPlanText, header_limit}
-use Rattle.elfload.specs.declared.plans.Refusal.{Refusal}
+use Rattle.elfload.specs.Plans.{IsFilePlan, IsFileError, IsLoaded, IsPlanText, header_limit}
+use Rattle.elfload.specs.declared.plans.AnyError.{AnyError}
 use Rattle.program_ends.specs.Appended.{AppendsSome}
 use Rattle.program_ends.specs.Stops.{IsStop}
 use Rattle.program_ends.specs.declared.Stop as stops
@@ -21,11 +21,11 @@ module _ (page limit : ℕ) (file : ElfFile) (plan : LoadPlan) (path : Bor (List
   ok_so (Ok done) (text, told, grown) ok = (text, (planned page limit file plan there is, subst (λ p. IsPlanText p path file text) is.page_is told), grown)
   ok_so (Err error) none ok = absurd (cc)
 
-  stop_so : (stop : stops.Stop Refusal) → stop ≡ stops_are.Write → IsStop (IsFileRefused page file) (IsLoaded page file) ⊥ stop
-  stop_so stop write = subst (IsStop (IsFileRefused page file) (IsLoaded page file) ⊥) (sym write) (planned page limit file plan there is)
+  stop_so : (stop : stops.Stop AnyError) → stop ≡ stops_are.Write → IsStop (IsFileError page file) (IsLoaded page file) ⊥ stop
+  stop_so stop write = subst (IsStop (IsFileError page file) (IsLoaded page file) ⊥) (sym write) (planned page limit file plan there is)
 
   -- the text of a plan was written, or a write failed
-  pub plan_ends : {E : Type 0} (result : Result (Unit {0}) (stops.Stop Refusal)) (written : Result (Unit {0}) E) → OnOk written (AppendsSome (IsPlanText plan.page path file) old new) → MatchResult result (λ done. IsOk written) (λ stop. stop ≡ stops_are.Write)
-      → MatchResult result (λ done. AppendsSome (IsFilePlan page path file) old new) (IsStop (IsFileRefused page file) (IsLoaded page file) ⊥)
+  pub plan_ends : {E : Type 0} (result : Result (Unit {0}) (stops.Stop AnyError)) (written : Result (Unit {0}) E) → OnOk written (AppendsSome (IsPlanText plan.page path file) old new) → MatchResult result (λ done. IsOk written) (λ stop. stop ≡ stops_are.Write)
+      → MatchResult result (λ done. AppendsSome (IsFilePlan page path file) old new) (IsStop (IsFileError page file) (IsLoaded page file) ⊥)
   plan_ends (Ok done) written told ok = ok_so written told ok
   plan_ends (Err stop) written told write = stop_so stop write

@@ -6,7 +6,7 @@ use Rattle.elf_base.specs.FileHeader.{header_of}
 use Rattle.elfload.specs.Ends.{IsEnd}
 use Rattle.program_ends.specs.Ends.{status_of}
 use Rattle.elfload.specs.Plans.{IsFilePlan, IsInputLoaded, IsInputPlan, IsLoaded}
-use Rattle.elfload.specs.declared.plans.Refusal.{Refusal}
+use Rattle.elfload.specs.declared.plans.AnyError.{AnyError}
 use Rattle.program_ends.specs.declared.Fault.{Fault}
 use Rattle.xmas_elf.specs.Types.{ElfError, Header}
 
@@ -18,7 +18,7 @@ by_header page path input text (Err error) never = never
 input_loaded : (page : ℕ) (path input : Bor (List ℕ)) (text : List ℕ) → IsInputPlan page path input text → IsInputLoaded page input
 input_loaded page path input text planned = by_header page path input text (header_of input.now) planned
 
-pub ended_loaded : (page : ℕ) (path input : Bor (List ℕ)) (end : Result (Unit {0}) (Fault Refusal))
+pub ended_loaded : (page : ℕ) (path input : Bor (List ℕ)) (end : Result (Unit {0}) (Fault AnyError))
     → IsEnd page path input end → status_of end ≡ 0 → IsInputLoaded page input
 ended_loaded page path input (Ok done) is zero_is = input_loaded page path input is.0 is.1
 ended_loaded page path input (Err fault) is zero_is = absurd (cc)

@@ -10,7 +10,7 @@ use Rattle.elfload.specs.Types.{Binding, DynamicObject, Input, LoadError, Stop, 
 use Rattle.elf_loading.specs.WordsLeft.{AreWordsOf, relocations_left, own_relocations}
 use Rattle.linking_programs.specs.Files.{IsOfInput}
 use Rattle.elfload.specs.Words.{IsItemsText, IsObjectText, IsTextError, IsWordError, by_word, path_text}
-use Rattle.linking_programs.specs.declared.Refused as reasons
+use Rattle.linking_programs.specs.declared.Failed as reasons
 use Rattle.program_ends.proofs.Ends.{stop_so}
 use Rattle.program_ends.specs.Appended.{AppendsSome}
 use Rattle.program_ends.specs.Stops.{IsStop}
@@ -22,8 +22,8 @@ some_so None P Q so never = never
 some_so (Some item) P Q so is = so item is
 
 module _ {E : Type 0} {r : _} (fields : E → SymbolFields) (when : Binding) (inputs : List Input) (objects : List (DynamicObject E r)) (lent : Bor (List (DynamicObject E r))) (same : lent.now ≡ objects) (of machine : ℕ) (object : DynamicObject E r) (words : Words E r) (path : Bor (List ℕ)) (old begun : Option (List ℕ)) (there : slice_get objects of ≡ Some object) (by : machine ≡ file_machine (object_file object)) (are : AreWordsOf lent of when words) (left : own_relocations (slice_get objects of) ≡ Ok (relocations_left words)) (named : IsSomeAnd (slice_get inputs of) (λ input. path ≡ input.path)) (heading : Appends old begun (path_text path.now)) where
-  pub object_ends : (new : Option (List ℕ)) (result : Result (Unit {0}) (Stop (reasons.Refused LoadError))) → MatchResult result (λ done. AppendsSome (IsItemsText fields machine of words) begun new) (IsStop (λ refused. (refused.path ≡ path) × IsWordError fields words refused.error) ⊤ ⊥)
-      → MatchResult result (λ done. IsSomeAnd (slice_get objects of) (λ one. AppendsSome (IsObjectText fields when inputs objects of one) old new)) (IsStop (λ refused. IsOfInput inputs of refused × IsTextError fields when objects of refused.error) ⊤ ⊥)
+  pub object_ends : (new : Option (List ℕ)) (result : Result (Unit {0}) (Stop (reasons.Failed LoadError))) → MatchResult result (λ done. AppendsSome (IsItemsText fields machine of words) begun new) (IsStop (λ failed. (failed.path ≡ path) × IsWordError fields words failed.error) ⊤ ⊥)
+      → MatchResult result (λ done. IsSomeAnd (slice_get objects of) (λ one. AppendsSome (IsObjectText fields when inputs objects of one) old new)) (IsStop (λ failed. IsOfInput inputs of failed × IsTextError fields when objects of failed.error) ⊤ ⊥)
   object_ends new (Ok done) (text, items, grown) = subst (λ found. IsSomeAnd found (λ one. AppendsSome (IsObjectText fields when inputs objects of one) old new)) (sym there) (
     path_text path.now ++ text,
     record {
@@ -38,7 +38,7 @@ module _ {E : Type 0} {r : _} (fields : E → SymbolFields) (when : Binding) (in
     },
     Appends-trans _ _ _ _ _ heading grown,
   )
-  object_ends new (Err stop) why = stop_so _ _ _ _ _ _ stop (λ refused told. (
-    some_so (slice_get inputs of) (λ (input : Input). path ≡ input.path) (λ (input : Input). refused.path ≡ input.path) (λ (input : Input) is. subst (λ (p : Bor (List ℕ)). refused.path ≡ p) is told.0) named,
-    by_word lent words refused.error same are told.1,
+  object_ends new (Err stop) why = stop_so _ _ _ _ _ _ stop (λ failed told. (
+    some_so (slice_get inputs of) (λ (input : Input). path ≡ input.path) (λ (input : Input). failed.path ≡ input.path) (λ (input : Input) is. subst (λ (p : Bor (List ℕ)). failed.path ≡ p) is told.0) named,
+    by_word lent words failed.error same are told.1,
   )) (λ written. written) (λ never. never) why

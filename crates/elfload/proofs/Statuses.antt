@@ -7,12 +7,12 @@ use Rattle.elf_base.specs.FileHeader.{header_of}
 use Rattle.elfload.specs.Plans.{header_limit}
 use Rattle.elfload.specs.Types.{ElfFile, Fault, Input, Loader}
 use Rattle.elfload.specs.Verdicts.{AreMapped, HasVerdict, IsStatus, IsVerdictEnd, failed, mapped, verdict_of, verdict_within}
-use Rattle.elfload.specs.declared.plans.Refusal.{Refusal}
+use Rattle.elfload.specs.declared.plans.AnyError.{AnyError}
 use Rattle.linking_programs.proofs.Objects.{at_index}
 use Rattle.program_ends.specs.Ends.{status_of}
 
 module _ (by : Loader) (page : ℕ) where
-  pub verdict_read : (bytes : Bor (List ℕ)) (file : ElfFile) (result : Result (Unit {0}) Refusal) → file.input ≡ bytes → header_of bytes.now ≡ Ok file.header → result ≡ verdict_within by page file (header_limit file.header) → HasVerdict by page bytes.now result
+  pub verdict_read : (bytes : Bor (List ℕ)) (file : ElfFile) (result : Result (Unit {0}) AnyError) → file.input ≡ bytes → header_of bytes.now ≡ Ok file.header → result ≡ verdict_within by page file (header_limit file.header) → HasVerdict by page bytes.now result
   verdict_read bytes file result same header is = (
     file.input,
     ap (λ (lent : Bor (List ℕ)). lent.now) same,
@@ -26,13 +26,13 @@ module _ (by : Loader) (page : ℕ) where
     whole status within (failed i fault before own) = failed i fault before own
 
     module _ (input : Input) (below : index < length inputs) (input_is : input ≡ get_or inputs index input) where
-      after : (end : Result (Unit {0}) (Fault Refusal)) → IsVerdictEnd by page input.path input.bytes.items end → AreMapped by page inputs index → IsStatus by page inputs (index + 1) (status_of end)
+      after : (end : Result (Unit {0}) (Fault AnyError)) → IsVerdictEnd by page input.path input.bytes.items end → AreMapped by page inputs index → IsStatus by page inputs (index + 1) (status_of end)
       after (Ok done) own before = mapped (below_more (λ i. IfSome (slice_get inputs i) (λ (one : Input). HasVerdict by page one.bytes.items (Ok tt))) index before
           (subst (λ found. IfSome found (λ (one : Input). HasVerdict by page one.bytes.items (Ok tt))) (sym (slice_get_read inputs (length inputs) index input refl below input_is)) own))
       after (Err fault) own before = failed index fault before (at_index (λ (one : Input). IsVerdictEnd by page one.path one.bytes.items (Err fault)) inputs index input below input_is own)
 
       -- the status with one more input
-      pub one_more : (bytes : List ℕ) (end : Result (Unit {0}) (Fault Refusal)) (status next : ℕ) → bytes ≡ input.bytes.items → IsVerdictEnd by page input.path bytes end
+      pub one_more : (bytes : List ℕ) (end : Result (Unit {0}) (Fault AnyError)) (status next : ℕ) → bytes ≡ input.bytes.items → IsVerdictEnd by page input.path bytes end
           → (status ≡ 0 → next ≡ status_of end) → (status ≢ 0 → next ≡ status) → IsStatus by page inputs index status → IsStatus by page inputs (index + 1) next
       one_more bytes end status next same own none kept (mapped before) =
           subst (IsStatus by page inputs (index + 1)) (sym (none refl)) (after end (subst (λ b. IsVerdictEnd by page input.path b end) same own) before)

@@ -3,7 +3,7 @@ use Rattle.std.specs.Prelude.{◌≡◌, ◌<◌, ℕ, true, false, List, length
 use Rattle.std.specs.List.{AllZip}
 use Rattle.elf_linking.specs.Checked.{AreChecked}
 use Rattle.elf_linking.specs.DynamicObject.{object_dynamic_symbols, object_file}
-use Rattle.elfload.specs.Types.{DynamicObject, Input, LinkError, LoadError, LoadPlan, Refused}
+use Rattle.elfload.specs.Types.{DynamicObject, Input, LinkError, LoadError, LoadPlan, Failed}
 use Rattle.elf_loading.specs.FileCheck.{check_file}
 use Rattle.elf_loading.specs.ImageWords.{IsImageCheck}
 use Rattle.elf_loading.specs.Plan.{IsPlanOf}
@@ -31,14 +31,14 @@ LacksPlan page file error = MatchOption (header_limit file.header) (error ≡ Ma
     (λ limit. check_file file page limit ≡ Err error)
 
 -- the first of the objects whose file has no plan, and why; those before it have
-pub record IsPlanMissing {E : Type 0} {r : _} (page : ℕ) (inputs : List Input) (objects : List (DynamicObject E r)) (refused : Refused LoadError) : Type 0 where
+pub record IsPlanMissing {E : Type 0} {r : _} (page : ℕ) (inputs : List Input) (objects : List (DynamicObject E r)) (failed : Failed LoadError) : Type 0 where
   pub index : ℕ
   pub object : DynamicObject E r
   pub object_is : slice_get objects index ≡ Some object
   pub plans : List LoadPlan
   pub before : ArePlansOf page (take index objects) plans
-  pub path_is : IsOfInput inputs index refused
-  pub why : LacksPlan page (object_file object) refused.error
+  pub path_is : IsOfInput inputs index failed
+  pub why : LacksPlan page (object_file object) failed.error
 
 -- The checks.
 
@@ -61,15 +61,15 @@ pub data IsCheckError {E : Type 0} {r : _} (size : ℕ) (fields : E → SymbolFi
       → IsCheckError size fields objects plans index error
 
 -- the error of the input at an index is that of its object
-pub record IsRefusedAt {E : Type 0} {r : _} (size : ℕ) (fields : E → SymbolFields) (inputs : List Input) (objects : List (DynamicObject E r)) (plans : List LoadPlan) (index : ℕ) (refused : Refused LoadError) : Type 0 where
-  pub path_is : IsOfInput inputs index refused
-  pub error_is : IsCheckError size fields objects plans index refused.error
+pub record IsFailedAt {E : Type 0} {r : _} (size : ℕ) (fields : E → SymbolFields) (inputs : List Input) (objects : List (DynamicObject E r)) (plans : List LoadPlan) (index : ℕ) (failed : Failed LoadError) : Type 0 where
+  pub path_is : IsOfInput inputs index failed
+  pub error_is : IsCheckError size fields objects plans index failed.error
 
 -- the first object that does not pass, and why
-pub record IsImageRefused {E : Type 0} {r : _} (size : ℕ) (fields : E → SymbolFields) (inputs : List Input) (objects : List (DynamicObject E r)) (plans : List LoadPlan) (refused : Refused LoadError) : Type 0 where
+pub record IsImageError {E : Type 0} {r : _} (size : ℕ) (fields : E → SymbolFields) (inputs : List Input) (objects : List (DynamicObject E r)) (plans : List LoadPlan) (failed : Failed LoadError) : Type 0 where
   pub index : ℕ
   pub before : (i : ℕ) → i < index → IsChecked size fields objects plans i
-  pub why : IsRefusedAt size fields inputs objects plans index refused
+  pub why : IsFailedAt size fields inputs objects plans index failed
 
 -- all objects pass
 abbrev pub AreAllChecked : {E : Type 0} → {r : _} → ℕ → (E → SymbolFields) → List (DynamicObject E r) → List LoadPlan → Type 0

@@ -11,8 +11,8 @@ use Rattle.elf_loading.specs.Spans.{relro_span, span_of}
 use Rattle.elf_loading.specs.declared.mapping.Loader.TheVariants.{Glibc, Kernel}
 use Rattle.elfload.specs.Texts.{head_text, mappings_text}
 use Rattle.elfload.specs.declared.plans.Head.{Head}
-use Rattle.elfload.specs.declared.plans.Refusal as refusals
-use Rattle.elfload.specs.declared.plans.Refusal.TheVariants as refusals_are
+use Rattle.elfload.specs.declared.plans.AnyError as failures
+use Rattle.elfload.specs.declared.plans.AnyError.TheVariants as failures_are
 use Rattle.linking_programs.specs.Files.{OfHeader}
 use Rattle.program_ends.specs.Names.{escaped}
 use Rattle.xmas_elf.specs.Types.{ElfFile, Header}
@@ -80,10 +80,10 @@ abbrev pub IsFilePlan : ℕ → Bor (List ℕ) → ElfFile → List ℕ → Type
 IsFilePlan page path file text = IsLoaded page file × IsPlanText page path file text
 
 -- why a file has no plan: its machine has no limit of addresses here, or an error of its check
-pub data IsFileRefused (page : ℕ) (file : ElfFile) : refusals.Refusal → Type 0 where
-  no_limit : header_limit file.header ≡ None → IsFileRefused page file refusals_are.Machine
+pub data IsFileError (page : ℕ) (file : ElfFile) : failures.AnyError → Type 0 where
+  no_limit : header_limit file.header ≡ None → IsFileError page file failures_are.Machine
   no_plan : (limit : ℕ) (error : LoadError) → header_limit file.header ≡ Some limit
-      → check_file file page limit ≡ Err error → IsFileRefused page file (refusals_are.Load error)
+      → check_file file page limit ≡ Err error → IsFileError page file (failures_are.Load error)
 
 -- The same of an input.
 
@@ -96,8 +96,8 @@ abbrev pub IsInputLoaded : ℕ → Bor (List ℕ) → Type 0
 IsInputLoaded page input = OfHeader input (IsLoaded page)
 
 -- why an input has no plan: an error of its header, or of the file
-pub data IsInputRefused (page : ℕ) (input : Bor (List ℕ)) : refusals.Refusal → Type 0 where
+pub data IsInputError (page : ℕ) (input : Bor (List ℕ)) : failures.AnyError → Type 0 where
   no_header : (error : ElfError) → header_of input.now ≡ Err error
-      → IsInputRefused page input (refusals_are.Elf error)
-  no_file : (refusal : refusals.Refusal) → OfHeader input (λ file. IsFileRefused page file refusal)
-      → IsInputRefused page input refusal
+      → IsInputError page input (failures_are.Elf error)
+  no_file : (failure : failures.AnyError) → OfHeader input (λ file. IsFileError page file failure)
+      → IsInputError page input failure

@@ -17,7 +17,7 @@ pub use Rattle.elf_loading.specs.declared.words.Relocated.{Relocated}
 pub use Rattle.elf_loading.specs.declared.words.Word.{Word}
 pub use Rattle.elf_loading.specs.declared.words.Words.{Words}
 pub use Rattle.linking_programs.specs.declared.Input.{Input}
-pub use Rattle.linking_programs.specs.declared.Refused.{Refused}
+pub use Rattle.linking_programs.specs.declared.Failed.{Failed}
 pub use Rattle.program_ends.specs.declared.Fault.{Fault}
 pub use Rattle.program_ends.specs.declared.Stop.{Stop}
 pub use Rattle.xmas_elf.specs.declared.ElfFile.{ElfFile}

@@ -6,8 +6,8 @@ use Rattle.elf_loading.specs.LoaderCheck.{check_by}
 use Rattle.elf_loading.specs.declared.mapping.Loader.TheVariants.{Glibc, Kernel}
 use Rattle.elfload.specs.Plans.{header_limit}
 use Rattle.elfload.specs.Types.{ElfError, ElfFile, Fault, Input, LoadError, Loader}
-use Rattle.elfload.specs.declared.plans.Refusal.{Refusal}
-use Rattle.elfload.specs.declared.plans.Refusal.TheVariants.{Elf, Load, Machine}
+use Rattle.elfload.specs.declared.plans.AnyError.{AnyError}
+use Rattle.elfload.specs.declared.plans.AnyError.TheVariants.{Elf, Load, Machine}
 use Rattle.program_ends.specs.declared.Fault.TheVariants as faults
 use Rattle.xmas_elf.specs.Types.{Header}
 
@@ -17,22 +17,22 @@ option_of Kernel = codes "--kernel"
 option_of Glibc = codes "--glibc"
 
 -- the result of a check, with its error as the program says it
-abbrev pub as_said : Result (Unit {0}) LoadError → Result (Unit {0}) Refusal
+abbrev pub as_said : Result (Unit {0}) LoadError → Result (Unit {0}) AnyError
 as_said (Ok done) = Ok done
 as_said (Err error) = Err (Load error)
 
 -- the result of a loader for a file, with the end of the addresses of its machine if that is known
-abbrev pub verdict_within : Loader → ℕ → ElfFile → Option ℕ → Result (Unit {0}) Refusal
+abbrev pub verdict_within : Loader → ℕ → ElfFile → Option ℕ → Result (Unit {0}) AnyError
 verdict_within by page file (Some limit) = as_said (check_by by page limit file)
 verdict_within by page file None = Err Machine
 
 -- the same of bytes, by their header or the error that it has
-abbrev pub verdict_of : Loader → ℕ → Bor (List ℕ) → Result Header ElfError → Result (Unit {0}) Refusal
+abbrev pub verdict_of : Loader → ℕ → Bor (List ℕ) → Result Header ElfError → Result (Unit {0}) AnyError
 verdict_of by page input (Ok header) = verdict_within by page (record { input = input; header = header }) (header_limit header)
 verdict_of by page input (Err error) = Err (Elf error)
 
 -- a loader has this result for the file that these bytes are
-abbrev pub HasVerdict : Loader → ℕ → List ℕ → Result (Unit {0}) Refusal → Type 0
+abbrev pub HasVerdict : Loader → ℕ → List ℕ → Result (Unit {0}) AnyError → Type 0
 HasVerdict by page bytes verdict =
     (input : Bor (List ℕ)) × (input.now ≡ bytes) × (verdict ≡ verdict_of by page input (header_of input.now))
 
@@ -41,9 +41,9 @@ abbrev pub IsMappedLine : List ℕ → List ℕ → Type 0
 IsMappedLine path text = text ≡ path ++ codes ": loads: yes\n"
 
 -- how the program ends for the file at a path: it is mapped; or it has this error; or its line can't be written
-abbrev pub IsVerdictEnd : Loader → ℕ → Bor (List ℕ) → List ℕ → Result (Unit {0}) (Fault Refusal) → Type 0
+abbrev pub IsVerdictEnd : Loader → ℕ → Bor (List ℕ) → List ℕ → Result (Unit {0}) (Fault AnyError) → Type 0
 IsVerdictEnd by page path bytes (Ok done) = HasVerdict by page bytes (Ok tt)
-IsVerdictEnd by page path bytes (Err (faults.Refused at error)) = (at ≡ path) × HasVerdict by page bytes (Err error)
+IsVerdictEnd by page path bytes (Err (faults.Failed at error)) = (at ≡ path) × HasVerdict by page bytes (Err error)
 IsVerdictEnd by page path bytes (Err faults.Write) = HasVerdict by page bytes (Ok tt)
 IsVerdictEnd by page path bytes (Err fault) = ⊥
 
@@ -55,6 +55,6 @@ AreMapped by page inputs count =
 -- the status for the inputs below an index: 0 if each is mapped; 1 after one with this fault, if those before it are mapped
 pub data IsStatus (by : Loader) (page : ℕ) (inputs : List Input) (count : ℕ) : ℕ → Type 0 where
   mapped : AreMapped by page inputs count → IsStatus by page inputs count 0
-  failed : (index : ℕ) (fault : Fault Refusal) → AreMapped by page inputs index
+  failed : (index : ℕ) (fault : Fault AnyError) → AreMapped by page inputs index
       → IsSomeAnd (slice_get inputs index) (λ input. IsVerdictEnd by page input.path input.bytes.items (Err fault))
       → IsStatus by page inputs count 1

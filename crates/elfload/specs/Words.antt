@@ -5,7 +5,7 @@ use Rattle.std.specs.List.{flat_map, starts_with}
 use Rattle.elf_linking.specs.DynamicObject.{object_file}
 use Rattle.elf_linking.specs.References.{file_machine}
 use Rattle.elf_linking.specs.RelocationNames.{relocation_name}
-use Rattle.elfload.specs.Types.{Binding, DynamicObject, Input, LinkError, LoadError, Origin, Refused, Relocated, Relocation, Value, Word, Words}
+use Rattle.elfload.specs.Types.{Binding, DynamicObject, Input, LinkError, LoadError, Origin, Failed, Relocated, Relocation, Value, Word, Words}
 use Rattle.elf_loading.specs.WordsLeft.{AreWordsOf, HasWordOf, relocation_of, relocations_left, own_relocations}
 use Rattle.elf_loading.specs.declared.error.LoadError.TheVariants.{Link}
 use Rattle.elf_loading.specs.declared.value.Origin.TheVariants.{Base, Call, Zero}
@@ -138,7 +138,7 @@ pub data IsTextError {E : Type 0} {r : _} (fields : E → SymbolFields) (when : 
       → IsTextError fields when objects of error
 
 -- the error of the input at an index is such an error of its object
-pub record IsTextRefused {E : Type 0} {r : _} (fields : E → SymbolFields) (when : Binding) (inputs : List Input) (objects : List (DynamicObject E r)) (refused : Refused LoadError) : Type 0 where
+pub record IsTextFailed {E : Type 0} {r : _} (fields : E → SymbolFields) (when : Binding) (inputs : List Input) (objects : List (DynamicObject E r)) (failed : Failed LoadError) : Type 0 where
   pub of : ℕ
-  pub path_is : IsOfInput inputs of refused
-  pub error_is : IsTextError fields when objects of refused.error
+  pub path_is : IsOfInput inputs of failed
+  pub error_is : IsTextError fields when objects of failed.error

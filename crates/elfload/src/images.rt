@@ -3,8 +3,8 @@
 ghost use Rattle.std.specs.Prelude.{◌≡◌, ◌<◌, IfErr, IfOk, MatchResult, length, ⊤};
 ghost use Rattle.elf_linking.specs.DynamicObject.{object_file};
 ghost use Rattle.elfload.specs.Images.{AreAllChecked, ArePlansOf, IsChecked};
-ghost use Rattle.elfload.specs.Images.{IsImageGood, IsImageRefused, IsPlanFor, IsPlanMissing};
-ghost use Rattle.elfload.specs.Images.{IsRefusedAt, LacksPlan};
+ghost use Rattle.elfload.specs.Images.{IsImageGood, IsImageError, IsPlanFor, IsPlanMissing};
+ghost use Rattle.elfload.specs.Images.{IsFailedAt, LacksPlan};
 ghost use Rattle.program_ends.specs.Stops.{IsStop};
 
 use crate::plans::limit_of;
@@ -12,7 +12,7 @@ use elf_linking::DynamicObject;
 use elf_linking::scope::Scope;
 use elf_linking::view::LinkedSymbol;
 use elf_loading::{LoadError, LoadPlan, LoadScope, Span};
-use linking_programs::{Input, Refused, check_object as check_symbols, refusal_at};
+use linking_programs::{Failed, Input, check_object as check_symbols, failure_at};
 use program_ends::Stop;
 use std::alloc::Global;
 
@@ -25,12 +25,12 @@ pub(crate) fn read_plans<'s, 'a, E: LinkedSymbol>(
     page: u64,
     inputs: &'s [Input<'_>],
     objects: &[DynamicObject<'a, E>],
-) -> Result<Vec<LoadPlan<'a>>, Stop<Refused<'s, LoadError>>>
+) -> Result<Vec<LoadPlan<'a>>, Stop<Failed<'s, LoadError>>>
     requires paged { 0 < page }
     requires same { length objects.now ≡ length inputs.now }
     ensures plans { IfOk result (λ plans. ArePlansOf page objects.now plans.items) }
     ensures count { IfOk result (λ plans. length plans.items ≡ length objects.now) }
-    ensures refused { IfErr result (IsStop (IsPlanMissing page inputs.now objects.now) ⊥ ⊤) }
+    ensures failed { IfErr result (IsStop (IsPlanMissing page inputs.now objects.now) ⊥ ⊤) }
 {
     let mut plans = Vec::new(alloc);
     for index in 0..objects.len() {
@@ -40,7 +40,7 @@ pub(crate) fn read_plans<'s, 'a, E: LinkedSymbol>(
                     return Err(Stop::Memory);
                 }
             }
-            Err(error) => return Err(refusal_at(inputs, index, error)),
+            Err(error) => return Err(failure_at(inputs, index, error)),
         }
     }
     Ok(plans)
@@ -68,11 +68,11 @@ pub(crate) fn check_images<'s, E: LinkedSymbol>(
     inputs: &'s [Input<'_>],
     objects: &[DynamicObject<'_, E>],
     plans: &[LoadPlan<'_>],
-) -> Result<(), Stop<Refused<'s, LoadError>>>
+) -> Result<(), Stop<Failed<'s, LoadError>>>
     requires same { length objects.now ≡ length inputs.now }
     requires planned { length plans.now ≡ length objects.now }
     ensures { MatchResult result (λ _. AreAllChecked E.SIZE E.fields objects.now plans.now)
-        (IsStop (IsImageRefused E.SIZE E.fields inputs.now objects.now plans.now) ⊥ ⊤) }
+        (IsStop (IsImageError E.SIZE E.fields inputs.now objects.now plans.now) ⊥ ⊤) }
 {
     for index in 0..objects.len() {
         match check_object(alloc, inputs, objects, plans, index) {
@@ -90,16 +90,16 @@ fn check_object<'s, E: LinkedSymbol>(
     objects: &[DynamicObject<'_, E>],
     plans: &[LoadPlan<'_>],
     index: usize,
-) -> Result<(), Stop<Refused<'s, LoadError>>>
+) -> Result<(), Stop<Failed<'s, LoadError>>>
     requires same { length objects.now ≡ length inputs.now }
     requires planned { length plans.now ≡ length objects.now }
     requires below { index < length objects.now }
     ensures { MatchResult result (λ _. IsChecked E.SIZE E.fields objects.now plans.now index)
-        (IsStop (IsRefusedAt E.SIZE E.fields inputs.now objects.now plans.now index) ⊥ ⊤) }
+        (IsStop (IsFailedAt E.SIZE E.fields inputs.now objects.now plans.now index) ⊥ ⊤) }
 {
     match check_symbols(&objects[index]) {
         Ok(()) => check_words(alloc, inputs, objects, plans, index),
-        Err(error) => Err(refusal_at(inputs, index, LoadError::Link(error))),
+        Err(error) => Err(failure_at(inputs, index, LoadError::Link(error))),
     }
 }
 
@@ -110,12 +110,12 @@ fn check_words<'s, E: LinkedSymbol>(
     objects: &[DynamicObject<'_, E>],
     plans: &[LoadPlan<'_>],
     index: usize,
-) -> Result<(), Stop<Refused<'s, LoadError>>>
+) -> Result<(), Stop<Failed<'s, LoadError>>>
     requires same { length objects.now ≡ length inputs.now }
     requires planned { length plans.now ≡ length objects.now }
     requires below { index < length objects.now }
     ensures { MatchResult result (λ _. IsImageGood E.SIZE E.fields objects.now plans.now index)
-        (IsStop (IsRefusedAt E.SIZE E.fields inputs.now objects.now plans.now index) ⊥ ⊤) }
+        (IsStop (IsFailedAt E.SIZE E.fields inputs.now objects.now plans.now index) ⊥ ⊤) }
 {
     let Some(size) = marks_size(plans[index].span()) else {
         return Err(Stop::Memory);
@@ -127,7 +127,7 @@ fn check_words<'s, E: LinkedSymbol>(
     let planned = LoadScope::new(scope, plans);
     match planned.check_image(index, &mut marks) {
         Ok(()) => Ok(()),
-        Err(error) => Err(refusal_at(inputs, index, error)),
+        Err(error) => Err(failure_at(inputs, index, error)),
     }
 }
 

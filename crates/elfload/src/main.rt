@@ -14,15 +14,15 @@
 ghost use Rattle.std.specs.Prelude.{◌≡◌, ◌<◌, ◌≤◌, ◌⊎◌, Err, IfErr, IfOk, IfSome, List, MatchResult, Ok};
 ghost use Rattle.std.specs.Prelude.{IsFalse, OnOk, Result, length, ⊤};
 ghost use Rattle.elf_linking.specs.declared.object.DynamicObject.{DynamicObject};
-ghost use Rattle.elfload.specs.Ends.{AreRefused, IsBegun, IsEnd, IsFault, IsWordsEnd, load_stop};
+ghost use Rattle.elfload.specs.Ends.{AreFailed, IsBegun, IsEnd, IsFault, IsWordsEnd, load_stop};
 ghost use Rattle.elfload.specs.Ends.{words_fault_of};
 ghost use Rattle.elfload.specs.Files.{AreLoaded, HasStatic};
 ghost use Rattle.elfload.specs.Found.{IsFoundGood};
 ghost use Rattle.elfload.specs.Images.{AreImagesGood, AreInputsChecked};
-ghost use Rattle.elfload.specs.Plans.{IsInputLoaded, IsInputPlan, IsInputRefused};
+ghost use Rattle.elfload.specs.Plans.{IsInputLoaded, IsInputPlan, IsInputError};
 ghost use Rattle.elfload.specs.Verdicts.{option_of};
 ghost use Rattle.elfload.specs.Words.{AreWordsWritten};
-ghost use Rattle.elfload.specs.declared.plans.Refusal.{Refusal};
+ghost use Rattle.elfload.specs.declared.plans.AnyError.{AnyError};
 ghost use Rattle.linking_programs.specs.Files.{AreObjectsOf};
 ghost use Rattle.program_ends.specs.Appended.{AppendsSome};
 ghost use Rattle.program_ends.specs.Ends.{status_of};
@@ -32,14 +32,14 @@ ghost use Rattle.program_libraries.specs.Complete.{IsComplete};
 
 use crate::files::all_dynamic;
 use crate::images::{check_images, read_plans};
-use crate::plans::{Plan, Refusal};
+use crate::plans::{AnyError, Plan};
 use crate::verdicts::run_verdicts;
 use crate::words::WordsText;
 use elf_base::bytes::Record;
 use elf_linking::view::LinkedSymbol;
 use elf_linking::{DynamicObject, LinkError};
 use elf_loading::{Binding, LoadError, Loader};
-use linking_programs::{Input, Refused, is_first_narrow, read_inputs, read_objects, refusal};
+use linking_programs::{Failed, Input, failure, is_first_narrow, read_inputs, read_objects};
 use program_ends::{
     Fault, Stop, arguments, exit_code, fault_of, say, status_of, write_about, write_buffered,
 };
@@ -203,7 +203,7 @@ pub fn run_plan<W: Write, E: Write>(
     requires { 0 < page }
     ensures bound { result ≤ 1 }
     ensures loaded { result ≡ 0 → IsInputLoaded page input.entry }
-    ensures ends { (end : Result (Unit {0}) (Fault Refusal))
+    ensures ends { (end : Result (Unit {0}) (Fault AnyError))
         × IsEnd page path.entry input.entry end × (result ≡ status_of end) }
 {
     let ended = answer(alloc, page, path, input, out);
@@ -217,7 +217,7 @@ fn answer<'a, W: Write>(
     path: &'a str,
     input: &[u8],
     out: &mut W,
-) -> Result<(), Fault<'a, Refusal>>
+) -> Result<(), Fault<'a, AnyError>>
     requires { 0 < page }
     ensures { IsEnd page path.entry input.entry result }
 {
@@ -234,11 +234,11 @@ fn print_plan<'a, W: Write + Drop>(
     path: &'a str,
     input: &[u8],
     out: W,
-) -> Result<W, Fault<'a, Refusal>>
+) -> Result<W, Fault<'a, AnyError>>
     requires { 0 < page }
     ensures written { IfOk result (λ back. AppendsSome (IsInputPlan page path.entry input.entry)
         (W.contents out) (W.contents back)) }
-    ensures fault { IfErr result (IsFault path.entry (IsInputRefused page input.entry)
+    ensures fault { IfErr result (IsFault path.entry (IsInputError page input.entry)
         (IsBegun page path.entry input.entry)) }
 {
     let plan = Plan { path, input, page };
@@ -267,7 +267,7 @@ pub fn run_words<W: Write, E: Write>(
     ensures bound { result ≤ 1 }
     ensures checked { result ≡ 0
         → AreImagesGood ⟦<DynEntry32 as Record>⟧ ⟦<DynEntry64 as Record>⟧ asked.page inputs.now }
-    ensures ends { (end : Result (Unit {0}) (Fault Refusal))
+    ensures ends { (end : Result (Unit {0}) (Fault AnyError))
         × IsWordsEnd ⟦<DynEntry32 as Record>⟧ ⟦<DynEntry64 as Record>⟧ asked inputs.now end
         × (result ≡ status_of end) }
 {
@@ -281,7 +281,7 @@ fn print_words<'a, W: Write>(
     asked: Options,
     inputs: &'a [Input<'_>],
     out: &mut W,
-) -> Result<(), Fault<'a, Refusal>>
+) -> Result<(), Fault<'a, AnyError>>
     requires { 0 < asked.page }
     ensures { IsWordsEnd ⟦<DynEntry32 as Record>⟧ ⟦<DynEntry64 as Record>⟧ asked inputs.now result }
 {
@@ -295,8 +295,8 @@ fn print_words<'a, W: Write>(
 
 // What the program says, by how the output ended.
 fn ended<W: Drop>(
-    written: Result<W, Stop<Refused<'_, LoadError>>>,
-) -> Result<(), Fault<'_, Refusal>>
+    written: Result<W, Stop<Failed<'_, LoadError>>>,
+) -> Result<(), Fault<'_, AnyError>>
     ensures { MatchResult written.entry (λ _. result ≡ Ok tt)
         (λ stop. result ≡ Err (words_fault_of stop)) }
 {
@@ -307,13 +307,13 @@ fn ended<W: Drop>(
 }
 
 // What the program says where the words aren't written to their end.
-fn words_fault_of(stop: Stop<Refused<'_, LoadError>>) -> Fault<'_, Refusal>
+fn words_fault_of(stop: Stop<Failed<'_, LoadError>>) -> Fault<'_, AnyError>
     ensures { result ≡ words_fault_of stop.entry }
 {
     match stop {
-        Stop::Refused(refused) => Fault::Refused {
-            path: refused.path,
-            error: Refusal::Load(refused.error),
+        Stop::Failed(failed) => Fault::Failed {
+            path: failed.path,
+            error: AnyError::Load(failed.error),
         },
         Stop::Write => Fault::Write,
         Stop::Memory => Fault::Memory,
@@ -326,7 +326,7 @@ fn print<'a, E: LinkedSymbol, W: Write + Drop>(
     asked: Options,
     inputs: &'a [Input<'_>],
     out: W,
-) -> Result<W, Stop<Refused<'a, LoadError>>>
+) -> Result<W, Stop<Failed<'a, LoadError>>>
     requires { 0 < asked.page }
     ensures checked { OnOk result
         (AreInputsChecked {E = E} E.Record E.fields E.CLASS E.SIZE asked.page inputs.now) }
@@ -335,7 +335,7 @@ fn print<'a, E: LinkedSymbol, W: Write + Drop>(
         × AppendsSome (AreWordsWritten E.fields asked.when inputs.now objects)
         (W.contents out) (W.contents back)) }
     ensures stopped { IfErr result
-        (IsStop (AreRefused {E = E} E.Record E.fields E.CLASS E.SIZE asked inputs.now)
+        (IsStop (AreFailed {E = E} E.Record E.fields E.CLASS E.SIZE asked inputs.now)
         (AreInputsChecked {E = E} E.Record E.fields E.CLASS E.SIZE asked.page inputs.now) ⊤) }
 {
     let objects = match read_objects::<E>(alloc, inputs) {
@@ -352,7 +352,7 @@ fn print_checked<'a, E: LinkedSymbol, W: Write + Drop>(
     inputs: &'a [Input<'_>],
     objects: &[DynamicObject<'_, E>],
     out: W,
-) -> Result<W, Stop<Refused<'a, LoadError>>>
+) -> Result<W, Stop<Failed<'a, LoadError>>>
     requires paged { 0 < asked.page }
     requires same { length objects.now ≡ length inputs.now }
     requires own { AreObjectsOf E.CLASS E.SIZE inputs.now objects.now }
@@ -361,7 +361,7 @@ fn print_checked<'a, E: LinkedSymbol, W: Write + Drop>(
     ensures written { IfOk result (λ back. AppendsSome
         (AreWordsWritten E.fields asked.when inputs.now objects.now) (W.contents out) (W.contents back)) }
     ensures stopped { IfErr result
-        (IsStop (AreRefused {E = E} E.Record E.fields E.CLASS E.SIZE asked inputs.now)
+        (IsStop (AreFailed {E = E} E.Record E.fields E.CLASS E.SIZE asked inputs.now)
         (AreInputsChecked {E = E} E.Record E.fields E.CLASS E.SIZE asked.page inputs.now) ⊤) }
 {
     let plans = match read_plans(alloc, asked.page, inputs, objects) {
@@ -382,11 +382,11 @@ fn print_checked<'a, E: LinkedSymbol, W: Write + Drop>(
 }
 
 // Why files are not read, as an error of a loader.
-fn load_stop(stop: Stop<Refused<'_, LinkError>>) -> Stop<Refused<'_, LoadError>>
+fn load_stop(stop: Stop<Failed<'_, LinkError>>) -> Stop<Failed<'_, LoadError>>
     ensures { result ≡ load_stop stop.entry }
 {
     match stop {
-        Stop::Refused(refused) => refusal(refused.path, LoadError::Link(refused.error)),
+        Stop::Failed(failed) => failure(failed.path, LoadError::Link(failed.error)),
         Stop::Write => Stop::Write,
         Stop::Memory => Stop::Memory,
     }
@@ -448,7 +448,7 @@ fn run_on_files<W: Write, E: Write>(
 ) -> u8
     requires { 0 < asked.page }
 {
-    match read_inputs::<_, Refusal>(rt, paths) {
+    match read_inputs::<_, AnyError>(rt, paths) {
         Ok(inputs) => run(rt.alloc(), asked, &inputs, out, err),
         Err(fault) => say(NAME, &fault, err),
     }
@@ -465,7 +465,7 @@ fn run_on_each<W: Write, E: Write>(
 ) -> u8
     requires { 0 < page }
 {
-    match read_inputs::<_, Refusal>(rt, paths) {
+    match read_inputs::<_, AnyError>(rt, paths) {
         Ok(inputs) => run_verdicts(by, page, &inputs, out, err),
         Err(fault) => say(NAME, &fault, err),
     }

@@ -3,8 +3,8 @@
 ghost use Rattle.std.specs.Prelude.{◌≡◌, ◌<◌, IsOk, MatchResult, None, OnOk, Some};
 ghost use Rattle.std.specs.Io.KnownBytes.{Appends};
 ghost use Rattle.elf_loading.specs.MappingsLeft.{mappings_left};
-ghost use Rattle.elfload.specs.Plans.{IsFilePlan, IsFileRefused, IsInputLoaded, IsInputPlan};
-ghost use Rattle.elfload.specs.Plans.{IsInputRefused, IsInterpreterText, IsLoaded, IsPlanText};
+ghost use Rattle.elfload.specs.Plans.{IsFilePlan, IsFileError, IsInputLoaded, IsInputPlan};
+ghost use Rattle.elfload.specs.Plans.{IsInputError, IsInterpreterText, IsLoaded, IsPlanText};
 ghost use Rattle.elfload.specs.Plans.{head_of, header_limit, limit_of};
 ghost use Rattle.elfload.specs.Texts.{contents_text, head_text, letter, mapping_text};
 ghost use Rattle.elfload.specs.Texts.{mappings_text, permissions_text, range_text, span_text};
@@ -27,7 +27,7 @@ use xmas_elf::{ElfError, ElfFile};
 
 /// Why a file has no plan.
 #[derive(Clone, Copy, Debug, Drop, Error)]
-pub enum Refusal {
+pub enum AnyError {
     /// It isn't an ELF file.
     #[error("{0}")]
     Elf(ElfError),
@@ -53,16 +53,16 @@ impl Output for Plan<'_> {
 
     ghost flushed = { λ plan. appended_flushed (IsInputPlan plan.page plan.path plan.input) };
 
-    type Refusal = Refusal;
+    type AnyError = AnyError;
 
-    ghost Refuses = { λ plan. IsInputRefused plan.page plan.input };
+    ghost Fails = { λ plan. IsInputError plan.page plan.input };
 
     ghost Begins = { λ plan. IsInputLoaded plan.page plan.input };
 
-    fn write_to<W: Write>(&self, out: &mut W) -> Result<(), Stop<Refusal>> {
+    fn write_to<W: Write>(&self, out: &mut W) -> Result<(), Stop<AnyError>> {
         match ElfFile::new(self.input) {
             Ok(file) => write_file(self.page, self.path, &file, out),
-            Err(error) => Err(Stop::Refused(Refusal::Elf(error))),
+            Err(error) => Err(Stop::Failed(AnyError::Elf(error))),
         }
     }
 }
@@ -91,16 +91,16 @@ fn write_file<W: Write>(
     path: &str,
     file: &ElfFile<'_>,
     out: &mut W,
-) -> Result<(), Stop<Refusal>>
+) -> Result<(), Stop<AnyError>>
     requires { 0 < page }
     ensures { MatchResult result
         (λ _. AppendsSome (IsFilePlan page path.entry file.now)
         (W.contents out.old) (W.contents out.new))
-        (IsStop (IsFileRefused page file.now) (IsLoaded page file.now) ⊥) }
+        (IsStop (IsFileError page file.now) (IsLoaded page file.now) ⊥) }
 {
     match limit_of(&file.header) {
         Some(limit) => write_within(page, limit, path, file, out),
-        None => Err(Stop::Refused(Refusal::Machine)),
+        None => Err(Stop::Failed(AnyError::Machine)),
     }
 }
 
@@ -111,22 +111,22 @@ fn write_within<W: Write>(
     path: &str,
     file: &ElfFile<'_>,
     out: &mut W,
-) -> Result<(), Stop<Refusal>>
+) -> Result<(), Stop<AnyError>>
     requires page { 0 < page }
     requires limit { header_limit file.now.header ≡ Some limit }
     ensures { MatchResult result
         (λ _. AppendsSome (IsFilePlan page path.entry file.now)
         (W.contents out.old) (W.contents out.new))
-        (IsStop (IsFileRefused page file.now) (IsLoaded page file.now) ⊥) }
+        (IsStop (IsFileError page file.now) (IsLoaded page file.now) ⊥) }
 {
     match LoadPlan::check_load(file, page, limit) {
         Ok(plan) => ended(write_plan(path, file, &plan, out)),
-        Err(error) => Err(Stop::Refused(Refusal::Load(error))),
+        Err(error) => Err(Stop::Failed(AnyError::Load(error))),
     }
 }
 
 // How the output ends after all writes, or after one that failed.
-fn ended(written: io::Result<()>) -> Result<(), Stop<Refusal>>
+fn ended(written: io::Result<()>) -> Result<(), Stop<AnyError>>
     ensures { MatchResult result (λ _. IsOk written) (λ stop. stop ≡ stops_are.Write) }
 {
     match written {

@@ -7,7 +7,7 @@ ghost use Rattle.elfload.specs.Verdicts.{verdict_within};
 ghost use Rattle.program_ends.specs.Appended.{AppendsSome};
 
 use crate::NAME;
-use crate::plans::{Refusal, limit_of};
+use crate::plans::{AnyError, limit_of};
 use elf_loading::{LoadPlan, Loader};
 use linking_programs::Input;
 use program_ends::{Fault, status_of};
@@ -57,7 +57,7 @@ fn write_verdict<'a, W: Write>(
     path: &'a str,
     bytes: &[u8],
     out: &mut W,
-) -> Result<(), Fault<'a, Refusal>>
+) -> Result<(), Fault<'a, AnyError>>
     requires { 0 < page }
     ensures end { IsVerdictEnd by page path.entry bytes.now result }
     ensures written { OnOk result (AppendsSome (IsMappedLine path.now)
@@ -68,7 +68,7 @@ fn write_verdict<'a, W: Write>(
             Ok(()) => Ok(()),
             Err(_) => Err(Fault::Write),
         },
-        Err(error) => Err(Fault::Refused { path, error }),
+        Err(error) => Err(Fault::Failed { path, error }),
     }
 }
 
@@ -81,26 +81,26 @@ fn write_mapped<W: Write>(path: &str, out: &mut W) -> io::Result<()>
 }
 
 // Whether a loader maps the file that these bytes are.
-fn verdict(by: Loader, page: u64, bytes: &[u8]) -> Result<(), Refusal>
+fn verdict(by: Loader, page: u64, bytes: &[u8]) -> Result<(), AnyError>
     requires { 0 < page }
     ensures { HasVerdict by page bytes.now result }
 {
     match ElfFile::new(bytes) {
         Ok(file) => file_verdict(by, page, &file),
-        Err(error) => Err(Refusal::Elf(error)),
+        Err(error) => Err(AnyError::Elf(error)),
     }
 }
 
 // Whether a loader maps a file.
-fn file_verdict(by: Loader, page: u64, file: &ElfFile<'_>) -> Result<(), Refusal>
+fn file_verdict(by: Loader, page: u64, file: &ElfFile<'_>) -> Result<(), AnyError>
     requires { 0 < page }
     ensures { result ≡ verdict_within by page file.now (header_limit file.now.header) }
 {
     let Some(limit) = limit_of(&file.header) else {
-        return Err(Refusal::Machine);
+        return Err(AnyError::Machine);
     };
     match LoadPlan::check_load_by(file, page, limit, by) {
         Ok(()) => Ok(()),
-        Err(error) => Err(Refusal::Load(error)),
+        Err(error) => Err(AnyError::Load(error)),
     }
 }

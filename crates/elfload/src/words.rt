@@ -3,7 +3,7 @@
 ghost use Rattle.std.specs.Prelude.{◌≡◌, ◌<◌, Err, IsOk, IsSomeAnd, MatchResult, Some, length, slice_get};
 ghost use Rattle.std.specs.Prelude.{⊤};
 ghost use Rattle.elfload.specs.Words.{AreWordsWritten, IsItemsText, IsObjectText, IsTextError};
-ghost use Rattle.elfload.specs.Words.{IsTextRefused, IsWordError, is_unchanged, item_text, line_text, name_text};
+ghost use Rattle.elfload.specs.Words.{IsTextFailed, IsWordError, is_unchanged, item_text, line_text, name_text};
 ghost use Rattle.elfload.specs.Words.{path_text, prefix_of, start_text, value_text, without_prefix};
 ghost use Rattle.linking_programs.specs.Files.{IsOfInput};
 ghost use Rattle.program_ends.proofs.Flushed.{appended_flushed};
@@ -15,7 +15,7 @@ use elf_linking::references::relocation_name;
 use elf_linking::scope::Scope;
 use elf_linking::view::LinkedSymbol;
 use elf_loading::{Binding, LoadError, Origin, Relocated, Value, Word, Words};
-use linking_programs::{Input, Refused, refusal, refusal_at};
+use linking_programs::{Failed, Input, failure, failure_at};
 use program_ends::{Output, Stop};
 use std::fmt;
 use std::fmt::Display;
@@ -37,13 +37,13 @@ impl<'s, E: LinkedSymbol> Output for WordsText<'s, '_, '_, '_, E> {
     ghost flushed = { λ text. appended_flushed
         (AreWordsWritten E.fields text.when text.inputs.now text.objects.now) };
 
-    type Refusal = Refused<'s, LoadError>;
+    type AnyError = Failed<'s, LoadError>;
 
-    ghost Refuses = { λ text. IsTextRefused E.fields text.when text.inputs.now text.objects.now };
+    ghost Fails = { λ text. IsTextFailed E.fields text.when text.inputs.now text.objects.now };
 
     ghost Begins = { λ text. ⊤ };
 
-    fn write_to<W: Write>(&self, out: &mut W) -> Result<(), Stop<Refused<'s, LoadError>>> {
+    fn write_to<W: Write>(&self, out: &mut W) -> Result<(), Stop<Failed<'s, LoadError>>> {
         write_words(self.when, self.inputs, self.objects, out)
     }
 }
@@ -54,12 +54,12 @@ fn write_words<'s, E: LinkedSymbol, W: Write>(
     inputs: &'s [Input<'_>],
     objects: &[DynamicObject<'_, E>],
     out: &mut W,
-) -> Result<(), Stop<Refused<'s, LoadError>>>
+) -> Result<(), Stop<Failed<'s, LoadError>>>
     requires same { length objects.now ≡ length inputs.now }
     ensures { MatchResult result
         (λ _. AppendsSome (AreWordsWritten E.fields when inputs.now objects.now)
         (W.contents out.old) (W.contents out.new))
-        (IsStop (IsTextRefused E.fields when inputs.now objects.now) ⊤ ⊥) }
+        (IsStop (IsTextFailed E.fields when inputs.now objects.now) ⊤ ⊥) }
 {
     for of in 0..objects.len() {
         match write_object(when, inputs, objects, of, out) {
@@ -77,22 +77,22 @@ fn write_object<'s, E: LinkedSymbol, W: Write>(
     objects: &[DynamicObject<'_, E>],
     of: usize,
     out: &mut W,
-) -> Result<(), Stop<Refused<'s, LoadError>>>
+) -> Result<(), Stop<Failed<'s, LoadError>>>
     requires same { length objects.now ≡ length inputs.now }
     requires below { of < length objects.now }
     ensures { MatchResult result
         (λ _. IsSomeAnd (slice_get objects.now of) (λ object.
         AppendsSome (IsObjectText E.fields when inputs.now objects.now of object)
         (W.contents out.old) (W.contents out.new)))
-        (IsStop (λ refused. IsOfInput inputs.now of refused
-        × IsTextError E.fields when objects.now of refused.error) ⊤ ⊥) }
+        (IsStop (λ failed. IsOfInput inputs.now of failed
+        × IsTextError E.fields when objects.now of failed.error) ⊤ ⊥) }
 {
     let path = inputs[of].path;
     write!(out, "{}", Heading(path))?;
     let machine = objects[of].file().header.pt2.machine().raw();
     match Words::new(Scope::new(objects), of, when) {
         Ok(words) => write_items(path, machine, of, words, out),
-        Err(error) => Err(refusal_at(inputs, of, LoadError::Link(error))),
+        Err(error) => Err(failure_at(inputs, of, LoadError::Link(error))),
     }
 }
 
@@ -103,12 +103,12 @@ fn write_items<'s, E: LinkedSymbol, W: Write>(
     of: usize,
     words: Words<'_, '_, E>,
     out: &mut W,
-) -> Result<(), Stop<Refused<'s, LoadError>>>
+) -> Result<(), Stop<Failed<'s, LoadError>>>
     ensures { MatchResult result
         (λ _. AppendsSome (IsItemsText E.fields machine of words.entry)
         (W.contents out.old) (W.contents out.new))
-        (IsStop (λ refused. (refused.path ≡ path.entry)
-        × IsWordError E.fields words.entry refused.error) ⊤ ⊥) }
+        (IsStop (λ failed. (failed.path ≡ path.entry)
+        × IsWordError E.fields words.entry failed.error) ⊤ ⊥) }
 {
     for item in words {
         match write_item(path, machine, of, &item, out) {
@@ -126,15 +126,15 @@ fn write_item<'s, E: LinkedSymbol, W: Write>(
     of: usize,
     item: &Relocated<E>,
     out: &mut W,
-) -> Result<(), Stop<Refused<'s, LoadError>>>
+) -> Result<(), Stop<Failed<'s, LoadError>>>
     ensures { MatchResult result
         (λ _. IsOk item.now.word × AppendsSome (λ text. text ≡ item_text machine of item.now)
         (W.contents out.old) (W.contents out.new))
-        (IsStop (λ refused. (refused.path ≡ path.entry) × (item.now.word ≡ Err refused.error)) ⊤ ⊥) }
+        (IsStop (λ failed. (failed.path ≡ path.entry) × (item.now.word ≡ Err failed.error)) ⊤ ⊥) }
 {
     let word = match item.word {
         Ok(word) => word,
-        Err(error) => return Err(refusal(path, error)),
+        Err(error) => return Err(failure(path, error)),
     };
     if is_unchanged(&word.value) {
         return Ok(());

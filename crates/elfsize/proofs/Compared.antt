@@ -13,22 +13,22 @@ use Rattle.elf_addresses.specs.declared.difference.Change.{Change}
 use Rattle.elf_addresses.specs.declared.difference.SizedPart.{SizedPart}
 use Rattle.elfsize.specs.Differences.{AreKinds, AreLengths, AreParts, AreSides, IsChangesText, IsDifferenceEnd, IsDifferenceText, IsFaultOf, IsPairFault, IsPairText, IsPartOf, IsSide, OfFiles, different_text, found_text, kind_number, mark_text, start_of}
 use Rattle.elfsize.specs.Ends.{IsFault, IsOfInput, OfFile, fault_of}
-use Rattle.elfsize.specs.Lines.{AreFileSizes, IsInputRefused, IsShort, part_name}
+use Rattle.elfsize.specs.Lines.{AreFileSizes, IsInputError, IsShort, part_name}
 use Rattle.elfsize.specs.Sums.{AreSums}
 use Rattle.elfsize.specs.Totals.{all_bytes}
 use Rattle.elfsize.specs.View.{shown as shown_in}
 use Rattle.elfsize.specs.declared.changes.Kinds.{Kinds}
 use Rattle.elfsize.specs.declared.difference.Comparison.{Comparison}
 use Rattle.elfsize.specs.declared.difference.Lengths.{Lengths}
-use Rattle.elfsize.specs.declared.lines.Refusal.{Refusal}
-use Rattle.elfsize.specs.declared.lines.Refusal.TheVariants.{Elf, Many, Memory}
+use Rattle.elfsize.specs.declared.lines.AnyError.{AnyError}
+use Rattle.elfsize.specs.declared.lines.AnyError.TheVariants.{Elf, Many, Memory}
 use Rattle.elfsize.specs.declared.side.Side.{Side}
 use Rattle.elfsize.specs.declared.symbols.Symbols.{Symbols}
 use Rattle.elfsize.specs.declared.totals.Run.{Run}
 use Rattle.elfsize.specs.declared.view.View.{View}
-use Rattle.elfsize.proofs.Inputs.{fault_so, of_header, refused_so, symbols_refused}
+use Rattle.elfsize.proofs.Inputs.{fault_so, of_header, failed_so, symbols_failed}
 use Rattle.elf_base.specs.FileHeader.{header_of}
-use Rattle.elfsize.specs.Symbols.{AreSymbols, IsSymbolsRefusal}
+use Rattle.elfsize.specs.Symbols.{AreSymbols, IsSymbolsError}
 use Rattle.program_ends.proofs.Ends.{ends_so, fault_so as fault_from, stop_so}
 use Rattle.program_ends.proofs.LineLists.{zip_one_more}
 use Rattle.program_ends.specs.Appended.{AppendsSome}
@@ -37,7 +37,7 @@ use Rattle.program_ends.specs.Stops.{IsStop}
 use Rattle.program_ends.specs.declared.Fault.{Fault}
 use Rattle.program_ends.specs.declared.Fault.TheVariants.{Read}
 use Rattle.program_ends.specs.declared.Stop.{Stop}
-use Rattle.program_ends.specs.declared.Stop.TheVariants.{Refused}
+use Rattle.program_ends.specs.declared.Stop.TheVariants.{Failed}
 use Rattle.xmas_elf.specs.Types.{ElfError, ElfFile}
 
 -- parts are those of the sizes before an index
@@ -120,26 +120,26 @@ pair_text old new old_parts new_parts kinds old_are new_are are_kinds text (chan
 }
 
 -- memory that is short is no error of an input
-pub short_input : (view : View) (input : Bor (List ℕ)) (refusal : Refusal) → IsShort refusal → IsInputRefused view input refusal
+pub short_input : (view : View) (input : Bor (List ℕ)) (failure : AnyError) → IsShort failure → IsInputError view input failure
 short_input view input (Elf error) why = absurd why
 short_input view input Many why = absurd why
 short_input view input Memory why = tt
 
 -- the fault after a write that failed, or memory that was short
-pub written_fault : (view : View) (path : Bor (List ℕ)) (input : Bor (List ℕ)) (Written Is : Type 0) (stop : Stop Refusal) → Is → IsStop IsShort Written ⊤ stop → IsFault path (IsInputRefused view input) Is (fault_of path stop)
+pub written_fault : (view : View) (path : Bor (List ℕ)) (input : Bor (List ℕ)) (Written Is : Type 0) (stop : Stop AnyError) → Is → IsStop IsShort Written ⊤ stop → IsFault path (IsInputError view input) Is (fault_of path stop)
 written_fault view path input Written Is stop is why =
-    fault_so path (IsInputRefused view input) Is stop
-    (stop_so IsShort (IsInputRefused view input) Written Is ⊤ ⊤ stop (short_input view input) (λ w. is) (λ s. s) why)
+    fault_so path (IsInputError view input) Is stop
+    (stop_so IsShort (IsInputError view input) Written Is ⊤ ⊤ stop (short_input view input) (λ w. is) (λ s. s) why)
 
 -- The faults of one of two inputs.
 
-pub old_fault : (asked : Comparison) (old new : Bor (List ℕ)) (refusal : Refusal) → IsInputRefused asked.view old refusal → IsPairFault asked old new (fault_of asked.old (Refused refusal))
-old_fault asked old new refusal why = inl (fault_so asked.old (IsInputRefused asked.view old) (AreSides asked.view old new) (Refused refusal) why)
+pub old_fault : (asked : Comparison) (old new : Bor (List ℕ)) (failure : AnyError) → IsInputError asked.view old failure → IsPairFault asked old new (fault_of asked.old (Failed failure))
+old_fault asked old new failure why = inl (fault_so asked.old (IsInputError asked.view old) (AreSides asked.view old new) (Failed failure) why)
 
-pub new_fault : (asked : Comparison) (old new : Bor (List ℕ)) (refusal : Refusal) → IsInputRefused asked.view new refusal → IsPairFault asked old new (fault_of asked.new (Refused refusal))
-new_fault asked old new refusal why = inr (fault_so asked.new (IsInputRefused asked.view new) (AreSides asked.view old new) (Refused refusal) why)
+pub new_fault : (asked : Comparison) (old new : Bor (List ℕ)) (failure : AnyError) → IsInputError asked.view new failure → IsPairFault asked old new (fault_of asked.new (Failed failure))
+new_fault asked old new failure why = inr (fault_so asked.new (IsInputError asked.view new) (AreSides asked.view old new) (Failed failure) why)
 
-pub stop_fault : (asked : Comparison) (old new : Bor (List ℕ)) (old_side new_side : Side) (Written : Type 0) (stop : Stop Refusal) → IsSide asked.view old old_side → IsSide asked.view new new_side → IsStop IsShort Written ⊤ stop → IsPairFault asked old new (fault_of asked.old stop)
+pub stop_fault : (asked : Comparison) (old new : Bor (List ℕ)) (old_side new_side : Side) (Written : Type 0) (stop : Stop AnyError) → IsSide asked.view old old_side → IsSide asked.view new new_side → IsStop IsShort Written ⊤ stop → IsPairFault asked old new (fault_of asked.old stop)
 stop_fault asked old new old_side new_side Written stop old_is new_is why =
     inl (written_fault asked.view asked.old old Written (AreSides asked.view old new) stop ((old_side, old_is), (new_side, new_is)) why)
 
@@ -185,16 +185,16 @@ difference_ended asked remaining old new lengths before after written =
     (λ o found. ((found.0.0, found.0.1), found.1)))
     written
 
-error_of : {R : Type 0} (view : View) (remaining : R → Option (List ℕ)) (file : Option R) (input : Bor (List ℕ)) → AreRead view remaining file input.now → (refusal : Refusal) → IsOfInput (IsInputRefused view input) refusal → IsOfInput (λ r. OfFile view remaining file (λ i. IsInputRefused view i r)) refusal
-error_of view remaining file input read (Elf error) why = of_read view remaining file input (λ i. IsInputRefused view i (Elf error)) read why
-error_of view remaining file input read Many why = of_read view remaining file input (λ i. IsInputRefused view i Many) read why
+error_of : {R : Type 0} (view : View) (remaining : R → Option (List ℕ)) (file : Option R) (input : Bor (List ℕ)) → AreRead view remaining file input.now → (failure : AnyError) → IsOfInput (IsInputError view input) failure → IsOfInput (λ r. OfFile view remaining file (λ i. IsInputError view i r)) failure
+error_of view remaining file input read (Elf error) why = of_read view remaining file input (λ i. IsInputError view i (Elf error)) read why
+error_of view remaining file input read Many why = of_read view remaining file input (λ i. IsInputError view i Many) read why
 error_of view remaining file input read Memory why = why
 
-fault_of_file : {R : Type 0} (view : View) (path : Bor (List ℕ)) (remaining : R → Option (List ℕ)) (file : Option R) (input : Bor (List ℕ)) (Was Is : Type 0) (fault : Fault Refusal) → (Was → Is) → AreRead view remaining file input.now → IsFault path (IsInputRefused view input) Was fault → IsFaultOf view path remaining file Is fault
+fault_of_file : {R : Type 0} (view : View) (path : Bor (List ℕ)) (remaining : R → Option (List ℕ)) (file : Option R) (input : Bor (List ℕ)) (Was Is : Type 0) (fault : Fault AnyError) → (Was → Is) → AreRead view remaining file input.now → IsFault path (IsInputError view input) Was fault → IsFaultOf view path remaining file Is fault
 fault_of_file view path remaining file input Was Is fault so read why =
-    fault_from path (IsOfInput (IsInputRefused view input)) (IsOfInput (λ r. OfFile view remaining file (λ i. IsInputRefused view i r))) Was Is fault (error_of view remaining file input read) so why
+    fault_from path (IsOfInput (IsInputError view input)) (IsOfInput (λ r. OfFile view remaining file (λ i. IsInputError view i r))) Was Is fault (error_of view remaining file input read) so why
 
-pub difference_failed : {R : Type 0} (asked : Comparison) (remaining : R → Option (List ℕ)) (old new : Option R) (bytes others : List ℕ) (input other : Bor (List ℕ)) (fault : Fault Refusal) → AreRead asked.view remaining old bytes → AreRead asked.view remaining new others
+pub difference_failed : {R : Type 0} (asked : Comparison) (remaining : R → Option (List ℕ)) (old new : Option R) (bytes others : List ℕ) (input other : Bor (List ℕ)) (fault : Fault AnyError) → AreRead asked.view remaining old bytes → AreRead asked.view remaining new others
     → input.now ≡ bytes → other.now ≡ others → IsPairFault asked input other fault → IsDifferenceEnd asked remaining old new (Err fault)
 difference_failed asked remaining old new bytes others input other fault old_read new_read same same' why =
     let read : AreRead asked.view remaining old input.now = subst (AreRead asked.view remaining old) (sym same) old_read in
@@ -213,7 +213,7 @@ new_unread asked remaining old new = inr refl
 
 -- what is written of two files, by their parts
 pub pair_ends : (old new : Side) (old_parts new_parts old_seen new_seen : List SizedPart) (kinds : Kinds) → AreParts old.file old.symbols old_parts → AreParts new.file new.symbols new_parts → old_seen ≡ old_parts → new_seen ≡ new_parts → AreKinds old.file new.file kinds
-    → (result : Result (Unit {0}) (Stop Refusal)) (before after : Option (List ℕ))
+    → (result : Result (Unit {0}) (Stop AnyError)) (before after : Option (List ℕ))
     → MatchResult result (λ done. AppendsSome (IsChangesText old_seen new_seen kinds) before after) (IsStop IsShort ⊤ ⊥)
     → MatchResult result (λ done. AppendsSome (IsDifferenceText old new) before after) (IsStop IsShort ⊤ ⊥)
 pair_ends old new old_parts new_parts old_seen new_seen kinds old_are new_are same same' are_kinds result before after ends =
@@ -233,11 +233,11 @@ kinds_are old new kinds old_sums new_sums old_bytes new_bytes = record { old_sum
 
 -- The file of an input.
 
-pub header_error : (view : View) (input : Bor (List ℕ)) (error : ElfError) → header_of input.now ≡ Err error → IsInputRefused view input (Elf error)
+pub header_error : (view : View) (input : Bor (List ℕ)) (error : ElfError) → header_of input.now ≡ Err error → IsInputError view input (Elf error)
 header_error view input error why = inl why
 
-pub side_error : (view : View) (input : Bor (List ℕ)) (file : ElfFile) (refusal : Refusal) → file.input ≡ input → header_of input.now ≡ Ok file.header → IsSymbolsRefusal view file refusal → IsInputRefused view input refusal
-side_error view input file refusal same header why = refused_so view input file same header refusal (symbols_refused view file refusal why)
+pub side_error : (view : View) (input : Bor (List ℕ)) (file : ElfFile) (failure : AnyError) → file.input ≡ input → header_of input.now ≡ Ok file.header → IsSymbolsError view file failure → IsInputError view input failure
+side_error view input file failure same header why = failed_so view input file same header failure (symbols_failed view file failure why)
 
 pub side_is : (view : View) (input : Bor (List ℕ)) (side : Side) → side.file.input ≡ input → header_of input.now ≡ Ok side.file.header → AreSymbols view side.file side.symbols → IsSide view input side
 side_is view input side same header are = of_header (λ f. (side.file ≡ f) × AreSymbols view f side.symbols) input side.file same header (refl, are)

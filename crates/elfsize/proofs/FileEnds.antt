@@ -6,7 +6,7 @@ use Rattle.std.proofs.lemmas.List.{take_more}
 use Rattle.std.proofs.lemmas.List.Folds.{list_any-append}
 use Rattle.std.proofs.lemmas.List.Sums.{sum_by_push}
 use Rattle.elfsize.specs.Ends.{AreEnds, IsEndAt, printed, printed_by_all, status_of_all, sums_after, sums_of_all}
-use Rattle.elfsize.specs.declared.lines.Refusal.{Refusal}
+use Rattle.elfsize.specs.declared.lines.AnyError.{AnyError}
 use Rattle.elfsize.specs.declared.sums.Sums.{Sums}
 use Rattle.elfsize.specs.declared.view.View.{View}
 use Rattle.program_ends.specs.Ends.{status_of}
@@ -14,13 +14,13 @@ use Rattle.program_ends.specs.declared.Fault.{Fault}
 use Rattle.program_ends.proofs.LineLists.{zip_one_more}
 
 -- the status of one more file is the greater one
-either : (before : Bool) (end : Result Sums (Fault Refusal)) → (if before || (is_err end || false) then 1 else 0) ≡ max (status_of end) (if before then 1 else 0)
+either : (before : Bool) (end : Result Sums (Fault AnyError)) → (if before || (is_err end || false) then 1 else 0) ≡ max (status_of end) (if before then 1 else 0)
 either true (Ok sums) = refl
 either true (Err fault) = refl
 either false (Ok sums) = refl
 either false (Err fault) = refl
 
-status_push : (ends : List (Result Sums (Fault Refusal))) (end : Result Sums (Fault Refusal)) → status_of_all (ends ++ (end ∷ [])) ≡ max (status_of end) (status_of_all ends)
+status_push : (ends : List (Result Sums (Fault AnyError))) (end : Result Sums (Fault AnyError)) → status_of_all (ends ++ (end ∷ [])) ≡ max (status_of end) (status_of_all ends)
 status_push ends end =
     let as_status : Bool → ℕ = λ b. if b then 1 else 0 in
     ap as_status (list_any-append is_err ends (end ∷ [])) ∙ either (list_any is_err ends) end
@@ -32,12 +32,12 @@ uncapped : (sum most : ℕ) → min (min sum most + 0) most ≡ min sum most
 uncapped sum most = omega arith
 
 -- the bytes of a kind of one more file
-kind_push : (kind : Sums → ℕ) (ends : List (Result Sums (Fault Refusal))) (end : Result Sums (Fault Refusal)) → printed_by_all kind (ends ++ (end ∷ [])) ≡ min (printed_by_all kind ends + printed kind end) (2 ^ 128 - 1)
+kind_push : (kind : Sums → ℕ) (ends : List (Result Sums (Fault AnyError))) (end : Result Sums (Fault AnyError)) → printed_by_all kind (ends ++ (end ∷ [])) ≡ min (printed_by_all kind ends + printed kind end) (2 ^ 128 - 1)
 kind_push kind ends end =
     ap (λ n. min n (2 ^ 128 - 1)) (sum_by_push (printed kind) ends end)
     ∙ capped (sum_by (printed kind) ends) (printed kind end) (2 ^ 128 - 1)
 
-none_more : (kind : Sums → ℕ) (ends : List (Result Sums (Fault Refusal))) (fault : Fault Refusal) → printed_by_all kind (ends ++ (Err fault ∷ [])) ≡ printed_by_all kind ends
+none_more : (kind : Sums → ℕ) (ends : List (Result Sums (Fault AnyError))) (fault : Fault AnyError) → printed_by_all kind (ends ++ (Err fault ∷ [])) ≡ printed_by_all kind ends
 none_more kind ends fault = kind_push kind ends (Err fault) ∙ uncapped (sum_by (printed kind) ends) (2 ^ 128 - 1)
 
 abbrev sums_with : ℕ → ℕ → ℕ → ℕ → ℕ → ℕ → ℕ → Sums
@@ -61,7 +61,7 @@ same_sums a1 a2 a3 a4 a5 a6 a7 b1 b2 b3 b4 b5 b6 b7 e1 e2 e3 e4 e5 e6 e7 =
     ∙ (ap (λ (x : ℕ). sums_with b1 b2 b3 b4 b5 x a7) e6
     ∙ (ap (λ (x : ℕ). sums_with b1 b2 b3 b4 b5 b6 x) e7))))))
 
-sums_push : (ends : List (Result Sums (Fault Refusal))) (end : Result Sums (Fault Refusal)) → sums_of_all (ends ++ (end ∷ [])) ≡ sums_after (sums_of_all ends) end
+sums_push : (ends : List (Result Sums (Fault AnyError))) (end : Result Sums (Fault AnyError)) → sums_of_all (ends ++ (end ∷ [])) ≡ sums_after (sums_of_all ends) end
 sums_push ends (Ok sums) = same_sums _ _ _ _ _ _ _ _ _ _ _ _ _ _
     (kind_push (λ (s : Sums). s.sections) ends (Ok sums))
     (kind_push (λ (s : Sums). s.segments) ends (Ok sums))
@@ -80,7 +80,7 @@ sums_push ends (Err fault) = same_sums _ _ _ _ _ _ _ _ _ _ _ _ _ _
     (none_more (λ (s : Sums). s.after) ends fault)
 
 -- one more file ends
-pub one_more_end : {R S : Type 0} (view : View) (remaining : R → Option (List ℕ)) (text : S → List ℕ) (paths : List S) (index : ℕ) (path : S) (status own more : ℕ) (old new : Sums) (end : Result Sums (Fault Refusal)) → index < length paths → path ≡ get_or paths index path → AreEnds view remaining text (take index paths) status old → IsEndAt view remaining (text path) end → own ≡ status_of end → more ≡ max own status → new ≡ sums_after old end → AreEnds view remaining text (take (index + 1) paths) more new
+pub one_more_end : {R S : Type 0} (view : View) (remaining : R → Option (List ℕ)) (text : S → List ℕ) (paths : List S) (index : ℕ) (path : S) (status own more : ℕ) (old new : Sums) (end : Result Sums (Fault AnyError)) → index < length paths → path ≡ get_or paths index path → AreEnds view remaining text (take index paths) status old → IsEndAt view remaining (text path) end → own ≡ status_of end → more ≡ max own status → new ≡ sums_after old end → AreEnds view remaining text (take (index + 1) paths) more new
 one_more_end {R} {S} view remaining text paths index path status own more old new end below path_is so_far ended own_is more_is new_is =
     subst (λ (l : List S). AreEnds view remaining text l more new) (sym (take_more paths index path below ∙ ap (λ x. take index paths ++ (x ∷ [])) (sym path_is))) (record {
       ends = so_far.ends ++ (end ∷ []);

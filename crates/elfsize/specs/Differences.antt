@@ -9,13 +9,13 @@ use Rattle.elf_addresses.specs.declared.difference.Change.{Change}
 use Rattle.elf_addresses.specs.declared.difference.Change.TheVariants.{Both, Gone, New}
 use Rattle.elf_addresses.specs.declared.difference.SizedPart.{SizedPart}
 use Rattle.elfsize.specs.Ends.{IsFault, OfFile}
-use Rattle.elfsize.specs.Lines.{AreFileSizes, IsInputRefused, OfHeader, other_text, part_name}
+use Rattle.elfsize.specs.Lines.{AreFileSizes, IsInputError, OfHeader, other_text, part_name}
 use Rattle.elfsize.specs.Sums.{AreSums}
 use Rattle.elfsize.specs.Symbols.{AreSymbols}
 use Rattle.elfsize.specs.declared.changes.Kinds.{Kinds}
 use Rattle.elfsize.specs.declared.difference.Comparison.{Comparison}
 use Rattle.elfsize.specs.declared.difference.Lengths.{Lengths}
-use Rattle.elfsize.specs.declared.lines.Refusal.{Refusal}
+use Rattle.elfsize.specs.declared.lines.AnyError.{AnyError}
 use Rattle.elfsize.specs.declared.side.Side.{Side}
 use Rattle.elfsize.specs.declared.sums.Sums.{Sums}
 use Rattle.elfsize.specs.declared.symbols.Symbols.{Symbols}
@@ -147,21 +147,21 @@ AreSides view old new = ((side : Side) × IsSide view old side) × ((side : Side
 
 -- the fault of one of two inputs: an error of its header or of its symbols; a write that failed, if neither has one; or
 -- memory was short
-abbrev pub IsPairFault : Comparison → Bor (List ℕ) → Bor (List ℕ) → Fault Refusal → Type 0
-IsPairFault asked old new fault = IsFault asked.old (IsInputRefused asked.view old) (AreSides asked.view old new) fault
-    ⊎ IsFault asked.new (IsInputRefused asked.view new) (AreSides asked.view old new) fault
+abbrev pub IsPairFault : Comparison → Bor (List ℕ) → Bor (List ℕ) → Fault AnyError → Type 0
+IsPairFault asked old new fault = IsFault asked.old (IsInputError asked.view old) (AreSides asked.view old new) fault
+    ⊎ IsFault asked.new (IsInputError asked.view new) (AreSides asked.view old new) fault
 
 -- a property of a view of all bytes of two files
 abbrev pub OfFiles : {R : Type 0} → View → (R → Option (List ℕ)) → Option R → Option R → (Bor (List ℕ) → Bor (List ℕ) → Type 0) → Type 0
 OfFiles view remaining old new P = OfFile view remaining old (λ input. OfFile view remaining new (λ other. P input other))
 
 -- the fault of the file at a path; a write failed only if this was so when it did
-abbrev pub IsFaultOf : {R : Type 0} → View → Bor (List ℕ) → (R → Option (List ℕ)) → Option R → Type 0 → Fault Refusal → Type 0
+abbrev pub IsFaultOf : {R : Type 0} → View → Bor (List ℕ) → (R → Option (List ℕ)) → Option R → Type 0 → Fault AnyError → Type 0
 IsFaultOf view path remaining file Written fault =
-    IsFault path (λ refusal. OfFile view remaining file (λ input. IsInputRefused view input refusal)) Written fault
+    IsFault path (λ failure. OfFile view remaining file (λ input. IsInputError view input failure)) Written fault
 
 -- how the program ends for two files: there is a text of their difference, and these are their lengths; or the fault
-abbrev pub IsDifferenceEnd : {R : Type 0} → Comparison → (R → Option (List ℕ)) → Option R → Option R → Result Lengths (Fault Refusal) → Type 0
+abbrev pub IsDifferenceEnd : {R : Type 0} → Comparison → (R → Option (List ℕ)) → Option R → Option R → Result Lengths (Fault AnyError) → Type 0
 IsDifferenceEnd asked remaining old new (Ok lengths) =
     OfFiles asked.view remaining old new (λ input other.
     ((text : List ℕ) × IsPairText asked.view input other text) × AreLengths input.now other.now lengths)
@@ -170,7 +170,7 @@ IsDifferenceEnd asked remaining old new (Err fault) =
     ⊎ IsFaultOf asked.view asked.new remaining new (OfFiles asked.view remaining old new (AreSides asked.view)) fault
 
 -- the same of what is opened at two paths, or of nothing
-abbrev pub IsDifferenceEndAt : {R : Type 0} → Comparison → (R → Option (List ℕ)) → Result Lengths (Fault Refusal) → Type 0
+abbrev pub IsDifferenceEndAt : {R : Type 0} → Comparison → (R → Option (List ℕ)) → Result Lengths (Fault AnyError) → Type 0
 IsDifferenceEndAt {R} asked remaining end = (old : Option R) × (new : Option R) × IsDifferenceEnd asked remaining old new end
 
 -- a file is larger than the one before it by more than a limit, if there is one
@@ -179,6 +179,6 @@ is_above None lengths = false
 is_above (Some limit) lengths = nat_lt limit (lengths.new - lengths.old)
 
 -- the exit status: 1 after a fault, 2 if the file grew by more than the limit, otherwise 0
-abbrev pub difference_status : Option ℕ → Result Lengths (Fault Refusal) → ℕ
+abbrev pub difference_status : Option ℕ → Result Lengths (Fault AnyError) → ℕ
 difference_status limit (Ok lengths) = if is_above limit lengths then 2 else 0
 difference_status limit (Err fault) = 1

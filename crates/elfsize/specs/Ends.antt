@@ -3,12 +3,12 @@ use Rattle.std.specs.Prelude.{◌≡◌, ℕ, ◌-◌, ◌<◌, ◌≤◌, ◌^�
 use Rattle.std.specs.Borrow.{Bor}
 use Rattle.std.specs.Io.KnownBytes.{Appends}
 use Rattle.std.specs.List.{AllZip, list_any, sum_by}
-use Rattle.elfsize.specs.Lines.{IsInputRefused, IsInputText, IsInputThere}
+use Rattle.elfsize.specs.Lines.{IsInputError, IsInputText, IsInputThere}
 use Rattle.elfsize.specs.Sums.{AreInputSums, sums_text, with_sums}
 use Rattle.elfsize.specs.View.{shown}
 use Rattle.elfsize.specs.declared.sums.Sums.{Sums}
-use Rattle.elfsize.specs.declared.lines.Refusal.{Refusal}
-use Rattle.elfsize.specs.declared.lines.Refusal.TheVariants as refusals_are
+use Rattle.elfsize.specs.declared.lines.AnyError.{AnyError}
+use Rattle.elfsize.specs.declared.lines.AnyError.TheVariants as failures_are
 use Rattle.elfsize.specs.declared.view.View.{View}
 use Rattle.program_ends.specs.Appended.{AppendsSome}
 use Rattle.program_ends.specs.Ends as ends
@@ -19,22 +19,22 @@ use Rattle.program_ends.specs.declared.Stop as stops
 use Rattle.program_ends.specs.declared.Stop.TheVariants as stops_are
 
 -- what the program says where lines aren't written to their end
-abbrev pub fault_of : Bor (List ℕ) → stops.Stop Refusal → Fault Refusal
-fault_of path (stops_are.Refused (refusals_are.Elf error)) = faults_are.Refused path (refusals_are.Elf error)
-fault_of path (stops_are.Refused refusals_are.Many) = faults_are.Refused path refusals_are.Many
-fault_of path (stops_are.Refused refusals_are.Memory) = faults_are.Memory
+abbrev pub fault_of : Bor (List ℕ) → stops.Stop AnyError → Fault AnyError
+fault_of path (stops_are.Failed (failures_are.Elf error)) = faults_are.Failed path (failures_are.Elf error)
+fault_of path (stops_are.Failed failures_are.Many) = faults_are.Failed path failures_are.Many
+fault_of path (stops_are.Failed failures_are.Memory) = faults_are.Memory
 fault_of path stops_are.Write = faults_are.Write
 fault_of path stops_are.Memory = faults_are.Memory
 
 -- the reason is not that memory was short
-abbrev pub IsOfInput : (Refusal → Type 0) → Refusal → Type 0
-IsOfInput Refuses (refusals_are.Elf error) = Refuses (refusals_are.Elf error)
-IsOfInput Refuses refusals_are.Many = Refuses refusals_are.Many
-IsOfInput Refuses refusals_are.Memory = ⊥
+abbrev pub IsOfInput : (AnyError → Type 0) → AnyError → Type 0
+IsOfInput Fails (failures_are.Elf error) = Fails (failures_are.Elf error)
+IsOfInput Fails failures_are.Many = Fails failures_are.Many
+IsOfInput Fails failures_are.Memory = ⊥
 
 -- the fault of a file at a path, by such a reason why it has no lines
-abbrev pub IsFault : Bor (List ℕ) → (Refusal → Type 0) → Type 0 → Fault Refusal → Type 0
-IsFault path Refuses = ends.IsFault path (IsOfInput Refuses)
+abbrev pub IsFault : Bor (List ℕ) → (AnyError → Type 0) → Type 0 → Fault AnyError → Type 0
+IsFault path Fails = ends.IsFault path (IsOfInput Fails)
 
 -- a property of a view of all bytes that a reader has left, as far as these are known; there is a reader
 abbrev pub OfFile : {R : Type 0} → View → (R → Option (List ℕ)) → Option R → (Bor (List ℕ) → Type 0) → Type 0
@@ -47,40 +47,40 @@ IsBegun view path input = HasBegun (IsInputThere view input) (AppendsSome (IsInp
 
 -- how the program ends for a view of the file at a path: there is a text of its sizes, and these are its bytes by kind;
 -- or the fault
-abbrev pub IsEnd : {R : Type 0} → View → Bor (List ℕ) → (R → Option (List ℕ)) → Option R → Result Sums (Fault Refusal) → Type 0
+abbrev pub IsEnd : {R : Type 0} → View → Bor (List ℕ) → (R → Option (List ℕ)) → Option R → Result Sums (Fault AnyError) → Type 0
 IsEnd view path remaining file (Ok sums) = OfFile view remaining file (λ input.
     ((text : List ℕ) × IsInputText view path.now input text) × AreInputSums input sums)
 IsEnd view path remaining file (Err fault) = IsFault path
-    (λ refusal. OfFile view remaining file (λ input. IsInputRefused view input refusal))
+    (λ failure. OfFile view remaining file (λ input. IsInputError view input failure))
     (OfFile view remaining file (λ input. IsBegun view path input)) fault
 
 -- the sums after a file: with its bytes, if it was printed
-abbrev pub sums_after : Sums → Result Sums (Fault Refusal) → Sums
+abbrev pub sums_after : Sums → Result Sums (Fault AnyError) → Sums
 sums_after before (Ok sums) = with_sums before sums
 sums_after before (Err fault) = before
 
 -- All files.
 
 -- the file at a path with this text ends so: of what is opened there, or of nothing
-abbrev pub IsEndAt : {R : Type 0} → View → (R → Option (List ℕ)) → List ℕ → Result Sums (Fault Refusal) → Type 0
+abbrev pub IsEndAt : {R : Type 0} → View → (R → Option (List ℕ)) → List ℕ → Result Sums (Fault AnyError) → Type 0
 IsEndAt {R} view remaining text end =
     (path : Bor (List ℕ)) × (path.now ≡ text) × (file : Option R) × IsEnd view path remaining file end
 
 -- the exit status of files that end so: 1 if one of them has a fault
-abbrev pub status_of_all : List (Result Sums (Fault Refusal)) → ℕ
+abbrev pub status_of_all : List (Result Sums (Fault AnyError)) → ℕ
 status_of_all ends = if list_any is_err ends then 1 else 0
 
 -- the bytes of a kind of a file that was printed
-abbrev pub printed : (Sums → ℕ) → Result Sums (Fault Refusal) → ℕ
+abbrev pub printed : (Sums → ℕ) → Result Sums (Fault AnyError) → ℕ
 printed kind (Ok sums) = kind sums
 printed kind (Err fault) = 0
 
 -- the bytes of a kind of all files that were printed; at most 2 to the 128 minus 1
-abbrev pub printed_by_all : (Sums → ℕ) → List (Result Sums (Fault Refusal)) → ℕ
+abbrev pub printed_by_all : (Sums → ℕ) → List (Result Sums (Fault AnyError)) → ℕ
 printed_by_all kind ends = min (sum_by (printed kind) ends) (2 ^ 128 - 1)
 
 -- the sums of all files that were printed
-abbrev pub sums_of_all : List (Result Sums (Fault Refusal)) → Sums
+abbrev pub sums_of_all : List (Result Sums (Fault AnyError)) → Sums
 sums_of_all ends = record {
   sections = printed_by_all (λ sums. sums.sections) ends;
   segments = printed_by_all (λ sums. sums.segments) ends;
@@ -93,7 +93,7 @@ sums_of_all ends = record {
 
 -- the files at paths end so, with this exit status and these sums
 pub record AreEnds {R S : Type 0} (view : View) (remaining : R → Option (List ℕ)) (text : S → List ℕ) (paths : List S) (status : ℕ) (sums : Sums) : Type 0 where
-  pub ends : List (Result Sums (Fault Refusal))
+  pub ends : List (Result Sums (Fault AnyError))
   pub are : AllZip (λ path end. IsEndAt view remaining (text path) end) paths ends
   pub status_is : status ≡ status_of_all ends
   pub sums_are : sums ≡ sums_of_all ends

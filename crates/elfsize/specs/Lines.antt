@@ -4,10 +4,10 @@ use Rattle.std.specs.Borrow.{Bor}
 use Rattle.std.specs.List.{flat_map}
 use Rattle.elf_addresses.specs.FileClaims.{byte_count}
 use Rattle.elf_base.specs.FileHeader.{header_of}
-use Rattle.elfsize.specs.Symbols.{AreRunsBy, AreSymbols, AreThere, IsSymbolsRefusal, or_mark, symbol_name_in}
+use Rattle.elfsize.specs.Symbols.{AreRunsBy, AreSymbols, AreThere, IsSymbolsError, or_mark, symbol_name_in}
 use Rattle.elfsize.specs.Totals.{AreSizes, all_bytes}
-use Rattle.elfsize.specs.declared.lines.Refusal.{Refusal}
-use Rattle.elfsize.specs.declared.lines.Refusal.TheVariants.{Elf, Many, Memory}
+use Rattle.elfsize.specs.declared.lines.AnyError.{AnyError}
+use Rattle.elfsize.specs.declared.lines.AnyError.TheVariants.{Elf, Many, Memory}
 use Rattle.elfsize.specs.declared.symbols.Symbols.{Symbols}
 use Rattle.elfsize.specs.declared.totals.Run.{Run}
 use Rattle.elfsize.specs.declared.view.View.{View}
@@ -103,19 +103,19 @@ abbrev pub IsInputThere : View → Bor (List ℕ) → Type 0
 IsInputThere view input = OfHeader input (AreThere view)
 
 -- why a file has no text: an error of its symbols, or memory is short
-abbrev pub IsFileRefused : View → ElfFile → Refusal → Type 0
-IsFileRefused view file Memory = ⊤
-IsFileRefused view file (Elf error) = IsSymbolsRefusal view file (Elf error)
-IsFileRefused view file Many = IsSymbolsRefusal view file Many
+abbrev pub IsFileError : View → ElfFile → AnyError → Type 0
+IsFileError view file Memory = ⊤
+IsFileError view file (Elf error) = IsSymbolsError view file (Elf error)
+IsFileError view file Many = IsSymbolsError view file Many
 
 -- why an input has no text: an error of its header, or why its file has none
-abbrev pub IsInputRefused : View → Bor (List ℕ) → Refusal → Type 0
-IsInputRefused view input Memory = ⊤
-IsInputRefused view input (Elf error) =
-    (header_of input.now ≡ Err error) ⊎ OfHeader input (λ file. IsSymbolsRefusal view file (Elf error))
-IsInputRefused view input Many = OfHeader input (λ file. IsSymbolsRefusal view file Many)
+abbrev pub IsInputError : View → Bor (List ℕ) → AnyError → Type 0
+IsInputError view input Memory = ⊤
+IsInputError view input (Elf error) =
+    (header_of input.now ≡ Err error) ⊎ OfHeader input (λ file. IsSymbolsError view file (Elf error))
+IsInputError view input Many = OfHeader input (λ file. IsSymbolsError view file Many)
 
-abbrev pub IsShort : Refusal → Type 0
+abbrev pub IsShort : AnyError → Type 0
 IsShort (Elf error) = ⊥
 IsShort Many = ⊥
 IsShort Memory = ⊤

@@ -3,13 +3,13 @@
 use Rattle.std.specs.Prelude.{◌≡◌, ◌≢◌, ℕ, ◌≤◌, ◌<◌, ◌⊎◌, List, Option, None, Some, Result, Ok, Err, codes, slice_get}
 use Rattle.elf_addresses.specs.FileClaims.{section_parts}
 use Rattle.elf_addresses.specs.SymbolClaims.{symbol_count, symbol_items}
-use Rattle.elf_addresses.specs.Symtab.{IsSymtab, IsSymtabRefused, IsSymtabSection}
+use Rattle.elf_addresses.specs.Symtab.{IsSymtab, IsSymtabFailed, IsSymtabSection}
 use Rattle.elf_base.specs.FileHeader.{file_class}
 use Rattle.elf_base.specs.Text.{bytes_up_to_zero_of}
 use Rattle.elfsize.specs.Parts.{AreRuns}
 use Rattle.elfsize.specs.Split.{AreSplit, section_claims}
-use Rattle.elfsize.specs.declared.lines.Refusal.{Refusal}
-use Rattle.elfsize.specs.declared.lines.Refusal.TheVariants.{Elf, Many, Memory}
+use Rattle.elfsize.specs.declared.lines.AnyError.{AnyError}
+use Rattle.elfsize.specs.declared.lines.AnyError.TheVariants.{Elf, Many, Memory}
 use Rattle.elfsize.specs.declared.symbols.Symbols.{Symbols}
 use Rattle.elfsize.specs.declared.symbols.Symbols.TheVariants as are
 use Rattle.elfsize.specs.declared.totals.Run.{Run}
@@ -63,23 +63,23 @@ AreThere view file = (symbols : Symbols) × AreSymbols view file symbols
 
 -- an error of the section at an index, by the class of the file
 abbrev pub IsSymtabError : ElfFile → ℕ → ElfError → Type 0
-IsSymtabError file index error = ((file_class file.header ≡ 1) × IsSymtabRefused 16 file index error)
-    ⊎ ((file_class file.header ≢ 1) × IsSymtabRefused 24 file index error)
+IsSymtabError file index error = ((file_class file.header ≡ 1) × IsSymtabFailed 16 file index error)
+    ⊎ ((file_class file.header ≢ 1) × IsSymtabFailed 24 file index error)
 
 -- or it has 2 to the 32 symbols or more
-abbrev pub IsRefusedAt : ElfFile → ℕ → Refusal → Type 0
-IsRefusedAt file index (Elf error) = IsSymtabError file index error
-IsRefusedAt file index Many = (symbols : Symbols) × AreSymtabAt file index symbols × (0x100000000 ≤ count_in symbols)
-IsRefusedAt file index Memory = ⊥
+abbrev pub IsFailedAt : ElfFile → ℕ → AnyError → Type 0
+IsFailedAt file index (Elf error) = IsSymtabError file index error
+IsFailedAt file index Many = (symbols : Symbols) × AreSymtabAt file index symbols × (0x100000000 ≤ count_in symbols)
+IsFailedAt file index Memory = ⊥
 
-abbrev pub IsSymtabRefusal : ElfFile → Refusal → Type 0
-IsSymtabRefusal file refusal =
-    (index : ℕ) × FindsFirstAt IsSymtabSection (section_parts file) (Some index) × IsRefusedAt file index refusal
+abbrev pub IsSymtabReason : ElfFile → AnyError → Type 0
+IsSymtabReason file failure =
+    (index : ℕ) × FindsFirstAt IsSymtabSection (section_parts file) (Some index) × IsFailedAt file index failure
 
-abbrev pub IsSymbolsRefusal : View → ElfFile → Refusal → Type 0
-IsSymbolsRefusal views.Whole file refusal = ⊥
-IsSymbolsRefusal views.Segments file refusal = ⊥
-IsSymbolsRefusal views.Symbols file refusal = IsSymtabRefusal file refusal
+abbrev pub IsSymbolsError : View → ElfFile → AnyError → Type 0
+IsSymbolsError views.Whole file failure = ⊥
+IsSymbolsError views.Segments file failure = ⊥
+IsSymbolsError views.Symbols file failure = IsSymtabReason file failure
 
 -- The names of symbols.
 

@@ -12,7 +12,7 @@ ghost use Rattle.program_ends.proofs.Flushed.{appended_flushed};
 ghost use Rattle.program_ends.specs.Appended.{AppendsSome};
 ghost use Rattle.program_ends.specs.Stops.{IsStop};
 
-use crate::lines::{Refusal, file_sizes, other_text, part_name};
+use crate::lines::{AnyError, file_sizes, other_text, part_name};
 use crate::side::Side;
 use crate::sums::{Sums, file_sums};
 use crate::totals::Run;
@@ -37,24 +37,24 @@ impl Output for Difference<'_> {
 
     ghost flushed = { λ sides. appended_flushed (IsDifferenceText sides.old.now sides.new.now) };
 
-    type Refusal = Refusal;
+    type AnyError = AnyError;
 
-    ghost Refuses = { λ sides. IsShort };
+    ghost Fails = { λ sides. IsShort };
 
     ghost Begins = { λ sides. ⊤ };
 
     #[tactic(auto, using(crate::proofs::Compared::pair_ends))]
-    fn write_to<W: Write>(&self, out: &mut W) -> Result<(), Stop<Refusal>> {
+    fn write_to<W: Write>(&self, out: &mut W) -> Result<(), Stop<AnyError>> {
         let old = self.old;
         let new = self.new;
         let Ok(mut old_parts) = parts_of(self.alloc, old) else {
-            return Err(Stop::Refused(Refusal::Memory));
+            return Err(Stop::Failed(AnyError::Memory));
         };
         let Ok(mut new_parts) = parts_of(self.alloc, new) else {
-            return Err(Stop::Refused(Refusal::Memory));
+            return Err(Stop::Failed(AnyError::Memory));
         };
         let Ok(kinds) = kinds_of(self.alloc, &old.file, &new.file) else {
-            return Err(Stop::Refused(Refusal::Memory));
+            return Err(Stop::Failed(AnyError::Memory));
         };
         write_changes(self.alloc, &mut old_parts, &mut new_parts, &kinds, out)
     }
@@ -132,7 +132,7 @@ fn write_changes<'a, W: Write>(
     new: &mut [SizedPart<'a>],
     kinds: &Kinds,
     out: &mut W,
-) -> Result<(), Stop<Refusal>>
+) -> Result<(), Stop<AnyError>>
     ensures { MatchResult result
         (λ _. AppendsSome (IsChangesText old.old new.old kinds.now)
         (W.contents out.old) (W.contents out.new))
@@ -146,10 +146,10 @@ fn write_changes<'a, W: Write>(
         size: 0,
     });
     let Ok(mut changes) = vec![in alloc; nothing; count] else {
-        return Err(Stop::Refused(Refusal::Memory));
+        return Err(Stop::Failed(AnyError::Memory));
     };
     let Some(found) = differences(&mut *old, &mut *new, &mut changes) else {
-        return Err(Stop::Refused(Refusal::Memory));
+        return Err(Stop::Failed(AnyError::Memory));
     };
     match write_found(found, kinds, out) {
         Ok(()) => Ok(()),

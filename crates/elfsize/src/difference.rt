@@ -3,14 +3,14 @@
 ghost use Rattle.std.specs.Prelude.{◌≡◌, ◌≤◌, Err, MatchResult, Result, if◌then◌else◌};
 ghost use Rattle.elfsize.specs.Differences.{AreLengths, IsDifferenceEnd, IsDifferenceEndAt, IsPairFault};
 ghost use Rattle.elfsize.specs.Differences.{IsPairText, IsSide, OfFiles, difference_status, is_above};
-ghost use Rattle.elfsize.specs.Lines.{IsInputRefused};
+ghost use Rattle.elfsize.specs.Lines.{IsInputError};
 ghost use Rattle.elfsize.specs.declared.difference.Lengths.{Lengths};
-ghost use Rattle.elfsize.specs.declared.lines.Refusal.{Refusal};
+ghost use Rattle.elfsize.specs.declared.lines.AnyError.{AnyError};
 ghost use Rattle.program_ends.specs.Appended.{AppendsSome};
 ghost use Rattle.program_ends.specs.declared.Fault.{Fault};
 
 use crate::changes::Difference;
-use crate::lines::Refusal;
+use crate::lines::AnyError;
 use crate::side::Side;
 use crate::symbols::read_symbols;
 use crate::view::{View, read_shown};
@@ -86,7 +86,7 @@ pub fn compare_paths<R: Files, W: Write, E: Write>(
     out: &mut Watched<W>,
     err: &mut E,
 ) -> u8
-    ensures { (end : Result Lengths (Fault Refusal))
+    ensures { (end : Result Lengths (Fault AnyError))
         × IsDifferenceEndAt comparison.now R.File.Read.remaining end
         × (result ≡ difference_status comparison.now.limit end) }
 {
@@ -110,7 +110,7 @@ pub fn run_difference<R: Read + Drop, W: Write, E: Write>(
     err: &mut E,
 ) -> u8
     ensures bound { result ≤ 2 }
-    ensures ends { (end : Result Lengths (Fault Refusal))
+    ensures ends { (end : Result Lengths (Fault AnyError))
         × IsDifferenceEnd comparison.now R.remaining old new end
         × (result ≡ difference_status comparison.now.limit end) }
 {
@@ -121,7 +121,7 @@ pub fn run_difference<R: Read + Drop, W: Write, E: Write>(
 // The exit status after two files; after a fault it says why, unless nobody reads the output.
 fn status_after<E: Write>(
     limit: Option<u64>,
-    ended: Result<Lengths, Fault<'_, Refusal>>,
+    ended: Result<Lengths, Fault<'_, AnyError>>,
     closed: bool,
     err: &mut E,
 ) -> u8
@@ -151,7 +151,7 @@ fn compare_files<'a, R: Read + Drop, W: Write>(
     old: Option<R>,
     new: Option<R>,
     out: &mut W,
-) -> Result<Lengths, Fault<'a, Refusal>>
+) -> Result<Lengths, Fault<'a, AnyError>>
     ensures { IsDifferenceEnd comparison.now R.remaining old new result }
 {
     match print_difference(alloc, comparison, old, new, &mut *out) {
@@ -178,7 +178,7 @@ fn print_difference<'a, R: Read + Drop, W: Write + Drop>(
     old: Option<R>,
     new: Option<R>,
     out: W,
-) -> Result<(W, Lengths), Fault<'a, Refusal>>
+) -> Result<(W, Lengths), Fault<'a, AnyError>>
     ensures { MatchResult result
         (λ back. OfFiles comparison.now.view R.remaining old new (λ input other.
         AppendsSome (IsPairText comparison.now.view input other) (W.contents out) (W.contents back.0)
@@ -215,18 +215,18 @@ fn print_inputs<'a, 'i, W: Write + Drop>(
     old: &'i [u8],
     new: &'i [u8],
     out: W,
-) -> Result<W, Fault<'a, Refusal>>
+) -> Result<W, Fault<'a, AnyError>>
     ensures { MatchResult result
         (λ back. AppendsSome (IsPairText comparison.now.view old.entry new.entry) (W.contents out) (W.contents back))
         (IsPairFault comparison.now old.entry new.entry) }
 {
     let old_side = match side_of(comparison.view, old) {
         Ok(side) => side,
-        Err(refusal) => return Err(fault_of(Stop::Refused(refusal), comparison.old)),
+        Err(failure) => return Err(fault_of(Stop::Failed(failure), comparison.old)),
     };
     let new_side = match side_of(comparison.view, new) {
         Ok(side) => side,
-        Err(refusal) => return Err(fault_of(Stop::Refused(refusal), comparison.new)),
+        Err(failure) => return Err(fault_of(Stop::Failed(failure), comparison.new)),
     };
     let difference = Difference {
         alloc,
@@ -241,15 +241,15 @@ fn print_inputs<'a, 'i, W: Write + Drop>(
 
 // The file that these bytes are, with the symbols that a view asks for.
 #[tactic(auto, using(crate::proofs::Compared::header_error, crate::proofs::Compared::side_error, crate::proofs::Compared::side_is))]
-fn side_of<'a>(view: View, input: &'a [u8]) -> Result<Side<'a>, Refusal>
-    ensures { MatchResult result (IsSide view input.entry) (IsInputRefused view input.entry) }
+fn side_of<'a>(view: View, input: &'a [u8]) -> Result<Side<'a>, AnyError>
+    ensures { MatchResult result (IsSide view input.entry) (IsInputError view input.entry) }
 {
     let file = match ElfFile::new(input) {
         Ok(file) => file,
-        Err(error) => return Err(Refusal::Elf(error)),
+        Err(error) => return Err(AnyError::Elf(error)),
     };
     match read_symbols(view, &file) {
         Ok(symbols) => Ok(Side { file, symbols }),
-        Err(refusal) => Err(refusal),
+        Err(failure) => Err(failure),
     }
 }

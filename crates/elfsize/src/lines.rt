@@ -3,7 +3,7 @@
 ghost use Rattle.std.specs.Prelude.{◌≡◌, ◌<◌, ◌^◌, ⊤, All, IfOk, MatchResult, OnOk, Some};
 ghost use Rattle.std.specs.Io.KnownBytes.{Appends};
 ghost use Rattle.std.specs.List.{flat_map};
-ghost use Rattle.elfsize.specs.Lines.{AreFileSizes, IsFileRefused, IsFileText, IsInputRefused};
+ghost use Rattle.elfsize.specs.Lines.{AreFileSizes, IsFileError, IsFileText, IsInputError};
 ghost use Rattle.elfsize.specs.Lines.{IsInputText, IsInputThere, IsTextBy};
 ghost use Rattle.elf_addresses.specs.FileClaims.{byte_count};
 ghost use Rattle.elfsize.specs.Symbols.{AreFew, AreRunsBy, AreThere};
@@ -30,7 +30,7 @@ use xmas_elf::{ElfError, ElfFile};
 
 /// Why a file has no lines.
 #[derive(Clone, Copy, Debug, Drop, Error)]
-pub enum Refusal {
+pub enum AnyError {
     /// It isn't an ELF file, or its symbols can't be read.
     #[error("{0}")]
     Elf(ElfError),
@@ -57,16 +57,16 @@ impl Output for Lines<'_> {
     ghost flushed = { λ lines.
         appended_flushed (IsInputText lines.view lines.path.now lines.input) };
 
-    type Refusal = Refusal;
+    type AnyError = AnyError;
 
-    ghost Refuses = { λ lines. IsInputRefused lines.view lines.input };
+    ghost Fails = { λ lines. IsInputError lines.view lines.input };
 
     ghost Begins = { λ lines. IsInputThere lines.view lines.input };
 
-    fn write_to<W: Write>(&self, out: &mut W) -> Result<(), Stop<Refusal>> {
+    fn write_to<W: Write>(&self, out: &mut W) -> Result<(), Stop<AnyError>> {
         match ElfFile::new(self.input) {
             Ok(file) => write_file(self.alloc, self.view, self.path, &file, out),
-            Err(error) => Err(Stop::Refused(Refusal::Elf(error))),
+            Err(error) => Err(Stop::Failed(AnyError::Elf(error))),
         }
     }
 }
@@ -78,15 +78,15 @@ fn write_file<W: Write>(
     path: &str,
     file: &ElfFile<'_>,
     out: &mut W,
-) -> Result<(), Stop<Refusal>>
+) -> Result<(), Stop<AnyError>>
     ensures { MatchResult result
         (λ _. AppendsSome (IsFileText view path.now file.now)
         (W.contents out.old) (W.contents out.new))
-        (IsStop (IsFileRefused view file.now) (AreThere view file.now) ⊥) }
+        (IsStop (IsFileError view file.now) (AreThere view file.now) ⊥) }
 {
     match read_symbols(view, file) {
         Ok(symbols) => write_by(alloc, path, file, &symbols, out),
-        Err(refusal) => Err(Stop::Refused(refusal)),
+        Err(failure) => Err(Stop::Failed(failure)),
     }
 }
 
@@ -97,7 +97,7 @@ fn write_by<W: Write>(
     file: &ElfFile<'_>,
     symbols: &Symbols<'_>,
     out: &mut W,
-) -> Result<(), Stop<Refusal>>
+) -> Result<(), Stop<AnyError>>
     requires { AreFew symbols.now }
     ensures { MatchResult result
         (λ _. AppendsSome (IsTextBy path.now file.now symbols.now)
@@ -106,7 +106,7 @@ fn write_by<W: Write>(
 {
     match file_sizes(alloc, file, symbols) {
         Ok(sizes) => write_all_of(path, file, symbols, &sizes, out),
-        Err(_) => Err(Stop::Refused(Refusal::Memory)),
+        Err(_) => Err(Stop::Failed(AnyError::Memory)),
     }
 }
 
@@ -117,7 +117,7 @@ fn write_all_of<W: Write>(
     symbols: &Symbols<'_>,
     sizes: &[Run],
     out: &mut W,
-) -> Result<(), Stop<Refusal>>
+) -> Result<(), Stop<AnyError>>
     requires { AreFileSizes file.now symbols.now sizes.now }
     ensures { MatchResult result
         (λ _. AppendsSome (IsTextBy path.now file.now symbols.now)

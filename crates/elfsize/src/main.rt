@@ -11,17 +11,17 @@
 ghost use Rattle.std.specs.Prelude.{◌≡◌, ◌≤◌, ◌<◌, ◌&&◌, ◌==◌, IfErr, IfOk, IsTrue, Result, cond, length};
 ghost use Rattle.elfsize.specs.Ends.{AreEnds, IsBegun, IsEnd, IsEndAt, IsFault, IsStatus, OfFile};
 ghost use Rattle.elfsize.specs.Ends.{fault_of, sums_after};
-ghost use Rattle.elfsize.specs.Lines.{IsInputRefused, IsInputText};
+ghost use Rattle.elfsize.specs.Lines.{IsInputError, IsInputText};
 ghost use Rattle.elfsize.specs.Sums.{AreInputSums};
 ghost use Rattle.elfsize.specs.declared.sums.Sums.{Sums};
-ghost use Rattle.elfsize.specs.declared.lines.Refusal.{Refusal};
+ghost use Rattle.elfsize.specs.declared.lines.AnyError.{AnyError};
 ghost use Rattle.program_ends.specs.Appended.{AppendsSome};
 ghost use Rattle.program_ends.specs.Ends.{status_of};
 ghost use Rattle.program_ends.specs.declared.Fault.{Fault};
 ghost use Rattle.program_ends.specs.declared.TheConstants.{CLOSED};
 
 use crate::difference::{compare_paths, compared, limited};
-use crate::lines::{Lines, Refusal};
+use crate::lines::{AnyError, Lines};
 use crate::sums::{Sums, input_sums};
 use crate::view::{View, read_shown};
 use program_ends::{
@@ -77,7 +77,7 @@ pub fn run<R: Read + Drop, W: Write, E: Write>(
     sums: &mut Sums,
 ) -> u8
     ensures bound { result ≤ 1 }
-    ensures ends { (end : Result Sums (Fault Refusal))
+    ensures ends { (end : Result Sums (Fault AnyError))
         × IsEnd view path.entry R.remaining file end × (result ≡ status_of end)
         × (sums.new ≡ sums_after sums.old end) }
 {
@@ -98,7 +98,7 @@ fn answer<'a, R: Read + Drop, W: Write>(
     path: &'a str,
     file: Option<R>,
     out: &mut W,
-) -> Result<Sums, Fault<'a, Refusal>>
+) -> Result<Sums, Fault<'a, AnyError>>
     ensures { IsEnd view path.entry R.remaining file result }
 {
     match print_lines(alloc, view, path, file, &mut *out) {
@@ -115,12 +115,12 @@ fn print_lines<'a, R: Read + Drop, W: Write + Drop>(
     path: &'a str,
     file: Option<R>,
     out: W,
-) -> Result<(W, Sums), Fault<'a, Refusal>>
+) -> Result<(W, Sums), Fault<'a, AnyError>>
     ensures written { IfOk result (λ back. OfFile view R.remaining file (λ input.
         AppendsSome (IsInputText view path.entry.now input) (W.contents out) (W.contents back.0)
         × AreInputSums input back.1)) }
     ensures fault { IfErr result (IsFault path.entry
-        (λ refusal. OfFile view R.remaining file (λ input. IsInputRefused view input refusal))
+        (λ failure. OfFile view R.remaining file (λ input. IsInputError view input failure))
         (OfFile view R.remaining file (λ input. IsBegun view path.entry input))) }
 {
     let Some(input) = read_shown(alloc, view, file) else {
@@ -143,19 +143,19 @@ fn print_lines<'a, R: Read + Drop, W: Write + Drop>(
 }
 
 // What the program says where lines aren't written to their end.
-pub(crate) fn fault_of(stop: Stop<Refusal>, path: &str) -> Fault<'_, Refusal>
+pub(crate) fn fault_of(stop: Stop<AnyError>, path: &str) -> Fault<'_, AnyError>
     ensures { result ≡ fault_of path.entry stop }
 {
     match stop {
-        Stop::Refused(Refusal::Elf(error)) => Fault::Refused {
+        Stop::Failed(AnyError::Elf(error)) => Fault::Failed {
             path,
-            error: Refusal::Elf(error),
+            error: AnyError::Elf(error),
         },
-        Stop::Refused(Refusal::Many) => Fault::Refused {
+        Stop::Failed(AnyError::Many) => Fault::Failed {
             path,
-            error: Refusal::Many,
+            error: AnyError::Many,
         },
-        Stop::Refused(Refusal::Memory) => Fault::Memory,
+        Stop::Failed(AnyError::Memory) => Fault::Memory,
         Stop::Write => Fault::Write,
         Stop::Memory => Fault::Memory,
     }
@@ -268,7 +268,7 @@ fn run_on_paths<R: Files + Clock, S: AsStr, W: Write, E: Write + IsTerminal>(
         Ok(()) => status,
         Err(_) if out.is_closed() => 1,
         Err(_) => {
-            let fault: Fault<'_, Refusal> = Fault::Write;
+            let fault: Fault<'_, AnyError> = Fault::Write;
             say(NAME, &fault, err)
         }
     }
@@ -304,7 +304,7 @@ fn run_on_path<R: Files + Clock, W: Write, E: Write + IsTerminal>(
     err: &mut E,
     sums: &mut Sums,
 ) -> u8
-    ensures { (end : Result Sums (Fault Refusal))
+    ensures { (end : Result Sums (Fault AnyError))
         × IsEndAt view R.File.Read.remaining path.now end × (result ≡ status_of end)
         × (sums.new ≡ sums_after sums.old end) }
 {

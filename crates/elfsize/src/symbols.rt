@@ -6,10 +6,10 @@ ghost use Rattle.elf_addresses.specs.SymbolClaims.{symbol_items};
 ghost use Rattle.elf_addresses.specs.Symtab.{IsSymtabSection};
 ghost use Rattle.xmas_elf.specs.First.{FindsFirstAt};
 ghost use Rattle.elfsize.specs.Symbols.{AreFew, AreSymbols, AreSymtab, AreSymtabAt};
-ghost use Rattle.elfsize.specs.Symbols.{IsRefusedAt, IsSymbolsRefusal, IsSymtabError};
-ghost use Rattle.elfsize.specs.Symbols.{IsSymtabRefusal, count_in, symbol_name, symbol_name_in};
+ghost use Rattle.elfsize.specs.Symbols.{IsFailedAt, IsSymbolsError, IsSymtabError};
+ghost use Rattle.elfsize.specs.Symbols.{IsSymtabReason, count_in, symbol_name, symbol_name_in};
 
-use crate::lines::Refusal;
+use crate::lines::AnyError;
 use crate::view::View;
 use elf_addresses::{AddressSymbols, Claims, SectionClaims, symtab_at, symtab_index};
 use elf_base::bytes::bytes_up_to_zero;
@@ -30,9 +30,9 @@ pub enum Symbols<'a> {
 
 /// The symbols of a file that a view asks for: those of the first section of type `SHT_SYMTAB`. There
 /// are none if the section header table is cut off.
-pub fn read_symbols<'a>(view: View, file: &ElfFile<'a>) -> Result<Symbols<'a>, Refusal>
+pub fn read_symbols<'a>(view: View, file: &ElfFile<'a>) -> Result<Symbols<'a>, AnyError>
     ensures symbols { MatchResult result (AreSymbols view file.now)
-        (IsSymbolsRefusal view file.now) }
+        (IsSymbolsError view file.now) }
     ensures few { IfOk result AreFew }
 {
     match view {
@@ -43,8 +43,8 @@ pub fn read_symbols<'a>(view: View, file: &ElfFile<'a>) -> Result<Symbols<'a>, R
 }
 
 // The symbols of the symbol table, if there is one.
-fn read_symtab<'a>(file: &ElfFile<'a>) -> Result<Symbols<'a>, Refusal>
-    ensures symbols { MatchResult result (AreSymtab file.now) (IsSymtabRefusal file.now) }
+fn read_symtab<'a>(file: &ElfFile<'a>) -> Result<Symbols<'a>, AnyError>
+    ensures symbols { MatchResult result (AreSymtab file.now) (IsSymtabReason file.now) }
     ensures few { IfOk result AreFew }
 {
     match first_symtab(file) {
@@ -65,19 +65,19 @@ fn first_symtab(file: &ElfFile<'_>) -> Option<usize>
 }
 
 // The symbols of the section at an index, if there are fewer than 2 to the 32.
-fn few_at<'a>(file: &ElfFile<'a>, index: usize) -> Result<Symbols<'a>, Refusal>
+fn few_at<'a>(file: &ElfFile<'a>, index: usize) -> Result<Symbols<'a>, AnyError>
     ensures symbols { MatchResult result (AreSymtabAt file.now index)
-        (IsRefusedAt file.now index) }
+        (IsFailedAt file.now index) }
     ensures few { IfOk result AreFew }
 {
     let symbols = match class_symtab(file, index) {
         Ok(symbols) => symbols,
-        Err(error) => return Err(Refusal::Elf(error)),
+        Err(error) => return Err(AnyError::Elf(error)),
     };
     if count_in(&symbols) < 0x1_0000_0000 {
         Ok(symbols)
     } else {
-        Err(Refusal::Many)
+        Err(AnyError::Many)
     }
 }
 

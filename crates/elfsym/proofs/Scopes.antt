@@ -10,15 +10,15 @@ use Rattle.elf_linking.specs.VersionTables.{result_map}
 use Rattle.elf_linking.specs.declared.error.LinkError.{LinkError}
 use Rattle.elf_linking.specs.declared.object.DynamicObject.{DynamicObject}
 use Rattle.elfsym.specs.Scope.{AreScopeLines, AreScopeObjects, IsScopeEndOf, IsScopeFault, IsScopeObject, IsUnreadObject, by_check, by_input, by_memory, by_write, stopped, written}
-use Rattle.linking_programs.specs.Files.{refused_fault_of}
+use Rattle.linking_programs.specs.Files.{failed_fault_of}
 use Rattle.linking_programs.specs.declared.Input.{Input}
-use Rattle.linking_programs.specs.declared.Refused as reasons
+use Rattle.linking_programs.specs.declared.Failed as reasons
 use Rattle.program_ends.specs.Appended.{AppendsSome}
 use Rattle.program_ends.specs.declared.Fault.{Fault}
 use Rattle.program_ends.specs.declared.Fault.TheVariants as faults
 use Rattle.program_ends.specs.Stops.{IsStop}
 use Rattle.program_ends.specs.declared.Stop.{Stop}
-use Rattle.program_ends.specs.declared.Stop.TheVariants.{Memory, Refused, Write}
+use Rattle.program_ends.specs.declared.Stop.TheVariants.{Memory, Failed, Write}
 use Rattle.xmas_elf.specs.Symbol.{SymbolFields}
 use Rattle.xmas_elf.specs.Types.{ElfFile}
 
@@ -36,7 +36,7 @@ checked_by fields class size bytes file object (Err error) input header is same 
     by_check object (record { file = file; bytes_are = input; header_is = header; object_is = is }) checked
 
 pub unread_at : {E : Type 0} (r : _) (fields : E → SymbolFields) (class size : ℕ) (inputs : List Input) (index : ℕ) (input : Input) (objects : List ObjectParts) (error : LinkError) → index < length inputs → input ≡ get_or inputs index input
-    → AreScopeObjects r fields class size (take index inputs) objects → IsUnreadObject r fields class size input.bytes.items error → IsScopeFault r fields class size inputs (faults.Refused input.path error)
+    → AreScopeObjects r fields class size (take index inputs) objects → IsUnreadObject r fields class size input.bytes.items error → IsScopeFault r fields class size inputs (faults.Failed input.path error)
 unread_at r fields class size inputs index input objects error below is earlier why = by_input input.path error (record {
   index = index;
   input = input;
@@ -48,9 +48,9 @@ unread_at r fields class size inputs index input objects error below is earlier 
 })
 
 -- the fault of lines that stop, where all inputs give their objects
-pub lines_fault : {E : Type 0} (r : _) (fields : E → SymbolFields) (class size : ℕ) (inputs : List Input) (objects : List ObjectParts) (Written : Type 0) (stop : Stop (reasons.Refused LinkError)) → AreScopeObjects r fields class size inputs objects
-    → IsStop (λ refused. ⊥) Written ⊤ stop → IsScopeFault r fields class size inputs (refused_fault_of stop)
-lines_fault r fields class size inputs objects Written (Refused refused) are never = absurd never
+pub lines_fault : {E : Type 0} (r : _) (fields : E → SymbolFields) (class size : ℕ) (inputs : List Input) (objects : List ObjectParts) (Written : Type 0) (stop : Stop (reasons.Failed LinkError)) → AreScopeObjects r fields class size inputs objects
+    → IsStop (λ failed. ⊥) Written ⊤ stop → IsScopeFault r fields class size inputs (failed_fault_of stop)
+lines_fault r fields class size inputs objects Written (Failed failed) are never = absurd never
 lines_fault r fields class size inputs objects Written Write are begun = by_write objects are
 lines_fault r fields class size inputs objects Written Memory are short = by_memory
 

@@ -7,12 +7,12 @@ use Rattle.std.proofs.lemmas.Option.{slice_get_read}
 use Rattle.elf_base.specs.FileHeader.{header_of}
 use Rattle.elf_linking.specs.Find.{DynamicSymbols}
 use Rattle.elf_linking.specs.declared.error.LinkError.{LinkError}
-use Rattle.elfsym.specs.Libraries.{HasFirstLibrary, IsLibraryLine, IsNameRefused}
-use Rattle.elfsym.specs.Lines.{HasFirstLine, IsLine, IsSearchError, IsSearchRefused}
+use Rattle.elfsym.specs.Libraries.{HasFirstLibrary, IsLibraryLine, IsNameError}
+use Rattle.elfsym.specs.Lines.{HasFirstLine, IsLine, IsSearchError, IsSearchFailed}
 use Rattle.elfsym.proofs.LibraryLines.{AreLinesSoFar}
 use Rattle.program_ends.specs.Stops.{IsStop}
 use Rattle.program_ends.specs.declared.Stop.{Stop}
-use Rattle.program_ends.specs.declared.Stop.TheVariants.{Memory, Refused, Write}
+use Rattle.program_ends.specs.declared.Stop.TheVariants.{Memory, Failed, Write}
 use Rattle.xmas_elf.specs.Types.{ElfError, ElfFile, Header}
 
 -- what holds of a file holds of it by its input
@@ -33,8 +33,8 @@ module _ {E S : Type 0} (text_of : S → List ℕ) (file : DynamicSymbols E) whe
 
   pub stop_at : (references : List S) (index : ℕ) (item : S) (lines : List (List ℕ)) (stop : Stop LinkError) → index < length references → item ≡ get_or references index item → AllZip (λ reference line. IsLine file (text_of reference) line) (take index references) lines
       → IsStop (IsSearchError file (text_of item)) ((line : List ℕ) × IsLine file (text_of item) line) ⊥ stop
-      → IsStop (IsSearchRefused text_of file references) (HasFirstLine text_of file references) ⊥ stop
-  stop_at references index item lines (Refused error) below is each why = record {
+      → IsStop (IsSearchFailed text_of file references) (HasFirstLine text_of file references) ⊥ stop
+  stop_at references index item lines (Failed error) below is each why = record {
     index = index;
     reference = item;
     reference_is = slice_get_read references (length references) index item refl below is;
@@ -59,8 +59,8 @@ first_name : (earlier others : List (Result (List ℕ) LinkError)) (item : Resul
 first_name [] others item first own = own
 first_name (one ∷ earlier) others item first own = first
 
-pub stop_at_name : (all rest others : List (Result (List ℕ) LinkError)) (item : Result (List ℕ) LinkError) (text : List ℕ) (stop : Stop LinkError) → rest ≡ item ∷ others → AreLinesSoFar all rest text → IsStop (λ error. item ≡ Err error) (IsOk item) ⊥ stop → IsStop (IsNameRefused all) (HasFirstLibrary all) ⊥ stop
-stop_at_name all rest others item text (Refused error) is before why = record {
+pub stop_at_name : (all rest others : List (Result (List ℕ) LinkError)) (item : Result (List ℕ) LinkError) (text : List ℕ) (stop : Stop LinkError) → rest ≡ item ∷ others → AreLinesSoFar all rest text → IsStop (λ error. item ≡ Err error) (IsOk item) ⊥ stop → IsStop (IsNameError all) (HasFirstLibrary all) ⊥ stop
+stop_at_name all rest others item text (Failed error) is before why = record {
   earlier = before.earlier;
   later = others;
   split = ap (λ name. before.earlier ++ (name ∷ others)) (sym why) ∙ ap (λ left. before.earlier ++ left) (sym is) ∙ before.split;

@@ -2,8 +2,8 @@
 use Rattle.std.specs.Prelude.{ℕ, List, Option, Result}
 use Rattle.std.specs.Borrow.{Bor}
 use Rattle.elf_linking.specs.declared.error.LinkError.{LinkError}
-use Rattle.elfsym.specs.Libraries.{AreInputLibraries, AreInputLibrariesBegun, AreInputLibrariesRefused}
-use Rattle.elfsym.specs.Lines.{AreInputLines, AreInputLinesBegun, AreInputLinesRefused}
+use Rattle.elfsym.specs.Libraries.{AreInputLibraries, AreInputLibrariesBegun, AreInputLibrariesFailed}
+use Rattle.elfsym.specs.Lines.{AreInputLines, AreInputLinesBegun, AreInputLinesFailed}
 use Rattle.elfsym.specs.declared.Question as questions
 use Rattle.elfsym.specs.declared.Question.TheVariants.{Needed, Symbols}
 use Rattle.program_ends.specs.Appended.{AppendsSome}
@@ -17,9 +17,9 @@ abbrev pub IsAnswer : {S : Type 0} → (S → List ℕ) → questions.Question S
 IsAnswer text_of Needed input text = AreInputLibraries input text
 IsAnswer text_of (Symbols references) input text = AreInputLines text_of input references.now text
 
-abbrev pub IsRefused : {S : Type 0} → (S → List ℕ) → questions.Question S → Bor (List ℕ) → LinkError → Type 0
-IsRefused text_of Needed input error = AreInputLibrariesRefused input error
-IsRefused text_of (Symbols references) input error = AreInputLinesRefused text_of input references.now error
+abbrev pub IsFailed : {S : Type 0} → (S → List ℕ) → questions.Question S → Bor (List ℕ) → LinkError → Type 0
+IsFailed text_of Needed input error = AreInputLibrariesFailed input error
+IsFailed text_of (Symbols references) input error = AreInputLinesFailed text_of input references.now error
 
 abbrev pub IsBegun : {S : Type 0} → (S → List ℕ) → questions.Question S → Bor (List ℕ) → Type 0
 IsBegun text_of Needed input = HasBegun (AreInputLibrariesBegun input) (AppendsSome (AreInputLibraries input))
@@ -29,4 +29,4 @@ IsBegun text_of (Symbols references) input = HasBegun (AreInputLinesBegun text_o
 -- how a question about the file at a path ends: there is a text for it, or the fault
 abbrev pub IsEnd : {S R : Type 0} → (S → List ℕ) → Bor (List ℕ) → questions.Question S → (R → Option (List ℕ)) → Option R → Result (Unit {0}) (Fault LinkError) → Type 0
 IsEnd text_of path question remaining file =
-    ends.IsEnd path remaining file (IsAnswer text_of question) (IsRefused text_of question) (IsBegun text_of question)
+    ends.IsEnd path remaining file (IsAnswer text_of question) (IsFailed text_of question) (IsBegun text_of question)

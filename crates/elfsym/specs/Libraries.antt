@@ -36,7 +36,7 @@ AreInputLibraries input text = IsOkAnd (header_of input.now)
 -- Why no such lines are written.
 
 -- the error of the first name that can't be read: those before it have their lines
-pub record IsNameRefused (libraries : List (Result (List ℕ) LinkError)) (error : LinkError) : Type 0 where
+pub record IsNameError (libraries : List (Result (List ℕ) LinkError)) (error : LinkError) : Type 0 where
   pub earlier : List (Result (List ℕ) LinkError)
   pub later : List (Result (List ℕ) LinkError)
   pub split : earlier ++ (Err error ∷ later) ≡ libraries
@@ -44,17 +44,17 @@ pub record IsNameRefused (libraries : List (Result (List ℕ) LinkError)) (error
   pub lines : AreLibraryLines earlier text
 
 -- why a file gives no lines: its dynamic entries can't be read, or a name can't
-pub data AreFileLibrariesRefused (file : ElfFile) (error : LinkError) : Type 0 where
-  by_entries : dynamic_entries_of file ≡ Err error → AreFileLibrariesRefused file error
+pub data AreFileLibrariesFailed (file : ElfFile) (error : LinkError) : Type 0 where
+  by_entries : dynamic_entries_of file ≡ Err error → AreFileLibrariesFailed file error
   by_name : (entries : List (Dynamic ℕ)) → dynamic_entries_of file ≡ Ok entries
-      → IsNameRefused (needed_bytes_in (strings_by file entries) entries) error → AreFileLibrariesRefused file error
+      → IsNameError (needed_bytes_in (strings_by file entries) entries) error → AreFileLibrariesFailed file error
 
 -- why an input gives no lines: an error of its header, or of the file
-pub data AreInputLibrariesRefused (input : Bor (List ℕ)) : LinkError → Type 0 where
-  no_header : (error : ElfError) → header_of input.now ≡ Err error → AreInputLibrariesRefused input (Elf error)
+pub data AreInputLibrariesFailed (input : Bor (List ℕ)) : LinkError → Type 0 where
+  no_header : (error : ElfError) → header_of input.now ≡ Err error → AreInputLibrariesFailed input (Elf error)
   no_lines : (header : Header) (error : LinkError) → header_of input.now ≡ Ok header
-      → AreFileLibrariesRefused (record { input = input; header = header }) error
-      → AreInputLibrariesRefused input error
+      → AreFileLibrariesFailed (record { input = input; header = header }) error
+      → AreInputLibrariesFailed input error
 
 -- How far the program has come when its first line is written.
 

@@ -8,7 +8,7 @@ use Rattle.elf_base.specs.FileHeader.{file_class, header_of}
 use Rattle.elf_base.specs.declared.bytes.Order.{Order}
 use Rattle.elf_base.specs.declared.error.ElfError.{ElfError}
 use Rattle.elf_linking.specs.AnyTable.{IsCheckBy, IsGoodBy}
-use Rattle.elf_linking.specs.DynamicObject.{AreVersionedSymbols, IsObjectRefused}
+use Rattle.elf_linking.specs.DynamicObject.{AreVersionedSymbols, IsObjectError}
 use Rattle.elf_linking.specs.Find.{AreReadable, DynamicSymbols, FindsRight, IsFound, exact_version}
 use Rattle.elf_linking.specs.Serves.{serves_others}
 use Rattle.elf_linking.specs.declared.error.LinkError.{LinkError}
@@ -92,7 +92,7 @@ AreInputLines text_of input references text = IsOkAnd (header_of input.now)
 -- Why no such lines are written.
 
 -- the error of the first search that has one: those for the references before it have none
-pub record IsSearchRefused {E S : Type 0} (text_of : S → List ℕ) (file : DynamicSymbols E) (references : List S) (error : LinkError) : Type 0 where
+pub record IsSearchFailed {E S : Type 0} (text_of : S → List ℕ) (file : DynamicSymbols E) (references : List S) (error : LinkError) : Type 0 where
   pub index : ℕ
   pub reference : S
   pub reference_is : slice_get references index ≡ Some reference
@@ -101,36 +101,36 @@ pub record IsSearchRefused {E S : Type 0} (text_of : S → List ℕ) (file : Dyn
   pub error_is : IsSearchError file (text_of reference) error
 
 -- why the symbols of a file give no lines: the error of the check of its hash table, or that of a search
-pub data AreSymbolsRefused {E S : Type 0} (text_of : S → List ℕ) (file : DynamicSymbols E) (references : List S) (error : LinkError) : Type 0 where
-  by_table : IsCheckBy file.table file.symbols (Err error) → AreSymbolsRefused text_of file references error
-  by_search : IsGoodBy file.table file.symbols → IsSearchRefused text_of file references error
-      → AreSymbolsRefused text_of file references error
+pub data AreSymbolsFailed {E S : Type 0} (text_of : S → List ℕ) (file : DynamicSymbols E) (references : List S) (error : LinkError) : Type 0 where
+  by_table : IsCheckBy file.table file.symbols (Err error) → AreSymbolsFailed text_of file references error
+  by_search : IsGoodBy file.table file.symbols → IsSearchFailed text_of file references error
+      → AreSymbolsFailed text_of file references error
 
 -- why a file of this class, with symbols of this size, gives no lines: its dynamic symbols can't be read, or
 -- have an error
-pub data AreLinesRefused {E S : Type 0} (class size : ℕ) (entry : Order → List ℕ → E) (fields : E → SymbolFields) (text_of : S → List ℕ) (file : ElfFile) (references : List S) (error : LinkError) : Type 0 where
-  by_object : IsObjectRefused class size file error
-      → AreLinesRefused class size entry fields text_of file references error
+pub data AreLinesFailed {E S : Type 0} (class size : ℕ) (entry : Order → List ℕ → E) (fields : E → SymbolFields) (text_of : S → List ℕ) (file : ElfFile) (references : List S) (error : LinkError) : Type 0 where
+  by_object : IsObjectError class size file error
+      → AreLinesFailed class size entry fields text_of file references error
   by_symbols : (all : DynamicSymbols E) → AreVersionedSymbols class size entry fields file all
-      → AreSymbolsRefused text_of all references error
-      → AreLinesRefused class size entry fields text_of file references error
+      → AreSymbolsFailed text_of all references error
+      → AreLinesFailed class size entry fields text_of file references error
 
 -- why a file gives no lines, by its class; a file that is of no known class has no dynamic entries
-pub data AreFileLinesRefused {S : Type 0} (text_of : S → List ℕ) (file : ElfFile) (references : List S) (error : LinkError) : Type 0 where
+pub data AreFileLinesFailed {S : Type 0} (text_of : S → List ℕ) (file : ElfFile) (references : List S) (error : LinkError) : Type 0 where
   narrow_file : file_class file.header ≡ 1
-      → AreLinesRefused 1 16 dyn_entry_32 dyn_entry_32_fields text_of file references error
-      → AreFileLinesRefused text_of file references error
+      → AreLinesFailed 1 16 dyn_entry_32 dyn_entry_32_fields text_of file references error
+      → AreFileLinesFailed text_of file references error
   wide_file : file_class file.header ≢ 1
-      → AreLinesRefused 2 24 dyn_entry_64 dyn_entry_64_fields text_of file references error
-      → AreFileLinesRefused text_of file references error
+      → AreLinesFailed 2 24 dyn_entry_64 dyn_entry_64_fields text_of file references error
+      → AreFileLinesFailed text_of file references error
 
 -- why an input gives no lines: an error of its header, or of the file
-pub data AreInputLinesRefused {S : Type 0} (text_of : S → List ℕ) (input : Bor (List ℕ)) (references : List S) : LinkError → Type 0 where
+pub data AreInputLinesFailed {S : Type 0} (text_of : S → List ℕ) (input : Bor (List ℕ)) (references : List S) : LinkError → Type 0 where
   no_header : (error : ElfError) → header_of input.now ≡ Err error
-      → AreInputLinesRefused text_of input references (Elf error)
+      → AreInputLinesFailed text_of input references (Elf error)
   no_lines : (header : Header) (error : LinkError) → header_of input.now ≡ Ok header
-      → AreFileLinesRefused text_of (record { input = input; header = header }) references error
-      → AreInputLinesRefused text_of input references error
+      → AreFileLinesFailed text_of (record { input = input; header = header }) references error
+      → AreInputLinesFailed text_of input references error
 
 -- How far the program has come when its first line is written.
 

@@ -15,7 +15,7 @@ use Rattle.elf_linking.specs.declared.object.DynamicObject.{DynamicObject}
 use Rattle.elf_linking.specs.declared.scope.Bound.{Bound}
 use Rattle.elfsym.specs.Lines.{Asks}
 use Rattle.elfsym.specs.declared.scope.Target.{Target}
-use Rattle.linking_programs.specs.Files.{IsObjectOfBytes, IsRefusedAsObject, is_first_narrow}
+use Rattle.linking_programs.specs.Files.{IsObjectOfBytes, IsObjectErrorOf, is_first_narrow}
 use Rattle.linking_programs.specs.declared.Input.{Input}
 use Rattle.program_ends.specs.declared.Fault.{Fault}
 use Rattle.program_ends.specs.declared.Fault.TheVariants as faults
@@ -68,7 +68,7 @@ pub record IsScopeObject {E : Type 0} (r : _) (fields : E → SymbolFields) (cla
 
 -- why bytes give no such object: they are no such file, or a check of its object fails
 pub data IsUnreadObject {E : Type 0} (r : _) (fields : E → SymbolFields) (class size : ℕ) (bytes : List ℕ) (error : LinkError) : Type 0 where
-  by_file : IsRefusedAsObject class size bytes error → IsUnreadObject r fields class size bytes error
+  by_file : IsObjectErrorOf class size bytes error → IsUnreadObject r fields class size bytes error
   by_check : (object : DynamicObject E r) → IsObjectOfBytes class size bytes object
       → AreChecked (object_dynamic_symbols fields object) (Err error) → IsUnreadObject r fields class size bytes error
 
@@ -92,7 +92,7 @@ pub record IsUnreadInput {E : Type 0} (r : _) (fields : E → SymbolFields) (cla
 -- short
 pub data IsScopeFault {E : Type 0} (r : _) (fields : E → SymbolFields) (class size : ℕ) (inputs : List Input) : Fault LinkError → Type 0 where
   by_input : (path : Bor (List ℕ)) (error : LinkError) → IsUnreadInput r fields class size inputs path error
-      → IsScopeFault r fields class size inputs (faults.Refused path error)
+      → IsScopeFault r fields class size inputs (faults.Failed path error)
   by_write : (objects : List ObjectParts) → AreScopeObjects r fields class size inputs objects
       → IsScopeFault r fields class size inputs faults.Write
   by_memory : IsScopeFault r fields class size inputs faults.Memory

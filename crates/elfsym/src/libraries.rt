@@ -4,10 +4,10 @@ ghost use Rattle.std.specs.Prelude.{◌≡◌, Err, IsOk, MatchResult};
 ghost use Rattle.elf_linking.specs.DynamicView.{needed_bytes_of};
 ghost use Rattle.elf_linking.specs.Loaded.{lent};
 ghost use Rattle.elfsym.specs.Libraries.{AreFileLibraries, AreFileLibrariesBegun};
-ghost use Rattle.elfsym.specs.Libraries.{AreFileLibrariesRefused, AreInputLibraries};
-ghost use Rattle.elfsym.specs.Libraries.{AreInputLibrariesBegun, AreInputLibrariesRefused};
+ghost use Rattle.elfsym.specs.Libraries.{AreFileLibrariesFailed, AreInputLibraries};
+ghost use Rattle.elfsym.specs.Libraries.{AreInputLibrariesBegun, AreInputLibrariesFailed};
 ghost use Rattle.elfsym.specs.Libraries.{AreLibraryLines, HasFirstLibrary, IsLibraryLine};
-ghost use Rattle.elfsym.specs.Libraries.{IsNameRefused};
+ghost use Rattle.elfsym.specs.Libraries.{IsNameError};
 ghost use Rattle.program_ends.proofs.Flushed.{appended_flushed};
 ghost use Rattle.program_ends.specs.Appended.{AppendsSome};
 ghost use Rattle.program_ends.specs.Stops.{IsStop};
@@ -27,16 +27,16 @@ impl Output for Libraries<'_> {
 
     ghost flushed = { λ libraries. appended_flushed (AreInputLibraries libraries.0) };
 
-    type Refusal = LinkError;
+    type AnyError = LinkError;
 
-    ghost Refuses = { λ libraries. AreInputLibrariesRefused libraries.0 };
+    ghost Fails = { λ libraries. AreInputLibrariesFailed libraries.0 };
 
     ghost Begins = { λ libraries. AreInputLibrariesBegun libraries.0 };
 
     fn write_to<W: Write>(&self, out: &mut W) -> Result<(), Stop<LinkError>> {
         match ElfFile::new(self.0) {
             Ok(file) => write_libraries(&file, out),
-            Err(error) => Err(Stop::Refused(LinkError::Elf(error))),
+            Err(error) => Err(Stop::Failed(LinkError::Elf(error))),
         }
     }
 }
@@ -45,11 +45,11 @@ impl Output for Libraries<'_> {
 fn write_libraries<W: Write>(file: &ElfFile<'_>, out: &mut W) -> Result<(), Stop<LinkError>>
     ensures { MatchResult result
         (λ _. AppendsSome (AreFileLibraries file.now) (W.contents out.old) (W.contents out.new))
-        (IsStop (AreFileLibrariesRefused file.now) (AreFileLibrariesBegun file.now) ⊥) }
+        (IsStop (AreFileLibrariesFailed file.now) (AreFileLibrariesBegun file.now) ⊥) }
 {
     match DynamicView::read(file) {
         Ok(view) => write_needed(&view, out),
-        Err(error) => Err(Stop::Refused(error)),
+        Err(error) => Err(Stop::Failed(error)),
     }
 }
 
@@ -57,7 +57,7 @@ fn write_libraries<W: Write>(file: &ElfFile<'_>, out: &mut W) -> Result<(), Stop
 fn write_needed<W: Write>(view: &DynamicView<'_>, out: &mut W) -> Result<(), Stop<LinkError>>
     ensures { let names = needed_bytes_of view.now in MatchResult result
         (λ _. AppendsSome (AreLibraryLines names) (W.contents out.old) (W.contents out.new))
-        (IsStop (IsNameRefused names) (HasFirstLibrary names) ⊥) }
+        (IsStop (IsNameError names) (HasFirstLibrary names) ⊥) }
 {
     for name in view.needed_bytes() {
         match write_library(name, out) {
@@ -84,6 +84,6 @@ fn write_library<W: Write>(
             out.write_all(b"\n")?;
             Ok(())
         }
-        Err(error) => Err(Stop::Refused(error)),
+        Err(error) => Err(Stop::Failed(error)),
     }
 }

@@ -4,10 +4,10 @@ ghost use Rattle.std.specs.Prelude.{◌≡◌, List, MatchResult, Some, ℕ};
 ghost use Rattle.elf_linking.specs.AnyTable.{IsGoodBy};
 ghost use Rattle.elf_linking.specs.DynamicObject.{object_dynamic_symbols, object_symbols};
 ghost use Rattle.elf_linking.specs.DynamicObject.{object_table};
-ghost use Rattle.elfsym.specs.Lines.{AreFileLines, AreFileLinesBegun, AreFileLinesRefused};
-ghost use Rattle.elfsym.specs.Lines.{AreInputLines, AreInputLinesBegun, AreInputLinesRefused};
-ghost use Rattle.elfsym.specs.Lines.{AreLines, AreLinesBegun, AreNumbers, AreSymbolsRefused, Asks};
-ghost use Rattle.elfsym.specs.Lines.{HasFirstLine, IsLine, IsSearchError, IsSearchRefused, line_text};
+ghost use Rattle.elfsym.specs.Lines.{AreFileLines, AreFileLinesBegun, AreFileLinesFailed};
+ghost use Rattle.elfsym.specs.Lines.{AreInputLines, AreInputLinesBegun, AreInputLinesFailed};
+ghost use Rattle.elfsym.specs.Lines.{AreLines, AreLinesBegun, AreNumbers, AreSymbolsFailed, Asks};
+ghost use Rattle.elfsym.specs.Lines.{HasFirstLine, IsLine, IsSearchError, IsSearchFailed, line_text};
 ghost use Rattle.elfsym.specs.Lines.{numbers_if_serving};
 ghost use Rattle.program_ends.proofs.Flushed.{appended_flushed};
 ghost use Rattle.program_ends.specs.Appended.{AppendsSome};
@@ -38,9 +38,9 @@ impl<S: AsStr> Output for Lines<'_, S> {
     ghost flushed = { λ lines. appended_flushed (AreInputLines S.text lines.input
         lines.references.now) };
 
-    type Refusal = LinkError;
+    type AnyError = LinkError;
 
-    ghost Refuses = { λ lines error. AreInputLinesRefused S.text lines.input lines.references.now
+    ghost Fails = { λ lines error. AreInputLinesFailed S.text lines.input lines.references.now
         error };
 
     ghost Begins = { λ lines. AreInputLinesBegun S.text lines.input lines.references.now };
@@ -48,7 +48,7 @@ impl<S: AsStr> Output for Lines<'_, S> {
     fn write_to<W: Write>(&self, out: &mut W) -> Result<(), Stop<LinkError>> {
         match ElfFile::new(self.input) {
             Ok(file) => write_lines(&file, self.references, out),
-            Err(error) => Err(Stop::Refused(LinkError::Elf(error))),
+            Err(error) => Err(Stop::Failed(LinkError::Elf(error))),
         }
     }
 }
@@ -62,18 +62,18 @@ fn write_lines<S: AsStr, W: Write>(
     ensures { MatchResult result
         (λ _. AppendsSome (AreFileLines S.text file.now references.now)
         (W.contents out.old) (W.contents out.new))
-        (IsStop (AreFileLinesRefused S.text file.now references.now)
+        (IsStop (AreFileLinesFailed S.text file.now references.now)
         (AreFileLinesBegun S.text file.now references.now) ⊥) }
 {
     match file.header.pt1.class() {
         Class::ThirtyTwo => match DynamicObject::<DynEntry32>::read(file) {
             Ok(object) => write_checked(&object, references, out),
-            Err(error) => Err(Stop::Refused(error)),
+            Err(error) => Err(Stop::Failed(error)),
         },
         // An object has one of these two classes.
         _ => match DynamicObject::<DynEntry64>::read(file) {
             Ok(object) => write_checked(&object, references, out),
-            Err(error) => Err(Stop::Refused(error)),
+            Err(error) => Err(Stop::Failed(error)),
         },
     }
 }
@@ -87,12 +87,12 @@ fn write_checked<E: LinkedSymbol, S: AsStr, W: Write>(
     ensures { let file = object_dynamic_symbols E.fields object.now in MatchResult result
         (λ _. AppendsSome (AreLines S.text file references.now)
         (W.contents out.old) (W.contents out.new))
-        (IsStop (AreSymbolsRefused S.text file references.now)
+        (IsStop (AreSymbolsFailed S.text file references.now)
         (AreLinesBegun S.text file references.now) ⊥) }
 {
     match object.check() {
         Ok(()) => write_each(object, references, out),
-        Err(error) => Err(Stop::Refused(error)),
+        Err(error) => Err(Stop::Failed(error)),
     }
 }
 
@@ -107,7 +107,7 @@ fn write_each<E: LinkedSymbol, S: AsStr, W: Write>(
     ensures { let file = object_dynamic_symbols E.fields object.now in MatchResult result
         (λ _. AppendsSome (AreLines S.text file references.now)
         (W.contents out.old) (W.contents out.new))
-        (IsStop (IsSearchRefused S.text file references.now)
+        (IsStop (IsSearchFailed S.text file references.now)
         (HasFirstLine S.text file references.now) ⊥) }
 {
     for reference in references {
@@ -134,7 +134,7 @@ fn write_line<E: LinkedSymbol, W: Write>(
 {
     match numbers_of(object, reference) {
         Ok(numbers) => Ok(write!(out, "{}", Line { reference, numbers })?),
-        Err(error) => Err(Stop::Refused(error)),
+        Err(error) => Err(Stop::Failed(error)),
     }
 }
 

@@ -15,8 +15,8 @@ ghost use Rattle.elf_base.specs.FileHeader.{header_of};
 ghost use Rattle.elf_linking.specs.declared.error.LinkError.{LinkError};
 ghost use Rattle.elfsym.specs.Ends.{IsEnd};
 ghost use Rattle.elfsym.specs.Libraries.{AreInputLibraries, AreInputLibrariesBegun};
-ghost use Rattle.elfsym.specs.Libraries.{AreInputLibrariesRefused};
-ghost use Rattle.elfsym.specs.Lines.{AreInputLines, AreInputLinesBegun, AreInputLinesRefused};
+ghost use Rattle.elfsym.specs.Libraries.{AreInputLibrariesFailed};
+ghost use Rattle.elfsym.specs.Lines.{AreInputLines, AreInputLinesBegun, AreInputLinesFailed};
 ghost use Rattle.program_ends.specs.Appended.{AppendsSome};
 ghost use Rattle.program_ends.specs.Ends.{IsFault, OfFile, quiet_status_of};
 ghost use Rattle.program_ends.specs.Stops.{HasBegun};
@@ -130,7 +130,7 @@ fn print_libraries<'a, R: Read + Drop, W: Write + Drop>(
     ensures written { IfOk result (λ back. OfFile R.remaining file (λ input.
         AppendsSome (AreInputLibraries input) (W.contents out) (W.contents back))) }
     ensures fault { IfErr result (IsFault path.entry
-        (λ error. OfFile R.remaining file (λ input. AreInputLibrariesRefused input error))
+        (λ error. OfFile R.remaining file (λ input. AreInputLibrariesFailed input error))
         (OfFile R.remaining file (λ input. HasBegun (AreInputLibrariesBegun input)
         (AppendsSome (AreInputLibraries input))))) }
 {
@@ -157,7 +157,7 @@ fn print_lines<'a, S: AsStr, R: Read + Drop, W: Write + Drop>(
         (W.contents out) (W.contents back))) }
     ensures fault { IfErr result (IsFault path.entry
         (λ error. OfFile R.remaining file (λ input.
-        AreInputLinesRefused S.text input references.now error))
+        AreInputLinesFailed S.text input references.now error))
         (OfFile R.remaining file (λ input.
         HasBegun (AreInputLinesBegun S.text input references.now)
         (AppendsSome (AreInputLines S.text input references.now))))) }

@@ -24,7 +24,7 @@ use elf_linking::find::Use;
 use elf_linking::scope::Bound;
 use elf_linking::view::LinkedSymbol;
 use elf_linking::{CheckedObject, DynamicObject, LinkError};
-use linking_programs::{Input, Refused, is_first_narrow, refused_fault_of};
+use linking_programs::{Failed, Input, failed_fault_of, is_first_narrow};
 use program_ends::{CLOSED, Fault, Output, Stop, Watched, quiet_status_of, write_buffered};
 use program_libraries::{
     Finder, Settings, StoredFile, Tree, listed_inputs, own_settings, say_error, say_missing,
@@ -126,7 +126,7 @@ fn print_scope<'i, E: LinkedSymbol, S: AsStr, W: Write + Drop>(
     };
     match write_buffered(alloc, &lines, out) {
         Ok(out) => Ok(out),
-        Err(stop) => Err(refused_fault_of(stop)),
+        Err(stop) => Err(failed_fault_of(stop)),
     }
 }
 
@@ -148,7 +148,7 @@ fn checked_objects<'a, 'i, E: LinkedSymbol>(
                 }
             }
             Err(error) => {
-                return Err(Fault::Refused {
+                return Err(Fault::Failed {
                     path: input.path,
                     error,
                 });
@@ -189,13 +189,13 @@ impl<'i, E: LinkedSymbol, S: AsStr> Output for ScopeLines<'_, 'i, '_, E, S> {
     ghost flushed = { λ lines. appended_flushed (AreScopeLines S.text lines.inputs.now
         lines.objects.now lines.references.now) };
 
-    type Refusal = Refused<'i, LinkError>;
+    type AnyError = Failed<'i, LinkError>;
 
-    ghost Refuses = { λ lines refused. ⊥ };
+    ghost Fails = { λ lines failed. ⊥ };
 
     ghost Begins = { λ lines. ⊤ };
 
-    fn write_to<W: Write>(&self, out: &mut W) -> Result<(), Stop<Refused<'i, LinkError>>> {
+    fn write_to<W: Write>(&self, out: &mut W) -> Result<(), Stop<Failed<'i, LinkError>>> {
         for reference in self.references {
             match write_line(self.inputs, self.objects, reference.as_str(), out) {
                 Ok(()) => {}

@@ -34,9 +34,9 @@ impl Output for Lines<'_> {
 
     ghost flushed = { λ _ _ _ _ _ _. tt };
 
-    type Refusal = ();
+    type AnyError = ();
 
-    ghost Refuses = { λ _ _. ⊥ };
+    ghost Fails = { λ _ _. ⊥ };
 
     ghost Begins = { λ _. ⊤ };
 

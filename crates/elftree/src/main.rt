@@ -94,7 +94,7 @@ fn say_stop<E: Write>(stop: Stop<()>, closed: bool, err: &mut E) -> u8
     match stop {
         Stop::Write if closed => CLOSED,
         Stop::Memory => say(NAME, &"not enough memory", err),
-        Stop::Write | Stop::Refused(_) => say(NAME, &"cannot write", err),
+        Stop::Write | Stop::Failed(_) => say(NAME, &"cannot write", err),
     }
 }
 

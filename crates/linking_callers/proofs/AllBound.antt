@@ -12,7 +12,7 @@ module _ {E : Type 0} {r : _} (fields : E → SymbolFields) (objects : List (Dyn
   -- what is said of an item is said of its reference
   gets : (found : Bool) (item : Result (Binding E) (ℕ × LinkError)) → IsItemOf fields objects item → is_bound item ≡ found → GetsResult found fields objects (reference_of_item item)
   gets found (Ok binding) is same = (binding.bound, is.1, same)
-  gets found (Err refused) is same = sym same
+  gets found (Err failed) is same = sym same
 
   module _ (others : List (DynamicObject E r)) (same : others ≡ objects) (item : Result (Binding E) (ℕ × LinkError)) (left later all : List (ℕ × Result Reference LinkError)) (first : left ≡ reference_of_item item ∷ later) (is : IsItemOf fields others item) where
     pub bound_on : is_bound item ≡ true → (AreBound fields objects left → AreBound fields objects all) → AreBound fields objects later → AreBound fields objects all

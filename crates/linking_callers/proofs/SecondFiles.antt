@@ -4,7 +4,7 @@ use Rattle.std.specs.Borrow.{Bor}
 use Rattle.std.specs.List.{AllWithin, HoldsAt}
 use Rattle.elf_linking.specs.AnyTable.{IsGoodBy}
 use Rattle.std.specs.Prelude.{ok_or}
-use Rattle.elf_base.specs.Refusal.{and_then}
+use Rattle.elf_base.specs.FirstError.{and_then}
 use Rattle.elf_base.specs.Table.{table_items}
 use Rattle.elf_linking.specs.DynamicObject.{object_dynamic_symbols, object_file, object_name, object_records, object_strings, object_view}
 use Rattle.elf_linking.specs.DynamicView.{text_in_strings, view_entries}

@@ -16,7 +16,7 @@ is_symbol _ = false
 -- the reference of an item gets a symbol
 abbrev pub is_bound : {E : Type 0} → Result (Binding E) (ℕ × LinkError) → Bool
 is_bound (Ok binding) = is_symbol binding.bound
-is_bound (Err refused) = false
+is_bound (Err failed) = false
 
 -- a reference of the object at an index gets a result that is a symbol, or that is none
 abbrev pub GetsResult : {E : Type 0} → {r : _} → Bool → (E → SymbolFields) → List (DynamicObject E r) → ℕ × Result Reference LinkError → Type 0

@@ -4,7 +4,7 @@ use Rattle.std.specs.Prelude.{◌≡◌, ℕ, ◌==◌, Bool, false, List, [], �
 use Rattle.std.specs.Borrow.{Bor}
 use Rattle.elf_base.specs.FileHeader.{header_of}
 use Rattle.elf_linking.specs.AnyTable.{IsCheckBy, IsGoodBy}
-use Rattle.elf_linking.specs.DynamicObject.{IsObject, IsObjectRefused, object_dynamic_symbols, object_file, object_name, object_symbols, object_table, object_versions, object_view}
+use Rattle.elf_linking.specs.DynamicObject.{IsObject, IsObjectError, object_dynamic_symbols, object_file, object_name, object_symbols, object_table, object_versions, object_view}
 use Rattle.elf_linking.specs.DynamicView.{view_entries}
 use Rattle.elf_linking.specs.Find.{AreReadable}
 use Rattle.elf_linking.specs.References.{references_of}
@@ -24,7 +24,7 @@ use Rattle.xmas_elf.specs.Types.{ElfFile}
 abbrev pub IsRead : {E : Type 0} → {r : _} → ℕ → ℕ → Bor (List ℕ) → Result (DynamicObject E r) LinkError → Type 0
 IsRead class size bytes answer = MatchResult (header_of bytes.now) (λ header.
     let file : ElfFile = record { input = bytes; header = header } in
-    MatchResult answer (IsObject class size file) (IsObjectRefused class size file))
+    MatchResult answer (IsObject class size file) (IsObjectError class size file))
     (λ error. answer ≡ Err (Elf error))
 
 -- they are checked: look-ups in them find what they must, and their versions can be read; or the first error

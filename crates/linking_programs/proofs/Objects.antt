@@ -4,16 +4,16 @@ use Rattle.std.specs.Borrow.{Bor}
 use Rattle.std.specs.Prelude.{IfErr, IsOkAnd, IsSomeAnd, MatchResult, slice_get, ⊤}
 use Rattle.std.proofs.lemmas.Option.{slice_get_read}
 use Rattle.elf_base.specs.FileHeader.{header_of}
-use Rattle.elf_linking.specs.DynamicObject.{IsReachedObject, IsReachedRefused}
+use Rattle.elf_linking.specs.DynamicObject.{IsReachedObject, IsReachedError}
 use Rattle.elf_linking.specs.declared.error.LinkError.{LinkError}
 use Rattle.elf_linking.specs.declared.object.DynamicObject.{DynamicObject}
-use Rattle.linking_programs.specs.Files.{AreObjectsOf, IsInputRefused, IsObjectOfBytes, IsRefusedAsObject, OfHeader, no_object}
+use Rattle.linking_programs.specs.Files.{AreObjectsOf, IsInputError, IsObjectOfBytes, IsObjectErrorOf, OfHeader, no_object}
 use Rattle.linking_programs.specs.declared.Input.{Input}
-use Rattle.linking_programs.specs.declared.Refused as reasons
+use Rattle.linking_programs.specs.declared.Failed as reasons
 use Rattle.program_ends.proofs.Ends.{stop_so}
 use Rattle.program_ends.specs.Stops.{IsStop}
 use Rattle.program_ends.specs.declared.Stop.{Stop}
-use Rattle.program_ends.specs.declared.Stop.TheVariants.{Refused}
+use Rattle.program_ends.specs.declared.Stop.TheVariants.{Failed}
 use Rattle.xmas_elf.specs.Types.{ElfError, ElfFile, Header}
 
 -- what holds of a file holds of its input
@@ -28,20 +28,20 @@ at_index P items index item below is holds =
     subst (λ found. IsSomeAnd found P) (sym (slice_get_read items (length items) index item refl below is)) holds
 
 -- what is read of a file is read of its bytes
-pub object_or_refused : {E : Type 0} {r : _} (class size : ℕ) (bytes : List ℕ) (file : ElfFile) (result : Result (DynamicObject E r) LinkError) → file.input.now ≡ bytes → header_of bytes ≡ Ok file.header → MatchResult result (IsReachedObject class size file) (IsReachedRefused class size file) → MatchResult result (IsObjectOfBytes class size bytes) (IsRefusedAsObject class size bytes)
-object_or_refused class size bytes file (Ok object) input header is = record { file = file; bytes_are = input; header_is = header; object_is = is }
-object_or_refused class size bytes file (Err error) input header is = no_object file error input header is
+pub object_or_failed : {E : Type 0} {r : _} (class size : ℕ) (bytes : List ℕ) (file : ElfFile) (result : Result (DynamicObject E r) LinkError) → file.input.now ≡ bytes → header_of bytes ≡ Ok file.header → MatchResult result (IsReachedObject class size file) (IsReachedError class size file) → MatchResult result (IsObjectOfBytes class size bytes) (IsObjectErrorOf class size bytes)
+object_or_failed class size bytes file (Ok object) input header is = record { file = file; bytes_are = input; header_is = header; object_is = is }
+object_or_failed class size bytes file (Err error) input header is = no_object file error input header is
 
 -- the reason of a result, where that implies another
-pub if_err_so : {A E : Type 0} (Was : A → Type 0) (WasRefused IsRefused : E → Type 0) (WasWritten IsWritten WasShort IsShort : Type 0) (result : Result A (Stop E)) → ((error : E) → WasRefused error → IsRefused error) → (WasWritten → IsWritten) → (WasShort → IsShort)
-    → MatchResult result Was (IsStop WasRefused WasWritten WasShort) → IfErr result (IsStop IsRefused IsWritten IsShort)
-if_err_so Was WasRefused IsRefused WasWritten IsWritten WasShort IsShort (Ok value) refused written short is = tt
-if_err_so Was WasRefused IsRefused WasWritten IsWritten WasShort IsShort (Err stop) refused written short why = stop_so _ _ _ _ _ _ stop refused written short why
+pub if_err_so : {A E : Type 0} (Was : A → Type 0) (WasFailed IsFailed : E → Type 0) (WasWritten IsWritten WasShort IsShort : Type 0) (result : Result A (Stop E)) → ((error : E) → WasFailed error → IsFailed error) → (WasWritten → IsWritten) → (WasShort → IsShort)
+    → MatchResult result Was (IsStop WasFailed WasWritten WasShort) → IfErr result (IsStop IsFailed IsWritten IsShort)
+if_err_so Was WasFailed IsFailed WasWritten IsWritten WasShort IsShort (Ok value) failed written short is = tt
+if_err_so Was WasFailed IsFailed WasWritten IsWritten WasShort IsShort (Err stop) failed written short why = stop_so _ _ _ _ _ _ stop failed written short why
 
-pub input_stops : {E : Type 0} (r : _) (class size : ℕ) (inputs : List Input) (index : ℕ) (input : Input) (objects : List (DynamicObject E r)) (error : LinkError) (stop : Stop (reasons.Refused LinkError)) → index < length inputs → input ≡ get_or inputs index input → AreObjectsOf class size (take index inputs) objects → IsRefusedAsObject class size input.bytes.items error
-    → stop ≡ Refused (record { path = input.path; error = error }) → IsStop (IsInputRefused {E = E} r class size inputs) ⊥ ⊤ stop
+pub input_stops : {E : Type 0} (r : _) (class size : ℕ) (inputs : List Input) (index : ℕ) (input : Input) (objects : List (DynamicObject E r)) (error : LinkError) (stop : Stop (reasons.Failed LinkError)) → index < length inputs → input ≡ get_or inputs index input → AreObjectsOf class size (take index inputs) objects → IsObjectErrorOf class size input.bytes.items error
+    → stop ≡ Failed (record { path = input.path; error = error }) → IsStop (IsInputError {E = E} r class size inputs) ⊥ ⊤ stop
 input_stops {E} r class size inputs index input objects error stop below is earlier why stop_is =
-    subst (IsStop (IsInputRefused {E = E} r class size inputs) ⊥ ⊤) (sym stop_is) (record {
+    subst (IsStop (IsInputError {E = E} r class size inputs) ⊥ ⊤) (sym stop_is) (record {
       index = index;
       input = input;
       input_is = slice_get_read inputs (length inputs) index input refl below is;

@@ -4,12 +4,12 @@ use Rattle.std.specs.Borrow.{Bor}
 use Rattle.std.specs.List.{AllZip}
 use Rattle.elf_base.specs.FileHeader.{file_class, header_of}
 use Rattle.elf_base.specs.declared.error.ElfError.{ElfError}
-use Rattle.elf_linking.specs.DynamicObject.{IsReachedObject, IsReachedRefused}
+use Rattle.elf_linking.specs.DynamicObject.{IsReachedObject, IsReachedError}
 use Rattle.elf_linking.specs.declared.error.LinkError.{LinkError}
 use Rattle.elf_linking.specs.declared.error.LinkError.TheVariants.{Elf}
 use Rattle.elf_linking.specs.declared.object.DynamicObject.{DynamicObject}
 use Rattle.linking_programs.specs.declared.Input.{Input}
-use Rattle.linking_programs.specs.declared.Refused as reasons
+use Rattle.linking_programs.specs.declared.Failed as reasons
 use Rattle.program_ends.specs.declared.Fault.{Fault}
 use Rattle.program_ends.specs.declared.Fault.TheVariants as faults
 use Rattle.program_ends.specs.declared.Stop.{Stop}
@@ -29,10 +29,10 @@ pub record IsObjectOfBytes {E : Type 0} {r : _} (class size : ℕ) (bytes : List
   pub object_is : IsReachedObject class size file object
 
 -- why bytes are no such file: an error of their header, or of what a dynamic linker reads of it
-pub data IsRefusedAsObject (class size : ℕ) (bytes : List ℕ) : LinkError → Type 0 where
-  no_header : (error : ElfError) → header_of bytes ≡ Err error → IsRefusedAsObject class size bytes (Elf error)
+pub data IsObjectErrorOf (class size : ℕ) (bytes : List ℕ) : LinkError → Type 0 where
+  no_header : (error : ElfError) → header_of bytes ≡ Err error → IsObjectErrorOf class size bytes (Elf error)
   no_object : (file : ElfFile) (error : LinkError) → file.input.now ≡ bytes → header_of bytes ≡ Ok file.header
-      → IsReachedRefused class size file error → IsRefusedAsObject class size bytes error
+      → IsReachedError class size file error → IsObjectErrorOf class size bytes error
 
 -- the objects are those of the inputs, in order
 abbrev pub AreObjectsOf : {E : Type 0} → {r : _} → ℕ → ℕ → List Input → List (DynamicObject E r) → Type 0
@@ -40,18 +40,18 @@ AreObjectsOf class size inputs objects =
     AllZip (λ input object. IsObjectOfBytes class size input.bytes.items object) inputs objects
 
 -- an error is that of the input at an index, which is named by its path
-abbrev pub IsOfInput : {F : Type 0} → List Input → ℕ → reasons.Refused F → Type 0
-IsOfInput inputs index refused = IsSomeAnd (slice_get inputs index) (λ input. refused.path ≡ input.path)
+abbrev pub IsOfInput : {F : Type 0} → List Input → ℕ → reasons.Failed F → Type 0
+IsOfInput inputs index failed = IsSomeAnd (slice_get inputs index) (λ input. failed.path ≡ input.path)
 
 -- the first of the inputs that is no such file, and why; those before it are
-pub record IsInputRefused {E : Type 0} (r : _) (class size : ℕ) (inputs : List Input) (refused : reasons.Refused LinkError) : Type 0 where
+pub record IsInputError {E : Type 0} (r : _) (class size : ℕ) (inputs : List Input) (failed : reasons.Failed LinkError) : Type 0 where
   pub index : ℕ
   pub input : Input
   pub input_is : slice_get inputs index ≡ Some input
   pub objects : List (DynamicObject E r)
   pub objects_are : AreObjectsOf class size (take index inputs) objects
-  pub path_is : refused.path ≡ input.path
-  pub error_is : IsRefusedAsObject class size input.bytes.items refused.error
+  pub path_is : failed.path ≡ input.path
+  pub error_is : IsObjectErrorOf class size input.bytes.items failed.error
 
 -- a header is of class 32
 abbrev pub is_narrow_header : Result Header ElfError → Bool
@@ -64,7 +64,7 @@ is_first_narrow [] = false
 is_first_narrow (input ∷ others) = is_narrow_header (header_of input.bytes.items)
 
 -- what a program says where its output isn't written to its end
-abbrev pub refused_fault_of : {F : Type 0} → Stop (reasons.Refused F) → Fault F
-refused_fault_of (stops.Refused refused) = faults.Refused refused.path refused.error
-refused_fault_of stops.Write = faults.Write
-refused_fault_of stops.Memory = faults.Memory
+abbrev pub failed_fault_of : {F : Type 0} → Stop (reasons.Failed F) → Fault F
+failed_fault_of (stops.Failed failed) = faults.Failed failed.path failed.error
+failed_fault_of stops.Write = faults.Write
+failed_fault_of stops.Memory = faults.Memory

@@ -6,9 +6,9 @@ ghost use Rattle.elf_base.specs.FileHeader.{header_of};
 ghost use Rattle.elf_linking.specs.Checked.{AreChecked};
 ghost use Rattle.elf_linking.specs.DynamicObject.{object_dynamic_symbols};
 ghost use Rattle.linking_programs.specs.Checks.{IsGood};
-ghost use Rattle.linking_programs.specs.Files.{AreObjectsOf, IsInputRefused, IsObjectOfBytes};
-ghost use Rattle.linking_programs.specs.Files.{IsOfInput, IsRefusedAsObject, is_first_narrow};
-ghost use Rattle.linking_programs.specs.Files.{is_narrow_header, refused_fault_of};
+ghost use Rattle.linking_programs.specs.Files.{AreObjectsOf, IsInputError, IsObjectOfBytes};
+ghost use Rattle.linking_programs.specs.Files.{IsOfInput, IsObjectErrorOf, is_first_narrow};
+ghost use Rattle.linking_programs.specs.Files.{is_narrow_header, failed_fault_of};
 ghost use Rattle.program_ends.specs.Stops.{IsStop};
 ghost use Rattle.program_ends.specs.declared.Stop.TheVariants as stops_are;
 
@@ -31,7 +31,7 @@ pub struct Input<'a> {
 
 /// The error of a file, with its path.
 #[derive(Clone, Copy, Debug, Drop)]
-pub struct Refused<'a, F> {
+pub struct Failed<'a, F> {
     pub path: &'a str,
     pub error: F,
 }
@@ -79,11 +79,11 @@ fn is_narrow(bytes: &[u8]) -> bool
 pub fn read_objects<'a, E: LinkedSymbol>(
     alloc: Global,
     inputs: &'a [Input<'_>],
-) -> Result<Vec<DynamicObject<'a, E>>, Stop<Refused<'a, LinkError>>>
+) -> Result<Vec<DynamicObject<'a, E>>, Stop<Failed<'a, LinkError>>>
     ensures objects { IfOk result (λ objects. AreObjectsOf E.CLASS E.SIZE inputs.now objects.items) }
     ensures count { IfOk result (λ objects. length objects.items ≡ length inputs.now) }
-    ensures refused { IfErr result
-        (IsStop (IsInputRefused {E = E} E.Record E.CLASS E.SIZE inputs.now) ⊥ ⊤) }
+    ensures failed { IfErr result
+        (IsStop (IsInputError {E = E} E.Record E.CLASS E.SIZE inputs.now) ⊥ ⊤) }
 {
     let mut objects = Vec::new(alloc);
     for input in inputs {
@@ -93,7 +93,7 @@ pub fn read_objects<'a, E: LinkedSymbol>(
                     return Err(Stop::Memory);
                 }
             }
-            Err(error) => return Err(refusal(input.path, error)),
+            Err(error) => return Err(failure(input.path, error)),
         }
     }
     Ok(objects)
@@ -102,7 +102,7 @@ pub fn read_objects<'a, E: LinkedSymbol>(
 // The object of a file.
 fn read_object<'a, E: LinkedSymbol>(bytes: &'a [u8]) -> Result<DynamicObject<'a, E>, LinkError>
     ensures exact { MatchResult result (IsObjectOfBytes E.CLASS E.SIZE bytes.now)
-        (IsRefusedAsObject E.CLASS E.SIZE bytes.now) }
+        (IsObjectErrorOf E.CLASS E.SIZE bytes.now) }
 {
     match ElfFile::new(bytes) {
         Ok(file) => DynamicObject::read_reached(&file),
@@ -122,29 +122,29 @@ pub fn check_object<E: LinkedSymbol>(object: &DynamicObject<'_, E>) -> Result<()
 }
 
 /// The error of a file as a reason to stop.
-pub fn refusal<'a, F>(path: &'a str, error: F) -> Stop<Refused<'a, F>>
-    ensures { result ≡ stops_are.Refused (record { path = path.entry; error = error }) }
+pub fn failure<'a, F>(path: &'a str, error: F) -> Stop<Failed<'a, F>>
+    ensures { result ≡ stops_are.Failed (record { path = path.entry; error = error }) }
 {
-    Stop::Refused(Refused { path, error })
+    Stop::Failed(Failed { path, error })
 }
 
 /// The error of the file at an index as a reason to stop.
-pub fn refusal_at<'a, F>(inputs: &'a [Input<'_>], index: usize, error: F) -> Stop<Refused<'a, F>>
+pub fn failure_at<'a, F>(inputs: &'a [Input<'_>], index: usize, error: F) -> Stop<Failed<'a, F>>
     requires { index < length inputs.now }
-    ensures { IsStop (λ refused. IsOfInput inputs.now index refused × (refused.error ≡ error)) ⊥ ⊥
+    ensures { IsStop (λ failed. IsOfInput inputs.now index failed × (failed.error ≡ error)) ⊥ ⊥
         result }
 {
-    refusal(inputs[index].path, error)
+    failure(inputs[index].path, error)
 }
 
 /// What a program says where its output isn't written to its end.
-pub fn refused_fault_of<F>(stop: Stop<Refused<'_, F>>) -> Fault<'_, F>
-    ensures { result ≡ refused_fault_of stop.entry }
+pub fn failed_fault_of<F>(stop: Stop<Failed<'_, F>>) -> Fault<'_, F>
+    ensures { result ≡ failed_fault_of stop.entry }
 {
     match stop {
-        Stop::Refused(refused) => Fault::Refused {
-            path: refused.path,
-            error: refused.error,
+        Stop::Failed(failed) => Fault::Failed {
+            path: failed.path,
+            error: failed.error,
         },
         Stop::Write => Fault::Write,
         Stop::Memory => Fault::Memory,

@@ -3,6 +3,7 @@
 
 mod bytes;
 mod checked_images;
+mod failures;
 mod formulas;
 mod images;
 mod images_32;
@@ -10,7 +11,6 @@ mod in_order;
 mod loaders;
 mod messages;
 mod plans;
-mod refusals;
 mod relocated_files;
 mod relocated_images;
 mod rows;

@@ -30,7 +30,7 @@ pub const CLOSED: u8 = 141;
 #[derive(Clone, Copy, Debug, Drop)]
 pub enum Stop<E> {
     /// The input has this error.
-    Refused(E),
+    Failed(E),
     /// The writer failed.
     Write,
     /// There was not enough memory.
@@ -57,19 +57,19 @@ pub trait Output {
         → Keeps new kept → Writes output old kept };
 
     /// The error of the input.
-    type Refusal;
+    type AnyError;
 
     /// The input has this error.
-    ghost Refuses: { Self → Self.Refusal → Type 0 };
+    ghost Fails: { Self → Self.AnyError → Type 0 };
 
     /// The input has no error before the output begins.
     ghost Begins: { Self → Type 0 };
 
     /// Writes the output.
-    fn write_to<W: Write>(&self, out: &mut W) -> Result<(), Stop<Self::Refusal>>
+    fn write_to<W: Write>(&self, out: &mut W) -> Result<(), Stop<Self::AnyError>>
         ensures { MatchResult result
             (λ _. Writes self.now (W.contents out.old) (W.contents out.new))
-            (IsStop (Refuses self.now) (Begins self.now) ⊥) };
+            (IsStop (Fails self.now) (Begins self.now) ⊥) };
 }
 
 /// All bytes that a reader has left; `None` where there is no reader, a read fails or memory is
@@ -95,10 +95,10 @@ pub fn write_buffered<O: Output, W: Write + Drop>(
     alloc: Global,
     output: &O,
     out: W,
-) -> Result<W, Stop<O::Refusal>>
+) -> Result<W, Stop<O::AnyError>>
     ensures { MatchResult result
         (λ back. O.Writes output.now (W.contents out) (W.contents back))
-        (IsStop (O.Refuses output.now) (HasBegun (O.Begins output.now) (O.Writes output.now)) ⊤) }
+        (IsStop (O.Fails output.now) (HasBegun (O.Begins output.now) (O.Writes output.now)) ⊤) }
 {
     let mut buffered = match BufWriter::new(alloc, out) {
         Ok(buffered) => buffered,
@@ -116,12 +116,12 @@ pub fn write_buffered<O: Output, W: Write + Drop>(
 fn write_flushed<O: Output, W: Write + Drop>(
     output: &O,
     buffered: &mut BufWriter<W>,
-) -> Result<(), Stop<O::Refusal>>
+) -> Result<(), Stop<O::AnyError>>
     requires { writer_buffer buffered.old ≡ [] }
     ensures { MatchResult result
         (λ _. O.Writes output.now
         (W.contents (writer_inner buffered.old)) (W.contents (writer_inner buffered.new)))
-        (IsStop (O.Refuses output.now) (HasBegun (O.Begins output.now) (O.Writes output.now)) ⊥) }
+        (IsStop (O.Fails output.now) (HasBegun (O.Begins output.now) (O.Writes output.now)) ⊥) }
 {
     match output.write_to(buffered) {
         Ok(()) => {}
@@ -198,7 +198,7 @@ pub enum Fault<'a, E> {
     Read { path: &'a str },
     /// The file at this path has this error.
     #[error("{path}: {error}")]
-    Refused { path: &'a str, error: E },
+    Failed { path: &'a str, error: E },
     /// A write failed.
     #[error("cannot write")]
     Write,
@@ -212,7 +212,7 @@ pub fn fault_of<E>(stop: Stop<E>, path: &str) -> Fault<'_, E>
     ensures { result ≡ fault_of path.entry stop }
 {
     match stop {
-        Stop::Refused(error) => Fault::Refused { path, error },
+        Stop::Failed(error) => Fault::Failed { path, error },
         Stop::Write => Fault::Write,
         Stop::Memory => Fault::Memory,
     }

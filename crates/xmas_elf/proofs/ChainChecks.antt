@@ -5,18 +5,18 @@ use Rattle.std.specs.Prelude.{◌≢◌, IsOk, IsTrue, Option, is_some}
 use Rattle.elf_records.specs.HashNumber.{hash_number}
 use Rattle.elf_base.specs.declared.error.ElfError.TheVariants.{HashMissing}
 use Rattle.xmas_elf.specs.Prelude.{ElfError, HashTable}
-use Rattle.xmas_elf.specs.HashTable.{Comes, EndsBelow, Held, IsAtFault, IsCheck, IsGood, IsReached, LooksFrom, Reaches, Walks, bad_bucket, bucket_count_of, bucket_of, chains_of, ends, faulty, good, missing, start_of, stops}
+use Rattle.xmas_elf.specs.HashTable.{Comes, EndsBelow, Held, IsAtFault, IsCheck, IsGood, IsReached, LooksFrom, Reaches, FollowsChain, bad_bucket, bucket_count_of, bucket_of, chains_of, ends, faulty, good, missing, start_of, stops}
 use Rattle.xmas_elf.specs.Symbol.{IsGlobal, Symbols}
 use Rattle.xmas_elf.proofs.ChainFinds.{goes, not_at_fault}
 use Rattle.xmas_elf.proofs.lemmas.ChainOnce.{looks_once}
 use Rattle.xmas_elf.proofs.ChainStarts.{start_at}
 
 module _ {E : Type 0} (table : HashTable) (symbols : List E) where
-  -- whether a walk from the bucket of a name finds an index is whether the index is in the chain of the name
-  pub walk_reaches : (Stop Over : ℕ × E → Type 0) (name : List ℕ) (i first n : ℕ) (o : Option (ℕ × E)) → Walks Stop Over (chains_of table symbols) first (Ok o) n → ((x : ℕ) (e : E) → Stop (x, e) → x ≡ i) → ((x : ℕ) (e : E) → Over (x, e) → x ≢ i) → 0 < i → start_of table name ≡ Some (Ok first) → IsTrue (is_some o) ↔ IsReached table symbols name i
-  walk_reaches Stop Over name i first _ _ (stops n x e w stands stop) is other above start =
+  -- whether a traversal from the bucket of a name finds an index is whether the index is in the chain of the name
+  pub chain_reaches : (Stop Over : ℕ × E → Type 0) (name : List ℕ) (i first n : ℕ) (o : Option (ℕ × E)) → FollowsChain Stop Over (chains_of table symbols) first (Ok o) n → ((x : ℕ) (e : E) → Stop (x, e) → x ≡ i) → ((x : ℕ) (e : E) → Over (x, e) → x ≢ i) → 0 < i → start_of table name ≡ Some (Ok first) → IsTrue (is_some o) ↔ IsReached table symbols name i
+  chain_reaches Stop Over name i first _ _ (stops n x e w stands stop) is other above start =
       (λ _. (first, start, subst (λ z. Reaches (chains_of table symbols) first z) (is x e stop) (n, w.comes)), λ _. refl)
-  walk_reaches Stop Over name i first _ _ (ends n w) is other above start = (
+  chain_reaches Stop Over name i first _ _ (ends n w) is other above start = (
     λ yes. absurd (cc),
     λ (first', start', (m, on)). absurd (
         let chains = chains_of table symbols in
@@ -26,9 +26,9 @@ module _ {E : Type 0} (table : HashTable) (symbols : List E) where
         other i l.entry (w.over m i l.entry before at l.stands) refl),
   )
 
-  -- if all chains end, a walk along the chain of a name has no error
-  pub unrefused : (name : List ℕ) (first n : ℕ) (error : ElfError) → EndsBelow table symbols (bucket_count_of table) → start_of table name ≡ Some (Ok first) → LooksFrom (λ (at : ℕ × E). ⊥) (chains_of table symbols) (Some (Ok first)) (Err error) n → ⊥
-  unrefused name first n error each start looks =
+  -- if all chains end, a traversal along the chain of a name has no error
+  pub without_error : (name : List ℕ) (first n : ℕ) (error : ElfError) → EndsBelow table symbols (bucket_count_of table) → start_of table name ≡ Some (Ok first) → LooksFrom (λ (at : ℕ × E). ⊥) (chains_of table symbols) (Some (Ok first)) (Err error) n → ⊥
+  without_error name first n error each start looks =
       let (some, at) = start_at table name (Ok first) start in
       not_at_fault table symbols _ error (each (hash_number name % bucket_count_of table) (omega arith)) (n, rw at looks)
 

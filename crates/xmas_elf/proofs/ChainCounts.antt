@@ -1,4 +1,4 @@
--- The number of symbols in a chain, counted along the walk, and what it says of the table.
+-- The number of symbols in a chain, counted along the traversal, and what it says of the table.
 use Rattle.std.proofs.Common.{◌≡◌, ◌≢◌, ◌<◌, ◌≤◌, ◌+◌, ◌%◌, ◌/◌, ℕ, inl, inr, List, Some, Ok, Bool, IsTrue, ◌↔◌, length, slice_get, refl, sym, ◌∙◌, ap, subst, arith}
 use Rattle.std.proofs.lemmas.Bool.{cases_order}
 use Rattle.std.proofs.lemmas.Option.{slice_get_within}
@@ -19,7 +19,7 @@ module _ {E : Type 0} (table : HashTable) (symbols : Symbols E) where
   belongs_once k l x (e, name, global, bucket) (d, other, global', bucket') =
       sym bucket ∙ ap (λ n. hash_number n % bucket_count_of table) (named_once table symbols x e d name other global global') ∙ bucket'
 
-  -- the symbols counted in a walk from a bucket to the end are those found in that bucket
+  -- the symbols counted in a traversal from a bucket to the end are those found in that bucket
   pub picked_held : (k first n i many : ℕ) → bucket_of table k ≡ Ok first → i ≡ 0 → Comes (chains_of table symbols.items) first n i → Picked (chains_of table symbols.items) (Belongs table symbols k) first n many → IsCount (IsHeldBy table symbols k) many
   picked_held k first n i many at end c p =
       let chains = chains_of table symbols.items in

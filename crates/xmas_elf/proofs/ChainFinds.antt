@@ -3,13 +3,13 @@ use Rattle.std.proofs.lemmas.Bool.{cases_eq}
 use Rattle.std.proofs.Common.{◌≡◌, ◌<◌, ◌%◌, ℕ, zero, suc, inl, inr, List, Option, Some, None, Result, Ok, Err, MatchResult, MatchOption, slice_get, refl, subst, arith, below_more}
 use Rattle.elf_records.specs.HashNumber.{hash_number}
 use Rattle.xmas_elf.specs.Prelude.{ElfError, HashTable}
-use Rattle.xmas_elf.specs.HashTable.{Chains, Comes, Ends, EndsBelow, FindsAllWhere, IsAtFault, IsGood, Links, LooksFrom, MustBeFoundWhere, NoneBefore, Reaches, StandsAt, Stops, at_end, bucket_count_of, chains_of, endless, found, no_bucket, past_chains, past_symbols, reaches, refused, start_of}
+use Rattle.xmas_elf.specs.HashTable.{Chains, Comes, Ends, EndsBelow, FindsAllWhere, IsAtFault, IsGood, Links, LooksFrom, MustBeFoundWhere, NoneBefore, Reaches, IsFoundAt, Stops, at_end, bucket_count_of, chains_of, endless, found, no_bucket, past_chains, past_symbols, reaches, failed, start_of}
 use Rattle.xmas_elf.specs.Symbol.{Symbols}
 use Rattle.xmas_elf.proofs.ChainPaths.{by_order, comes_in, comes_once, end_links, goes_on}
 use Rattle.xmas_elf.proofs.ChainStarts.{start_none, start_some}
 
 module _ {E : Type 0} (P : ℕ × E → Type 0) (chains : Chains E) where
-  -- a walk along a chain that ends comes to each other index before the end, and has a step from there
+  -- a traversal along a chain that ends comes to each other index before the end, and has a step from there
   pub goes : (first n v i : ℕ) → Comes chains first n 0 → Comes chains first v i → 0 < i → (v < n) × ((j : ℕ) × Links chains i j)
   goes first n v i end at above =
       by_order chains ((v < n) × ((j : ℕ) × Links chains i j)) v n
@@ -21,16 +21,16 @@ module _ {E : Type 0} (P : ℕ × E → Type 0) (chains : Chains E) where
   none_all : (first : ℕ) → ((last m p : ℕ) (a : Result (Option (ℕ × E)) ElfError) → Comes chains first m last → NoneBefore P chains first m → Stops P chains last a p → ⊥) → (n : ℕ) → NoneBefore P chains first n
   none_all first never zero m below = absurd (omega arith)
   none_all first never (suc n) m below =
-      below_more (λ k. (x : ℕ) (e : E) → Comes chains first k x → StandsAt chains x e → P (x, e) → ⊥) n (none_all first never n)
+      below_more (λ k. (x : ℕ) (e : E) → Comes chains first k x → IsFoundAt chains x e → P (x, e) → ⊥) n (none_all first never n)
       (λ x e at stands holds. never x n 1 (Ok (Some (x, e))) at (none_all first never n) (found x e stands holds)) m (omega arith)
 
-  -- a walk along a chain that ends has no error: it finds an entry with P, or comes to the end
+  -- a traversal along a chain that ends has no error: it finds an entry with P, or comes to the end
   ends_well : (N : Type 0) (first n : ℕ) (a : Result (Option (ℕ × E)) ElfError) → Reaches chains first 0 → ((m : ℕ) → Comes chains first m 0 → NoneBefore P chains first m → N) → LooksFrom P chains (Some (Ok first)) a n → MatchResult a (λ o. MatchOption o N (λ (p : ℕ × E). (0 < p.0) × (slice_get chains.symbols p.0 ≡ Some p.1) × P p)) (λ _. ⊥)
   ends_well N first _ _ end nothing (reaches _ _ n _ _ c none at_end) = nothing n c none
   ends_well N first _ _ (m, end) nothing (reaches _ _ n _ _ c none (past_chains i above past)) = let (before, (j, l)) = goes first m n i end c above in let h : i < chains.count = l.stands.below in absurd (omega arith)
   ends_well N first _ _ (m, end) nothing (reaches _ _ n _ _ c none (past_symbols i above within absent)) = let (before, (j, l)) = goes first m n i end c above in let h : slice_get chains.symbols i ≡ Some l.entry = l.stands.symbol in absurd (cc)
   ends_well N first _ _ end nothing (reaches _ _ n _ _ c none (found i e stands holds)) = (stands.not_end, stands.symbol, holds)
-  ends_well N first _ _ (m, end) nothing (reaches _ _ n _ _ c none (refused i e error stands misses refuses)) = let (before, (j, l)) = goes first m n i end c stands.not_end in let h : chains.chain i ≡ Ok j = l.next in absurd (cc)
+  ends_well N first _ _ (m, end) nothing (reaches _ _ n _ _ c none (failed i e error stands misses fails)) = let (before, (j, l)) = goes first m n i end c stands.not_end in let h : chains.chain i ≡ Ok j = l.next in absurd (cc)
   ends_well N first _ _ (n, end) nothing (endless _ _ never) = absurd (never 0 n 0 (Ok None) end (none_all first never n) at_end)
 
 -- if the chains of all buckets end, the chain of a name ends

@@ -1,5 +1,5 @@
--- Walks along the chains of a hash table: each step is determined, a walk that reaches a stop passes no index
--- twice, and the result of the code's walk is that of a look-up.
+-- Traversals along the chains of a hash table: each step is determined, a traversal that reaches a stop passes no index
+-- twice, and the result of the code's traversal is that of a look-up.
 use Rattle.std.proofs.Common.{◌≡◌, ◌<◌, ◌≤◌, ◌↔◌, ℕ, zero, suc, ◌+◌, Option, Some, None, Result, Ok, Err, Bool, IsTrue, true, false, length, refl, sym, subst, arith, slice_get, ◌⊎◌, inl, inr, Contains}
 use Rattle.std.proofs.lemmas.Bool.{cases_order}
 use Rattle.std.proofs.lemmas.Option.{slice_get_within, get_or_from_slice_get}
@@ -8,7 +8,7 @@ use Rattle.std.specs.Int.{from_bool}
 use Rattle.std.specs.Prelude.{IsOk}
 use Rattle.elf_base.specs.declared.error.ElfError.TheVariants.{ChainIndex, SymbolIndex}
 use Rattle.xmas_elf.specs.Prelude.{ElfError}
-use Rattle.xmas_elf.specs.HashTable.{Chains, StandsAt, Stops, at_end, past_chains, past_symbols, found, refused, Links, Comes, starts, goes, NoneBefore, LooksFrom, Reaches, reaches, endless, Halts, no_chain, no_symbol, too_many, Walked, Walks, ends, stops, halts, breaks}
+use Rattle.xmas_elf.specs.HashTable.{Chains, IsFoundAt, Stops, at_end, past_chains, past_symbols, found, failed, Links, Comes, starts, goes, NoneBefore, LooksFrom, Reaches, reaches, endless, Halts, no_chain, no_symbol, too_many, Followed, FollowsChain, ends, stops, halts, breaks}
 use Rattle.xmas_elf.specs.Counted.{IsCount}
 use Rattle.xmas_elf.proofs.SymbolCounts.{count_more, count_none, count_same}
 
@@ -30,11 +30,11 @@ module _ {E : Type 0} (chains : Chains E) where
   link_once i j k a b = cc
 
   -- only one entry is at an index
-  stand_once : (i : ℕ) (d e : E) → StandsAt chains i d → StandsAt chains i e → d ≡ e
+  stand_once : (i : ℕ) (d e : E) → IsFoundAt chains i d → IsFoundAt chains i e → d ≡ e
   stand_once i d e a b = cc
 
   -- the entry at an index is one of the symbols
-  pub contains_at : (i : ℕ) (e : E) → StandsAt chains i e → Contains chains.symbols e
+  pub contains_at : (i : ℕ) (e : E) → IsFoundAt chains i e → Contains chains.symbols e
   contains_at i e stands =
       (i, slice_get_within chains.symbols i e stands.symbol, get_or_from_slice_get chains.symbols i e e stands.symbol)
 
@@ -42,7 +42,7 @@ module _ {E : Type 0} (chains : Chains E) where
   pub end_links : (i j : ℕ) → i ≡ 0 → Links chains i j → ⊥
   end_links i j end l = let some : 0 < i = l.stands.not_end in omega arith
 
-  -- a walk comes to only one index in a number of steps
+  -- a traversal comes to only one index in a number of steps
   pub comes_once : (first n i j : ℕ) → Comes chains first n i → Comes chains first n j → i ≡ j
   comes_once first _ _ _ starts starts = refl
   comes_once first _ _ _ (goes n i j c l) (goes _ i' j' c' l') =
@@ -54,7 +54,7 @@ module _ {E : Type 0} (chains : Chains E) where
   pub comes_next : (first n i j : ℕ) → Comes chains first n i → Links chains i j → Comes chains first (n + 1) j
   comes_next first n i j c l = comes_in first (suc n) (n + 1) j (omega arith) (goes n i j c l)
 
-  -- a walk comes to the same index in the same number of steps
+  -- a traversal comes to the same index in the same number of steps
   pub comes_same : (first n m i j : ℕ) → n ≡ m → Comes chains first n i → Comes chains first m j → i ≡ j
   comes_same first n m i j same c c' = comes_once first m i j (comes_in first n m i same c) c'
 
@@ -62,7 +62,7 @@ module _ {E : Type 0} (chains : Chains E) where
   pub by_order : (R : Type 0) (n m : ℕ) → (n ≡ m → R) → (n < m → R) → (m < n → R) → R
   by_order R n m same below above = elim (cases_order n m) [ inl e ↦ same e | inr h ↦ elim h [ inl l ↦ below l | inr g ↦ above g ] ]
 
-  -- there is a step from each index that a walk passes
+  -- there is a step from each index that a traversal passes
   pub goes_on : (first m last n i : ℕ) → Comes chains first m last → n < m → Comes chains first n i → (j : ℕ) × Links chains i j
   goes_on first _ _ n i starts below at = absurd (omega arith)
   goes_on first _ _ n i (goes m k j c l) below at =
@@ -71,7 +71,7 @@ module _ {E : Type 0} (chains : Chains E) where
       (λ earlier. goes_on first m k n i c earlier at)
       (λ later. absurd (omega arith))
 
-  -- a walk that comes to an index later comes to it from each index before
+  -- a traversal that comes to an index later comes to it from each index before
   goes_ahead : (first m last n x : ℕ) → Comes chains first m last → n ≤ m → Comes chains first n x → (t : ℕ) × (n + t ≡ m) × Comes chains x t last
   goes_ahead first _ _ n x starts below at =
       let none : n ≡ 0 = omega arith in
@@ -90,7 +90,7 @@ module _ {E : Type 0} (chains : Chains E) where
   pub reaches_along : (i j k : ℕ) → Reaches chains i j → Reaches chains j k → Reaches chains i k
   reaches_along i j k (n, at) (m, on) = (n + m, goes_along i n j m k at on)
 
-  -- a walk that ends goes on from the next index to the end
+  -- a traversal that ends goes on from the next index to the end
   pub ends_next : (i j : ℕ) → 0 < i → chains.chain i ≡ Ok j → Reaches chains i 0 → Reaches chains j 0
   ends_next i j some next (zero, c) = absurd (let end : i ≡ 0 = comes_once i zero i 0 starts c in omega arith)
   ends_next i j some next (suc m, c) =
@@ -106,18 +106,18 @@ module _ {E : Type 0} (chains : Chains E) where
   abbrev pub Apart : ℕ → ℕ → Type 0
   Apart first n = (a b x : ℕ) → a < b → b < n → Comes chains first a x → Comes chains first b x → ⊥
 
-  -- if a walk comes to an index that it has not passed, it has passed none twice
+  -- if a traversal comes to an index that it has not passed, it has passed none twice
   pub apart_before : (first m last n : ℕ) → Comes chains first m last → ((k : ℕ) → k < m → Comes chains first k last → ⊥) → n ≤ m + 1 → Apart first n
   apart_before first m last n c new within a b x earlier below at again =
       let (t, sum, ahead) = goes_ahead first m last b x c (omega arith) again in
       new (a + t) (omega (arith, sum)) (goes_along first a x t last at ahead)
 
 module _ {E : Type 0} (chains : Chains E) (Q : ℕ → Type 0) where
-  -- index x has Q, and a walk passes it in n steps
+  -- index x has Q, and a traversal passes it in n steps
   abbrev pub Passes : ℕ → ℕ → ℕ → Type 0
   Passes first n x = Q x × ((m : ℕ) × (m < n) × Comes chains first m x)
 
-  -- the number of indices with Q that a walk passes in n steps, if it passes none twice
+  -- the number of indices with Q that a traversal passes in n steps, if it passes none twice
   abbrev pub Picked : ℕ → ℕ → ℕ → Type 0
   Picked first n many = Apart chains first n → IsCount (Passes first n) many
 
@@ -133,7 +133,7 @@ module _ {E : Type 0} (chains : Chains E) (Q : ℕ → Type 0) where
       (λ x (q, (m, below, at)). by_order chains ((x ≡ i) ⊎ Passes first n x) m n (λ same. inl (comes_same chains first m n x i same at c)) (λ earlier. inr (q, (m, earlier, at))) (λ later. absurd (omega arith)))
       (p (λ a b x before below. apart a b x before (omega arith)))
 
--- a walk passes as many indices as it takes steps
+-- a traversal passes as many indices as it takes steps
 passes_all : {E : Type 0} (chains : Chains E) (first n i : ℕ) → Comes chains first n i → Picked chains (λ _. IsTrue true) first n n
 passes_all chains first _ _ starts = picked_first chains (λ _. IsTrue true) first
 passes_all chains first _ _ (goes n i j c l) =
@@ -141,16 +141,16 @@ passes_all chains first _ _ (goes n i j c l) =
     subst (λ k. Picked chains (λ _. IsTrue true) first k k) one (picked_next chains (λ _. IsTrue true) first n i n 1 true refl (λ h. h, λ h. h) c (passes_all chains first n i c))
 
 module _ {E : Type 0} (P : ℕ × E → Type 0) (chains : Chains E) where
-  -- there is no step from an index where the walk stops
-  pub stop_or_link : (i j n : ℕ) (a : Result (Option (ℕ × E)) ElfError) → Stops P chains i a n → Links chains i j → ((e : E) → StandsAt chains i e → P (i, e) → ⊥) → ⊥
+  -- there is no step from an index where the traversal stops
+  pub stop_or_link : (i j n : ℕ) (a : Result (Option (ℕ × E)) ElfError) → Stops P chains i a n → Links chains i j → ((e : E) → IsFoundAt chains i e → P (i, e) → ⊥) → ⊥
   stop_or_link _ j _ _ at_end l none = end_links chains 0 j refl l
   stop_or_link _ j _ _ (past_chains i above past) l none = let h : i < chains.count = l.stands.below in omega arith
   stop_or_link _ j _ _ (past_symbols i above within absent) l none = let h : slice_get chains.symbols i ≡ Some l.entry = l.stands.symbol in cc
   stop_or_link _ j _ _ (found i e stands holds) l none = none e stands holds
-  stop_or_link _ j _ _ (refused i e error stands misses refuses) l none = let h : chains.chain i ≡ Ok j = l.next in cc
+  stop_or_link _ j _ _ (failed i e error stands misses fails) l none = let h : chains.chain i ≡ Ok j = l.next in cc
 
-  -- a walk that has passed as many entries as there are, and is at another one, reaches no stop
-  too_long : (bound first n i : ℕ) (e : E) (last m p : ℕ) (a : Result (Option (ℕ × E)) ElfError) → ((q : ℕ) (d : E) → StandsAt chains q d → q < bound) → Comes chains first n i → NoneBefore P chains first n → StandsAt chains i e → bound ≤ n → Comes chains first m last → NoneBefore P chains first m → Stops P chains last a p → ⊥
+  -- a traversal that has passed as many entries as there are, and is at another one, reaches no stop
+  too_long : (bound first n i : ℕ) (e : E) (last m p : ℕ) (a : Result (Option (ℕ × E)) ElfError) → ((q : ℕ) (d : E) → IsFoundAt chains q d → q < bound) → Comes chains first n i → NoneBefore P chains first n → IsFoundAt chains i e → bound ≤ n → Comes chains first m last → NoneBefore P chains first m → Stops P chains last a p → ⊥
   too_long bound first n i e last m p a within c none stands long c' none' s =
       by_order chains ⊥ m n
       (λ same. ends (omega arith))
@@ -167,7 +167,7 @@ module _ {E : Type 0} (P : ℕ × E → Type 0) (chains : Chains E) where
           (λ later. absurd (omega arith))) count in
           omega arith
 
-  -- the result of a walk that stops
+  -- the result of a traversal that stops
   pub looks : (first i n m k : ℕ) (a : Result (Option (ℕ × E)) ElfError) → Comes chains first n i → NoneBefore P chains first n → Stops P chains i a m → n + m ≡ k → LooksFrom P chains (Some (Ok first)) a k
   looks first i n m k a c none s sum = subst (λ c. LooksFrom P chains (Some (Ok first)) a c) sum (reaches first i n m a c none s)
 
@@ -180,16 +180,16 @@ module _ {E : Type 0} (P : ℕ × E → Type 0) (chains : Chains E) where
       endless first n (λ last m p a c' none' s. too_long (length chains.symbols) first n i e last m p a (λ q d at. slice_get_within chains.symbols q d at.symbol) c none stands many c' none' s)
 
 module _ {E : Type 0} (Over : ℕ × E → Type 0) (chains : Chains E) where
-  pub walked_first : (first : ℕ) → Walked Over chains first 0 first
-  walked_first first = record { comes = starts; over = λ m x e below. absurd (omega arith) }
+  pub followed_first : (first : ℕ) → Followed Over chains first 0 first
+  followed_first first = record { comes = starts; over = λ m x e below. absurd (omega arith) }
 
-  pub walked_next : (first n i j : ℕ) → Walked Over chains first n i → (l : Links chains i j) → Over (i, l.entry) → Walked Over chains first (n + 1) j
-  walked_next first n i j w l passed = record {
+  pub followed_next : (first n i j : ℕ) → Followed Over chains first n i → (l : Links chains i j) → Over (i, l.entry) → Followed Over chains first (n + 1) j
+  followed_next first n i j w l passed = record {
     comes = comes_next chains first n i j w.comes l;
     over = λ m x e below at stands. by_order chains (Over (x, e)) m n
         (λ same. (
         let here : x ≡ i = comes_same chains first m n x i same at w.comes in
-        let entry : e ≡ l.entry = stand_once chains i e l.entry (subst (λ z. StandsAt chains z e) here stands) l.stands in
+        let entry : e ≡ l.entry = stand_once chains i e l.entry (subst (λ z. IsFoundAt chains z e) here stands) l.stands in
         let pair : (i, l.entry) ≡ (x, e) = cc in
         subst Over pair passed))
         (λ earlier. w.over m x e earlier at stands)
@@ -197,23 +197,23 @@ module _ {E : Type 0} (Over : ℕ × E → Type 0) (chains : Chains E) where
   }
 
 module _ {E : Type 0} (Stop Over : ℕ × E → Type 0) (chains : Chains E) (first : ℕ) where
-  none_over : (P : ℕ × E → Type 0) (n i : ℕ) → ((i : ℕ) (e : E) → StandsAt chains i e → Over (i, e) → P (i, e) → ⊥) → Walked Over chains first n i → NoneBefore P chains first n
+  none_over : (P : ℕ × E → Type 0) (n i : ℕ) → ((i : ℕ) (e : E) → IsFoundAt chains i e → Over (i, e) → P (i, e) → ⊥) → Followed Over chains first n i → NoneBefore P chains first n
   none_over P n i lacks w m below x e at stands = lacks x e stands (w.over m x e below at stands)
 
-  -- a walk that stops at symbols with P, and passes others, has the result of a look-up for P
-  pub walk_looks : (P : ℕ × E → Type 0) (n : ℕ) (a : Result (Option (ℕ × E)) ElfError) → Walks Stop Over chains first a n → ((i : ℕ) (e : E) → a ≡ Ok (Some (i, e)) → Stop (i, e) → P (i, e)) → ((i : ℕ) (e : E) → StandsAt chains i e → Over (i, e) → P (i, e) → ⊥) → LooksFrom P chains (Some (Ok first)) a n
-  walk_looks P _ _ (ends n w) has lacks = looks P chains first 0 n 0 n (Ok None) w.comes (none_over P n 0 lacks w) at_end (omega arith)
-  walk_looks P _ _ (stops n i e w stands stop) has lacks = looks P chains first i n 1 (n + 1) (Ok (Some (i, e))) w.comes (none_over P n i lacks w) (found i e stands (has i e refl stop)) refl
-  walk_looks P _ _ (halts n i error w above halt) has lacks = looks_halted P chains first i n error w.comes (none_over P n i lacks w) above halt
-  walk_looks P _ _ (breaks n i e error w stands over fails) has lacks = looks P chains first i n 1 (n + 1) (Err error) w.comes (none_over P n i lacks w) (refused i e error stands (lacks i e stands over) fails) refl
+  -- a traversal that stops at symbols with P, and passes others, has the result of a look-up for P
+  pub chain_looks : (P : ℕ × E → Type 0) (n : ℕ) (a : Result (Option (ℕ × E)) ElfError) → FollowsChain Stop Over chains first a n → ((i : ℕ) (e : E) → a ≡ Ok (Some (i, e)) → Stop (i, e) → P (i, e)) → ((i : ℕ) (e : E) → IsFoundAt chains i e → Over (i, e) → P (i, e) → ⊥) → LooksFrom P chains (Some (Ok first)) a n
+  chain_looks P _ _ (ends n w) has lacks = looks P chains first 0 n 0 n (Ok None) w.comes (none_over P n 0 lacks w) at_end (omega arith)
+  chain_looks P _ _ (stops n i e w stands stop) has lacks = looks P chains first i n 1 (n + 1) (Ok (Some (i, e))) w.comes (none_over P n i lacks w) (found i e stands (has i e refl stop)) refl
+  chain_looks P _ _ (halts n i error w above halt) has lacks = looks_halted P chains first i n error w.comes (none_over P n i lacks w) above halt
+  chain_looks P _ _ (breaks n i e error w stands over fails) has lacks = looks P chains first i n 1 (n + 1) (Err error) w.comes (none_over P n i lacks w) (failed i e error stands (lacks i e stands over) fails) refl
 
-  -- a walk with an error has that error whatever it looks for
-  pub walk_refused : (n : ℕ) (error : ElfError) → Walks Stop Over chains first (Err error) n → LooksFrom (λ _. ⊥) chains (Some (Ok first)) (Err error) n
-  walk_refused n error walk = walk_looks (λ _. ⊥) n (Err error) walk (λ i e is stop. cc) (λ i e stands over none. none)
+  -- a traversal with an error has that error whatever it looks for
+  pub chain_error : (n : ℕ) (error : ElfError) → FollowsChain Stop Over chains first (Err error) n → LooksFrom (λ _. ⊥) chains (Some (Ok first)) (Err error) n
+  chain_error n error follow_chain = chain_looks (λ _. ⊥) n (Err error) follow_chain (λ i e is stop. cc) (λ i e stands over none. none)
 
-  -- if a walk has no error and stops only where a walk ends, it ends
-  pub walk_ends : (n : ℕ) (a : Result (Option (ℕ × E)) ElfError) → Walks Stop Over chains first a n → IsOk a → ((i : ℕ) (e : E) → Stop (i, e) → Reaches chains i 0) → Reaches chains first 0
-  walk_ends _ _ (ends n w) ok each = (n, w.comes)
-  walk_ends _ _ (stops n i e w stands stop) ok each = reaches_along chains first i 0 (n, w.comes) (each i e stop)
-  walk_ends _ _ (halts n i error w above halt) ok each = absurd (cc)
-  walk_ends _ _ (breaks n i e error w stands over fails) ok each = absurd (cc)
+  -- if a traversal has no error and stops only where a traversal ends, it ends
+  pub chain_ends : (n : ℕ) (a : Result (Option (ℕ × E)) ElfError) → FollowsChain Stop Over chains first a n → IsOk a → ((i : ℕ) (e : E) → Stop (i, e) → Reaches chains i 0) → Reaches chains first 0
+  chain_ends _ _ (ends n w) ok each = (n, w.comes)
+  chain_ends _ _ (stops n i e w stands stop) ok each = reaches_along chains first i 0 (n, w.comes) (each i e stop)
+  chain_ends _ _ (halts n i error w above halt) ok each = absurd (cc)
+  chain_ends _ _ (breaks n i e error w stands over fails) ok each = absurd (cc)

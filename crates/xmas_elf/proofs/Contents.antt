@@ -19,12 +19,12 @@ module _ (Is : List ℕ → Type 0) (order : Order) (bytes : List ℕ) (is : Is 
   abbrev Reads : Result Content ElfError → Type 0
   Reads made = IfOk made (IsReadFrom Is order)
 
-  unrefused : (refused : Bool) (error : ElfError) (made : Result Content ElfError) → Reads made → Reads (if refused then Err error else made)
-  unrefused true error made reads = tt
-  unrefused false error made reads = reads
+  without_error : (failed : Bool) (error : ElfError) (made : Result Content ElfError) → Reads made → Reads (if failed then Err error else made)
+  without_error true error made reads = tt
+  without_error false error made reads = reads
 
   table_reads : (kind : TableKind) → Reads (whole_table kind order bytes)
-  table_reads kind = unrefused _ _ (Ok (table_of kind order bytes)) (refl, is)
+  table_reads kind = without_error _ _ (Ok (table_of kind order bytes)) (refl, is)
 
   classed : (narrow wide : TableKind) (one two : Bool) → Reads (if one then whole_table narrow order bytes else (if two then whole_table wide order bytes else Err UnknownClass))
   classed narrow wide true two = table_reads narrow
@@ -35,13 +35,13 @@ module _ (Is : List ℕ → Type 0) (order : Order) (bytes : List ℕ) (is : Is 
   group_reads =
       let made = group (number order 4 0 bytes) order (drop 4 bytes) in
       let from : IsReadFrom Is order made = record { whole = bytes; is = is; flags_are = refl; indices_are = refl; order_is = refl } in
-      unrefused (nat_lt (length bytes) 4) ShortData _ (unrefused (not (length (drop 4 bytes) % 4 == 0)) NotMultiple (Ok made) from)
+      without_error (nat_lt (length bytes) 4) ShortData _ (without_error (not (length (drop 4 bytes) % 4 == 0)) NotMultiple (Ok made) from)
 
   note_reads : (class : ℕ) → Reads (note_content class order bytes)
   note_reads class =
       let made = note_64 (note_header order (take 12 bytes)) (drop 12 bytes) in
       let from : IsReadFrom Is order made = record { whole = bytes; is = is; header_is = refl; body_is = refl } in
-      unrefused (class == 1) Note32 _ (unrefused (not (class == 2)) UnknownClass _ (unrefused (nat_lt (length bytes) 12) ShortData (Ok made) from))
+      without_error (class == 1) Note32 _ (without_error (not (class == 2)) UnknownClass _ (without_error (nat_lt (length bytes) 12) ShortData (Ok made) from))
 
   pub section_reads : (kind : ShType) (class : ℕ) → Reads (content_of_section kind class order bytes)
   section_reads sh_type.StrTab class = is
@@ -56,7 +56,7 @@ module _ (Is : List ℕ → Type 0) (order : Order) (bytes : List ℕ) (is : Is 
   section_reads sh_type.SymTabShIndex class = table_reads section_indices
   section_reads sh_type.Group class = group_reads
   section_reads sh_type.Note class = note_reads class
-  section_reads sh_type.Hash class = unrefused _ _ (Ok (hash_table order bytes)) (refl, is)
+  section_reads sh_type.Hash class = without_error _ _ (Ok (hash_table order bytes)) (refl, is)
   section_reads _ class = is
 
   pub segment_reads : (kind : SegmentType) (class : ℕ) → Reads (content_of_segment kind class order bytes)

@@ -3,8 +3,8 @@ use Rattle.std.proofs.Common.{◌≡◌, ℕ, ◌↔◌, nat_lt, Bool, true, fal
 use Rattle.std.proofs.lemmas.Bool.{le-ltb, ltb-false}
 use Rattle.std.specs.Borrow.{Bor}
 use Rattle.std.specs.Result.{ForErr, ForOk}
-use Rattle.elf_base.specs.Lent.{Answers, Lends}
-use Rattle.elf_base.specs.Refusal.{and_then}
+use Rattle.elf_base.specs.Lent.{Answers, IfPart}
+use Rattle.elf_base.specs.FirstError.{and_then}
 use Rattle.elf_base.specs.Text.{IsText}
 use Rattle.xmas_elf.specs.Prelude.{ElfError, ElfFile, SectionHeader}
 use Rattle.xmas_elf.specs.SectionHeader.{section_count_of, section_fields, section_list, section_of}
@@ -18,16 +18,16 @@ pub went_on : {A B : Type 0} (r : Result A ElfError) (next : A → Result B ElfE
 went_on (Ok x) next y is = (x, refl, is)
 went_on (Err error) next y is = cc
 
-pub not_refused : {A : Type 0} (refused : Bool) (error : ElfError) (r : Result A ElfError) (y : A) → (if refused then Err error else r) ≡ Ok y → (refused ≡ false) × (r ≡ Ok y)
-not_refused true error r y is = cc
-not_refused false error r y is = (refl, is)
+pub not_failed : {A : Type 0} (failed : Bool) (error : ElfError) (r : Result A ElfError) (y : A) → (if failed then Err error else r) ≡ Ok y → (failed ≡ false) × (r ≡ Ok y)
+not_failed true error r y is = cc
+not_failed false error r y is = (refl, is)
 
 -- if `name_table_of` is a table, it is the name table
 pub name_table-is : (file : ElfFile) (t : List ℕ) → name_table_of file ≡ Ok t → IsNameTable file t
 unfolding name_table_of
 name_table-is file t is =
     let (section, names, answered) = went_on (names_section_of file) _ t is in
-    let (placed, table) = not_refused _ _ _ t answered in
+    let (placed, table) = not_failed _ _ _ t answered in
     record { section = section; names = names; within = ltb-false _ _ placed; table_is = cc }
 
 pub is-name_table : (file : ElfFile) (t : List ℕ) → IsNameTable file t → name_table_of file ≡ Ok t
@@ -45,7 +45,7 @@ name_at file index names name table = (
 )
 
 -- a stored result that equals a computed one has the property that the computed one has
-pub kept : (Is : List ℕ → Type 0) (answer : Result (List ℕ) ElfError) (r : Result (Bor (List ℕ)) ElfError) → ((part : List ℕ) → answer ≡ Ok part → Is part) → ForOk r (λ part. answer ≡ Ok part.now) → ForErr r (λ error. answer ≡ Err error) → Lends Is r × Answers answer r
+pub kept : (Is : List ℕ → Type 0) (answer : Result (List ℕ) ElfError) (r : Result (Bor (List ℕ)) ElfError) → ((part : List ℕ) → answer ≡ Ok part → Is part) → ForOk r (λ part. answer ≡ Ok part.now) → ForErr r (λ error. answer ≡ Err error) → IfPart Is r × Answers answer r
 kept Is answer (Ok part) has is isnt = let here = is part refl in (has part.now here, here)
 kept Is answer (Err error) has is isnt = (tt, isnt error refl)
 

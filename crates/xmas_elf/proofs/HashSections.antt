@@ -1,7 +1,7 @@
 -- The data of a section of type Hash is a hash table.
 use Rattle.std.proofs.Common.{◌≡◌, ℕ, List, Result, Ok, Err, refl, arith}
 use Rattle.elf_base.specs.FileHeader.{file_class, file_order}
-use Rattle.elf_base.specs.Refusal.{and_then}
+use Rattle.elf_base.specs.FirstError.{and_then}
 use Rattle.elf_records.specs.declared.sections.ShType.TheVariants.{Hash}
 use Rattle.xmas_elf.specs.Prelude.{ElfError, ElfFile, HashTable, Order, SectionData, SectionHeader}
 use Rattle.xmas_elf.specs.Content.{Content, hash_table}

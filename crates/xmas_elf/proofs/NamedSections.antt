@@ -12,7 +12,7 @@ use Rattle.xmas_elf.specs.Prelude.{ElfError, ElfFile, SectionHeader, ShType}
 use Rattle.xmas_elf.specs.First.{FindsFirst, NoneBelow}
 use Rattle.xmas_elf.specs.NameTable.{HasName, FindsNamed, IsFirstNamed, IsNameAt, is_name, name_of, name_table_of, section_named, shstr_of}
 use Rattle.xmas_elf.specs.SectionHeader.{section_count_of, section_fields, section_list, section_of, section_type}
-use Rattle.xmas_elf.proofs.FirstNamed.{is-name_table, name_at, not_refused, went_on}
+use Rattle.xmas_elf.proofs.FirstNamed.{is-name_table, name_at, not_failed, went_on}
 use Rattle.xmas_elf.proofs.HeaderLists.{header_list-longest}
 use Rattle.xmas_elf.proofs.SectionLists.{section_in_list}
 
@@ -53,7 +53,7 @@ pub name_of-has_name : (file : ElfFile) (section : SectionHeader) (name : List â
 unfolding name_of
 name_of-has_name file section name is =
     let (kind, typed, answered) = went_on (section_type section) _ name is in
-    let (test, text) = not_refused (is_sh_type Null kind) _ _ name answered in
+    let (test, text) = not_failed (is_sh_type Null kind) _ _ name answered in
     record {
       kind = kind;
       typed = typed;

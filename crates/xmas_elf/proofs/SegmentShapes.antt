@@ -8,7 +8,7 @@ use Rattle.elf_base.specs.FileHeader.{file_class, file_order}
 use Rattle.xmas_elf.specs.ProgramHeader.{segment_data_of, segment_type}
 use Rattle.elf_records.specs.ProgramNumbers.{is_ph_type}
 use Rattle.xmas_elf.specs.Ranges.{range_of}
-use Rattle.elf_base.specs.Refusal.{and_then}
+use Rattle.elf_base.specs.FirstError.{and_then}
 use Rattle.xmas_elf.specs.SegmentContent.{content_of_segment, segment_content_of}
 use Rattle.elf_records.specs.declared.program.Type.TheVariants as ph_type
 use Rattle.xmas_elf.specs.Prelude.{ElfError, ElfFile, ProgramHeader64, SegmentType}

@@ -8,7 +8,7 @@ use Rattle.elf_records.specs.Note.{note_header}
 use Rattle.elf_base.specs.Number.{number}
 use Rattle.xmas_elf.specs.Prelude.{ElfError, ElfFile, Order, SectionHeader, ShType}
 use Rattle.xmas_elf.specs.Ranges.{range_of}
-use Rattle.elf_base.specs.Refusal.{and_then}
+use Rattle.elf_base.specs.FirstError.{and_then}
 use Rattle.xmas_elf.specs.SectionContent.{content_in, content_of_section, has_no_bytes, section_content_of}
 use Rattle.xmas_elf.specs.SectionHeader.{section_fields, section_type}
 use Rattle.elf_records.specs.declared.sections.ShType.TheVariants as sh_type
@@ -20,7 +20,7 @@ Says answer one size = (wanted : Shape) → IsOkAnd answer (λ c. shape c ≡ wa
 pub says_none : (error : ElfError) (size : ℕ) → Says (Err error) None size
 says_none error size wanted = (λ is. absurd is, λ held. cc)
 
-says_tested : (c : Content) (error : ElfError) (size : ℕ) (refused : Bool) → (refused ≡ false → Fills (shape c) size) → (Fills (shape c) size → refused ≡ false) → Says (if refused then Err error else Ok c) (Some (shape c)) size
+says_tested : (c : Content) (error : ElfError) (size : ℕ) (failed : Bool) → (failed ≡ false → Fills (shape c) size) → (Fills (shape c) size → failed ≡ false) → Says (if failed then Err error else Ok c) (Some (shape c)) size
 says_tested c error size true fills back wanted = (
   λ is. absurd is,
   λ held. (let same : shape c ≡ wanted = let one = held.0 in cc in

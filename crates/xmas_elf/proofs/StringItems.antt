@@ -5,9 +5,9 @@ use Rattle.std.proofs.lemmas.List.{take_all}
 use Rattle.std.proofs.lemmas.Bool.{eqb-true, eqb-false}
 use Rattle.std.specs.Str.{is_utf8}
 use Rattle.std.proofs.lemmas.Str.{IsUtf8-from_is_utf8, is_utf8-from_IsUtf8}
-use Rattle.elf_base.specs.Text.{EndsInZero, IsText, TextRefused}
+use Rattle.elf_base.specs.Text.{EndsInZero, IsText, TextError}
 use Rattle.elf_base.proofs.lemmas.TextLemmas.{is-text_of}
-use Rattle.elf_base.proofs.Texts.{text_of-refused}
+use Rattle.elf_base.proofs.Texts.{text_of-failed}
 use Rattle.elf_base.specs.declared.error.ElfError.TheVariants.{TextEnd, TextUtf8}
 use Rattle.xmas_elf.specs.Prelude.{ElfError}
 use Rattle.xmas_elf.specs.Strings as the_items
@@ -55,10 +55,10 @@ strings_bare (byte ∷ bytes) [] none is = rw (is-text_of (byte ∷ bytes) 0 [] 
 strings_bare bytes (byte ∷ text) none is = absurd (omega (arith, none))
 
 -- an error is the last item
-pub strings_last : (bytes : List ℕ) (error : ElfError) → 0 < length bytes → TextRefused bytes 0 error → string_items bytes ≡ Err error ∷ string_items []
+pub strings_last : (bytes : List ℕ) (error : ElfError) → 0 < length bytes → TextError bytes 0 error → string_items bytes ≡ Err error ∷ string_items []
 unfolding string_items_after
-strings_last [] error some refused = absurd (omega (arith, some))
-strings_last (byte ∷ bytes) error some refused = rw (text_of-refused (byte ∷ bytes) 0 error refused) refl
+strings_last [] error some failed = absurd (omega (arith, some))
+strings_last (byte ∷ bytes) error some failed = rw (text_of-failed (byte ∷ bytes) 0 error failed) refl
 
 abbrev NoZero : List ℕ → Type 0
 NoZero bytes = (k : ℕ) → k < length bytes → slice_index bytes k ≢ 0
@@ -69,7 +69,7 @@ no_zero_before byte bytes other none (suc k) below = none k (omega arith)
 
 -- bytes begin with a text, or there is an error for it
 abbrev Front : List ℕ → Type 0
-Front bytes = ((text : List ℕ) × IsText bytes 0 text) ⊎ ((error : ElfError) × TextRefused bytes 0 error)
+Front bytes = ((text : List ℕ) × IsText bytes 0 text) ⊎ ((error : ElfError) × TextError bytes 0 error)
 
 front_run : (bytes run : List ℕ) (good : Bool) → is_utf8 run ≡ good → EndsInZero bytes 0 run → Front bytes
 front_run bytes run true is ended = inl (run, record { utf8 = IsUtf8-from_is_utf8 run is; ended = ended })
@@ -104,7 +104,7 @@ front_are bytes some long (inl (first ∷ text, is)) shorter =
     let left : drop (length (first ∷ text) + 1) bytes ≡ rest = rw is.ended.begins (drop-append-add (first ∷ text) (0 ∷ rest) 1) in
     rw (strings_of_text bytes (first ∷ text) (λ e. cc) is, left) (subst (λ l. AreStringItems l (Ok (first ∷ text) ∷ string_items rest)) (sym is.ended.begins) one)
 front_are bytes some long (inr (error, why)) shorter =
-    rw (strings_last bytes error long why, strings_none [] refl) (the_items.refused bytes error some why)
+    rw (strings_last bytes error long why, strings_none [] refl) (the_items.failed bytes error some why)
 
 are : (n : ℕ) (bytes : List ℕ) → length bytes ≤ n → AreStringItems bytes (string_items bytes)
 unfolding string_items_after
@@ -121,8 +121,8 @@ strings_are bytes = are (length bytes) bytes (omega arith)
 fit : {bytes : List ℕ} {items : List (Result (List ℕ) ElfError)} → AreStringItems bytes items → length items ≤ length bytes
 fit the_items.at_end = omega arith
 fit (the_items.at_empty bytes is) = omega arith
-fit (the_items.refused [] error some why) = absurd (some refl)
-fit (the_items.refused (byte ∷ bytes) error some why) = omega arith
+fit (the_items.failed [] error some why) = absurd (some refl)
+fit (the_items.failed (byte ∷ bytes) error some why) = omega arith
 fit (the_items.text first rest items some is later) = omega (arith, fit later, length-append first (0 ∷ rest))
 
 pub strings_fit : (bytes : List ℕ) → length (string_items bytes) ≤ length bytes

@@ -6,7 +6,7 @@ pub mod Lent
 pub mod OnlyOne
 pub mod TypeNumbers
 pub mod Tags
-pub mod Walks
+pub mod Traversals
 pub mod Reports
 pub mod Extensions
 pub mod Enums

@@ -1,7 +1,7 @@
 -- The checks of headers (this project's own, after the Rust crate).
 use Rattle.std.specs.Prelude.{ℕ, ◌+◌, ◌%◌, ◌==◌, ◌&&◌, not, nat_eq, nat_lt, nat_le, is_err, Bool, [], ◌∷◌, length, Result, Ok}
 use lib.Pointwise.{pointwise}
-use Rattle.elf_base.specs.Refusal.{and_then, unless}
+use Rattle.elf_base.specs.FirstError.{and_then, unless}
 use Rattle.elf_base.specs.FileHeader.{encoding_number, file_class, header_fields, magic_number, pt2_size, version_number}
 use Rattle.elf_base.specs.declared.header.HeaderPt2.TheVariants.{Header32, Header64}
 use Rattle.elf_records.specs.ProgramNumbers.{has_ph_type}

@@ -2,7 +2,7 @@
 -- malformed data are this project's own).
 use Rattle.std.specs.Prelude.{◌≡◌, ℕ, ◌%◌, ◌==◌, not, nat_lt, List, [], ◌∷◌, length, drop, take, Result, Err, if◌then◌else◌}
 use Rattle.elf_base.specs.Number.{number}
-use Rattle.elf_base.specs.Refusal.{unless}
+use Rattle.elf_base.specs.FirstError.{unless}
 use Rattle.elf_records.specs.Note.{note_header}
 use Rattle.elf_base.specs.declared.error.ElfError.TheVariants.{NotMultiple, Note32, ShortData, UnknownClass}
 use Rattle.xmas_elf.specs.Prelude.{ElfError, NoteHeader, Order}

@@ -4,7 +4,7 @@
 use Rattle.std.specs.Prelude.{ℕ, ◌+◌, ◌*◌, ◌%◌, ◌^◌, ◌<◌, ◌≤◌, Bool, nat_eq, nat_le, nat_lt, List, [], ◌∷◌, length, Option, Some, None, Result, if◌then◌else◌, ◌≡◌, ◌⊎◌, zero, suc, Ok, Err, slice_get, MatchResult, MatchOption}
 use Rattle.std.specs.Borrow.{Bor}
 use Rattle.elf_base.specs.Number.{number}
-use Rattle.elf_base.specs.Refusal.{unless}
+use Rattle.elf_base.specs.FirstError.{unless}
 use Rattle.elf_records.specs.HashNumber.{hash_number}
 use Rattle.elf_base.specs.declared.error.ElfError.TheVariants.{BucketIndex, ChainIndex, ChainSum, HashData, HashCycle, SymbolIndex, HashMissing}
 use Rattle.xmas_elf.specs.Prelude.{ElfError, HashTable, Order}
@@ -92,7 +92,7 @@ chains_of table symbols =
     record { count = chain_count_of table; chain = chain_of table; symbols = symbols }
 
 -- index i is not the end (STN_UNDEF) and is below the number of chains, and its symbol is e
-pub record StandsAt {E : Type 0} (chains : Chains E) (i : ℕ) (e : E) : Type 0 where
+pub record IsFoundAt {E : Type 0} (chains : Chains E) (i : ℕ) (e : E) : Type 0 where
   pub not_end : 0 < i
   pub below : i < chains.count
   pub symbol : slice_get chains.symbols i ≡ Some e
@@ -100,7 +100,7 @@ pub record StandsAt {E : Type 0} (chains : Chains E) (i : ℕ) (e : E) : Type 0 
 -- the chain leads from index i to index j
 pub record Links {E : Type 0} (chains : Chains E) (i j : ℕ) : Type 0 where
   pub entry : E
-  pub stands : StandsAt chains i entry
+  pub stands : IsFoundAt chains i entry
   pub next : chains.chain i ≡ Ok j
 
 -- the chain leads from the first index to another in a number of steps
@@ -115,7 +115,7 @@ Reaches chains first last = (n : ℕ) × Comes chains first n last
 -- no symbol at an index that is fewer than n steps from the first has P
 abbrev pub NoneBefore : {E : Type 0} → (ℕ × E → Type 0) → Chains E → ℕ → ℕ → Type 0
 NoneBefore {E} P chains first n =
-    (m : ℕ) → m < n → (i : ℕ) (e : E) → Comes chains first m i → StandsAt chains i e → ¬ P (i, e)
+    (m : ℕ) → m < n → (i : ℕ) (e : E) → Comes chains first m i → IsFoundAt chains i e → ¬ P (i, e)
 
 -- a search for P, a property of a symbol and its index, stops at an index with a result, and tests a number of
 -- symbols there: 0 or 1
@@ -124,8 +124,8 @@ pub data Stops {E : Type 0} (P : ℕ × E → Type 0) (chains : Chains E) : ℕ 
   past_chains : (i : ℕ) → 0 < i → chains.count ≤ i → Stops P chains i (Err ChainIndex) 0
   past_symbols : (i : ℕ) → 0 < i → i < chains.count → slice_get chains.symbols i ≡ None
       → Stops P chains i (Err SymbolIndex) 0
-  found : (i : ℕ) (e : E) → StandsAt chains i e → P (i, e) → Stops P chains i (Ok (Some (i, e))) 1
-  refused : (i : ℕ) (e : E) (error : ElfError) → StandsAt chains i e → (P (i, e) → ⊥)
+  found : (i : ℕ) (e : E) → IsFoundAt chains i e → P (i, e) → Stops P chains i (Ok (Some (i, e))) 1
+  failed : (i : ℕ) (e : E) (error : ElfError) → IsFoundAt chains i e → (P (i, e) → ⊥)
       → chains.chain i ≡ Err error → Stops P chains i (Err error) 1
 
 -- the result of a search that begins at a bucket, and the number of symbols it tests: the result of the first
@@ -152,25 +152,25 @@ Looks P table symbols name = LooksWhere (λ at. P at.1) table symbols name
 pub data Halts {E : Type 0} (chains : Chains E) (passed i : ℕ) : ElfError → Type 0 where
   no_chain : chains.count ≤ i → Halts chains passed i ChainIndex
   no_symbol : i < chains.count → slice_get chains.symbols i ≡ None → Halts chains passed i SymbolIndex
-  too_many : (e : E) → StandsAt chains i e → (chains.count ≤ passed) ⊎ (length chains.symbols ≤ passed)
+  too_many : (e : E) → IsFoundAt chains i e → (chains.count ≤ passed) ⊎ (length chains.symbols ≤ passed)
       → Halts chains passed i HashCycle
 
 -- the chain leads from the first index to index i in n steps, and each symbol before i has Over: its test
 -- was false
-pub record Walked {E : Type 0} (Over : ℕ × E → Type 0) (chains : Chains E) (first n i : ℕ) : Type 0 where
+pub record Followed {E : Type 0} (Over : ℕ × E → Type 0) (chains : Chains E) (first n i : ℕ) : Type 0 where
   pub comes : Comes chains first n i
-  pub over : (m x : ℕ) (e : E) → m < n → Comes chains first m x → StandsAt chains x e → Over (x, e)
+  pub over : (m x : ℕ) (e : E) → m < n → Comes chains first m x → IsFoundAt chains x e → Over (x, e)
 
 -- the result of a search that tests each symbol, and the number of tests: the first symbol that passes, nothing
 -- at the end, or the error where it stops
-pub data Walks {E : Type 0} (Stop Over : ℕ × E → Type 0) (chains : Chains E) (first : ℕ) : Result (Option (ℕ × E)) ElfError → ℕ → Type 0 where
-  ends : (n : ℕ) → Walked Over chains first n 0 → Walks Stop Over chains first (Ok None) n
-  stops : (n i : ℕ) (e : E) → Walked Over chains first n i → StandsAt chains i e → Stop (i, e)
-      → Walks Stop Over chains first (Ok (Some (i, e))) (n + 1)
-  halts : (n i : ℕ) (error : ElfError) → Walked Over chains first n i → 0 < i → Halts chains n i error
-      → Walks Stop Over chains first (Err error) n
-  breaks : (n i : ℕ) (e : E) (error : ElfError) → Walked Over chains first n i → StandsAt chains i e → Over (i, e)
-      → chains.chain i ≡ Err error → Walks Stop Over chains first (Err error) (n + 1)
+pub data FollowsChain {E : Type 0} (Stop Over : ℕ × E → Type 0) (chains : Chains E) (first : ℕ) : Result (Option (ℕ × E)) ElfError → ℕ → Type 0 where
+  ends : (n : ℕ) → Followed Over chains first n 0 → FollowsChain Stop Over chains first (Ok None) n
+  stops : (n i : ℕ) (e : E) → Followed Over chains first n i → IsFoundAt chains i e → Stop (i, e)
+      → FollowsChain Stop Over chains first (Ok (Some (i, e))) (n + 1)
+  halts : (n i : ℕ) (error : ElfError) → Followed Over chains first n i → 0 < i → Halts chains n i error
+      → FollowsChain Stop Over chains first (Err error) n
+  breaks : (n i : ℕ) (e : E) (error : ElfError) → Followed Over chains first n i → IsFoundAt chains i e → Over (i, e)
+      → chains.chain i ≡ Err error → FollowsChain Stop Over chains first (Err error) (n + 1)
 
 -- a search for P begins at an index, and reaches no stop
 abbrev pub IsEndless : {E : Type 0} → (ℕ × E → Type 0) → Chains E → Option (Result ℕ ElfError) → Type 0

@@ -1,5 +1,5 @@
 pub use Rattle.elf_base.specs.Number
-pub use Rattle.elf_base.specs.Refusal
+pub use Rattle.elf_base.specs.FirstError
 pub use Rattle.elf_base.specs.Message
 pub use Rattle.elf_base.specs.FileHeader
 pub use Rattle.elf_base.specs.Printed

@@ -5,7 +5,7 @@ use Rattle.std.specs.Borrow.{Bor}
 use Rattle.std.specs.List.{find}
 use Rattle.std.specs.Str.{bytes_eq}
 use Rattle.elf_base.specs.Lent.{LiesAt}
-use Rattle.elf_base.specs.Refusal.{and_then, unless}
+use Rattle.elf_base.specs.FirstError.{and_then, unless}
 use Rattle.elf_base.specs.Text.{EndsInZero, IsText, bytes_up_to_zero_of, text_of}
 use Rattle.elf_base.specs.TextCompared.{TextCompared}
 use Rattle.elf_records.specs.SectionNumbers.{is_sh_type}

@@ -6,7 +6,7 @@
 -- empty segment is this project's own).
 use Rattle.std.specs.Prelude.{◌≢◌, ℕ, ◌+◌, ◌<◌, ◌≤◌, ◌==◌, ◌||◌, not, nat_lt, List, [], ◌∷◌, length, Result, if◌then◌else◌, ◌≡◌, Option, Ok, Err}
 use Rattle.elf_base.specs.Number.{number}
-use Rattle.elf_base.specs.Refusal.{unless, and_then}
+use Rattle.elf_base.specs.FirstError.{unless, and_then}
 use Rattle.elf_base.specs.FileHeader.{file_class, file_order, header_fields}
 use Rattle.elf_base.specs.declared.error.ElfError.TheVariants.{NoProgramHeaders, ShortProgramHeader, SmallEntry, UnknownClass, NullData}
 use Rattle.elf_records.specs.ProgramNumbers.{ph_type_number, ph_type_of, ph_type_raw, is_ph_type}

@@ -1,6 +1,6 @@
 -- Ranges of bytes (this project's own).
 use Rattle.std.specs.Prelude.{◌≡◌, ℕ, ◌+◌, ◌≤◌, nat_lt, List, [], ◌∷◌, length, drop, take, Result}
-use Rattle.elf_base.specs.Refusal.{unless}
+use Rattle.elf_base.specs.FirstError.{unless}
 use Rattle.elf_base.specs.declared.error.ElfError.TheVariants.{DataRange}
 use Rattle.xmas_elf.specs.Prelude.{ElfError}
 

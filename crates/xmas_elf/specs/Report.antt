@@ -93,8 +93,8 @@ WritesReport input old new = IsOkAnd (header_of input.now)
     (λ header. AppendsReport (record { input = input; header = header }) old new)
 
 -- the result is `Elf(error)` exactly if the bytes have no accepted header, for that error
-abbrev pub RefusesExactly : List ℕ → Result (Unit {0}) ReportFault → Type 0
-RefusesExactly bytes result = (error : ElfError) → (result ≡ Err (Elf error)) ↔ (header_of bytes ≡ Err error)
+abbrev pub FailsExactly : List ℕ → Result (Unit {0}) ReportFault → Type 0
+FailsExactly bytes result = (error : ElfError) → (result ≡ Err (Elf error)) ↔ (header_of bytes ≡ Err error)
 
 -- if the error is that of the bytes, the writer is unchanged
 abbrev pub WritesNothing : {W : Type 0} → ReportFault → W → W → Type 0

@@ -1,7 +1,7 @@
 -- The report on the hash table of a file (this project's own; gABI, "Sections", sh_link of a section of type
 -- SHT_HASH: the index of the symbol table).
 use Rattle.std.specs.Prelude.{◌≡◌, ℕ, Option, None, Some, Result, Ok, Err}
-use Rattle.elf_base.specs.Refusal.{and_then}
+use Rattle.elf_base.specs.FirstError.{and_then}
 use Rattle.elf_records.specs.declared.sections.ShType.TheVariants.{Hash}
 use Rattle.xmas_elf.specs.Prelude.{ElfError, ElfFile, HashTable, SectionHeader}
 use Rattle.xmas_elf.specs.Content.{Content, dyn_symbols_32, dyn_symbols_64, hash_table, symbols_32, symbols_64, table_of}
@@ -41,7 +41,7 @@ FindsHash file found = FindsFirst (λ section. section_type section ≡ Ok Hash)
 -- the verdict on the hash table of a file, in its first section of type Hash
 pub data IsHashVerdict (file : ElfFile) : HashVerdict → Type 0 where
   none : FindsHash file None → IsHashVerdict file NoTable
-  refused : (section : SectionHeader) (error : ElfError) → FindsHash file (Some section)
+  failed : (section : SectionHeader) (error : ElfError) → FindsHash file (Some section)
       → section_content_of file section ≡ Err error → IsHashVerdict file (Checked (Err error))
   linked : (section : SectionHeader) (table : HashTable) (verdict : HashVerdict) → FindsHash file (Some section)
       → section_content_of file section ≡ Ok (hash_table (hash_order table) (hash_data table))

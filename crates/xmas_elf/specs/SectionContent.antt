@@ -1,7 +1,7 @@
 -- The contents of a section, by its type (gABI, "Sections", sh_type).
 use Rattle.std.specs.Prelude.{ℕ, Bool, true, false, List, Result, Ok, if◌then◌else◌}
 use Rattle.elf_base.specs.FileHeader.{file_class, file_order}
-use Rattle.elf_base.specs.Refusal.{and_then}
+use Rattle.elf_base.specs.FirstError.{and_then}
 use Rattle.elf_base.specs.Table.{table_data, table_order}
 use Rattle.elf_records.specs.declared.sections.ShType.TheVariants as sh_type
 use Rattle.xmas_elf.specs.Prelude.{ElfError, ElfFile, Order, SectionData, SectionHeader, ShType}

@@ -9,7 +9,7 @@ use Rattle.std.specs.Prelude.{ℕ, ◌+◌, ◌<◌, ◌≤◌, ◌==◌, not, n
 use Rattle.std.specs.Option.{ok_or, option_map_or}
 use Rattle.std.specs.Result.{result_ok}
 use Rattle.elf_base.specs.Number.{number}
-use Rattle.elf_base.specs.Refusal.{unless}
+use Rattle.elf_base.specs.FirstError.{unless}
 use Rattle.elf_base.specs.FileHeader.{file_class, file_order, header_fields}
 use Rattle.elf_base.specs.declared.error.ElfError.TheVariants.{ReservedIndex, ShortSectionHeader, SmallEntry, UnknownClass}
 use Rattle.elf_records.specs.SectionNumbers.{sh_type_number, sh_type_of, sh_type_raw}

@@ -2,7 +2,7 @@
 -- .dynstr, and "String Table"; that only the type of .strtab is checked is this project's own).
 use Rattle.std.specs.Prelude.{ℕ, List, codes, Result}
 use Rattle.std.specs.Option.{ok_or}
-use Rattle.elf_base.specs.Refusal.{and_then}
+use Rattle.elf_base.specs.FirstError.{and_then}
 use Rattle.elf_base.specs.Text.{IsText, text_of}
 use Rattle.elf_records.specs.declared.sections.ShType.TheVariants.{StrTab}
 use Rattle.elf_base.specs.declared.error.ElfError.TheVariants.{NoDynstr, NoStrtab, StrtabType}

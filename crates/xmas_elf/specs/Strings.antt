@@ -1,7 +1,7 @@
 -- The texts of a string table in order (gABI, "String Table"; where they end is this project's own).
 use Rattle.std.specs.Prelude.{◌≢◌, ℕ, zero, suc, List, [], ◌∷◌, ◌++◌, length, Option, None, Some, Result, Ok, Err}
 use Rattle.std.specs.Borrow.{Bor}
-use Rattle.elf_base.specs.Text.{IsText, TextRefused, text_of}
+use Rattle.elf_base.specs.Text.{IsText, TextError, text_of}
 use Rattle.xmas_elf.specs.Prelude.{ElfError, SectionStrings}
 use Rattle.xmas_elf.specs.Content.{Content, strings}
 
@@ -10,7 +10,7 @@ use Rattle.xmas_elf.specs.Content.{Content, strings}
 pub data AreStringItems : List ℕ → List (Result (List ℕ) ElfError) → Type 0 where
   at_end : AreStringItems [] []
   at_empty : (bytes : List ℕ) → IsText bytes 0 [] → AreStringItems bytes []
-  refused : (bytes : List ℕ) (error : ElfError) → bytes ≢ [] → TextRefused bytes 0 error → AreStringItems bytes (Err error ∷ [])
+  failed : (bytes : List ℕ) (error : ElfError) → bytes ≢ [] → TextError bytes 0 error → AreStringItems bytes (Err error ∷ [])
   text : (first rest : List ℕ) (items : List (Result (List ℕ) ElfError)) → first ≢ []
       → IsText (first ++ (0 ∷ rest)) 0 first → AreStringItems rest items
       → AreStringItems (first ++ (0 ∷ rest)) (Ok first ∷ items)

@@ -3,7 +3,7 @@
 use Rattle.std.specs.Prelude.{◌≡◌, ◌≢◌, ℕ, ◌*◌, ◌%◌, ◌<◌, ◌==◌, ◌||◌, ◌⊎◌, nat_le, not, Bool, List, [], ◌∷◌, length, drop, take, codes, Result, Err, if◌then◌else◌}
 use Rattle.elf_base.specs.FileHeader.{file_order}
 use Rattle.elf_base.specs.Number.{number}
-use Rattle.elf_base.specs.Refusal.{and_then, unless}
+use Rattle.elf_base.specs.FirstError.{and_then, unless}
 use Rattle.elf_records.specs.declared.sections.ShType.TheVariants.{SymTabShIndex}
 use Rattle.elf_base.specs.declared.error.ElfError.TheVariants.{ExpectedShIndex, NoShIndex, NotMultiple, ReservedSymbolIndex, SymbolIndex}
 use Rattle.xmas_elf.specs.Prelude.{ElfError, ElfFile, SectionHeader}

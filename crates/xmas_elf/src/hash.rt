@@ -26,7 +26,7 @@ pub struct HashTable<'a> {
 }
 
 impl<'a> HashTable<'a> {
-    ghost use Rattle.xmas_elf.specs.HashTable.{Halts, HasBucket, HasChain, StandsAt, Walks};
+    ghost use Rattle.xmas_elf.specs.HashTable.{Halts, HasBucket, HasChain, IsFoundAt, FollowsChain};
     ghost use Rattle.xmas_elf.specs.HashTable.{bucket_count_of, bucket_of, chain_count_of};
     ghost use Rattle.xmas_elf.specs.HashTable.{chain_of, chains_of, hash_bytes, hash_data};
     ghost use Rattle.xmas_elf.specs.HashTable.{hash_order, hash_word, start_of, word_of};
@@ -122,7 +122,7 @@ impl<'a> HashTable<'a> {
     ) -> Result<E, ElfError>
         requires { 0 < index }
         ensures { let chains = chains_of self.now (table_symbols symbols.now).items in MatchResult result
-            (λ entry. StandsAt chains index entry × (passed < chains.count)
+            (λ entry. IsFoundAt chains index entry × (passed < chains.count)
             × (passed < length chains.symbols) × (passed + 1 < 2 ^ 32) × (index < 2 ^ 32))
             (Halts chains passed index) }
     {
@@ -143,7 +143,7 @@ impl<'a> HashTable<'a> {
     // A pass along a chain from an index on: the first symbol for which the test is true, with
     // its index; `None` if the chain ends before one; or the error where it stops. And the number
     // of symbols tested.
-    fn walk<E: Entry + Record, F: Fn(&(u32, E)) -> bool>(
+    fn follow_chain<E: Entry + Record, F: Fn(&(u32, E)) -> bool>(
         &self,
         first: u32,
         symbols: &SymbolTable<'_, E>,
@@ -154,7 +154,7 @@ impl<'a> HashTable<'a> {
             → F.pre stops at }
         ensures in_chains { result.1 ≤ chain_count_of self.now }
         ensures in_symbols { result.1 ≤ length (table_symbols symbols.now).items }
-        ensures answer { Walks (λ at. FnReturnsAt F.Fn stops at true)
+        ensures answer { FollowsChain (λ at. FnReturnsAt F.Fn stops at true)
             (λ at. (at.0 < 2 ^ 32) × FnReturnsAt F.Fn stops at false)
             (chains_of self.now (table_symbols symbols.now).items) first result.0 result.1 }
     {

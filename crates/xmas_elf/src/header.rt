@@ -3,7 +3,7 @@
 ghost use Rattle.std.specs.Prelude.{◌≡◌, ◌≢◌, ◌≤◌, ◌==◌, [], ◌∷◌, OnOk, if◌then◌else◌, length, nat_lt};
 ghost use Rattle.std.specs.Option.{option_map_or};
 ghost use Rattle.elf_base.specs.FileHeader.{class_number, file_class, header_fields};
-ghost use Rattle.elf_base.specs.Refusal.{unless};
+ghost use Rattle.elf_base.specs.FirstError.{unless};
 ghost use Rattle.elf_base.specs.declared.error.ElfError.{ElfError};
 ghost use Rattle.xmas_elf.specs.Checks.{header_check};
 ghost use Rattle.xmas_elf.specs.HeaderTable.{entry_place};

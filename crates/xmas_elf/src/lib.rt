@@ -60,7 +60,7 @@ impl<'a> ElfFile<'a> {
         ensures input { IfOk result (λ file. file.input ≡ input.entry) }
         ensures value { IfOk result (λ file. file.header ≡ file_header input.now) }
         ensures header { IfOk result (λ file. header_of input.now ≡ Ok file.header) }
-        ensures refused { IfErr result (λ error. header_of input.now ≡ Err error) }
+        ensures failed { IfErr result (λ error. header_of input.now ≡ Err error) }
     {
         let header = parse_header(input)?;
         Ok(Self { input, header })

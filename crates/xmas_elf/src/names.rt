@@ -3,7 +3,7 @@
 
 ghost use Rattle.std.specs.Prelude.{◌≡◌, ◌↔◌, ◌+◌, ◌≤◌, Err, IfNone, IfOk, IfSome, IsTrue};
 ghost use Rattle.std.specs.Prelude.{Ok, length, ℕ};
-ghost use Rattle.elf_base.specs.Lent.{Answers, Lends};
+ghost use Rattle.elf_base.specs.Lent.{Answers, IfPart};
 ghost use Rattle.elf_base.specs.Text.{lent_text};
 ghost use Rattle.xmas_elf.specs.HeaderTable.{EachBelow};
 ghost use Rattle.xmas_elf.specs.NameTable.{HasName, FindsNamed, IsFirstNamed, IsNameAt};
@@ -26,7 +26,7 @@ impl<'a> ElfFile<'a> {
     #[tactic(auto, unfolding(crate::specs::NameTable::shstr_of))]
     #[inline(always)]
     pub fn get_shstr(&self, index: u32) -> Result<&'a str, ElfError>
-        ensures name { Lends (IsNameAt self.now index) result }
+        ensures name { IfPart (IsNameAt self.now index) result }
         ensures exact { Answers (shstr_of self.now index) result }
     {
         text_at(self.name_table()?, index as usize)
@@ -39,7 +39,7 @@ impl<'a> ElfFile<'a> {
     #[tactic(auto, unfolding(crate::specs::NameTable::shstr_bytes_of, crate::specs::NameTable::shstr_of))]
     #[inline(always)]
     pub fn get_shstr_bytes(&self, index: u32) -> Result<&'a [u8], ElfError>
-        ensures bytes { Lends (IsNameBytesAt self.now index) result }
+        ensures bytes { IfPart (IsNameBytesAt self.now index) result }
         ensures place { IfOk result (LiesAsName self.now index) }
         ensures as_text { shstr_of self.now index ≡ lent_text result }
         ensures exact { Answers (shstr_bytes_of self.now index) result }
@@ -54,7 +54,7 @@ impl<'a> ElfFile<'a> {
     /// "Sections", sh_name).
     #[inline(always)]
     pub fn section_name(&self, section: &SectionHeader) -> Result<&'a [u8], ElfError>
-        ensures bytes { Lends (IsNameBytesAt self.now (section_fields section.now).name) result }
+        ensures bytes { IfPart (IsNameBytesAt self.now (section_fields section.now).name) result }
         ensures place { IfOk result (LiesAsName self.now (section_fields section.now).name) }
         ensures exact { Answers
             (shstr_bytes_of self.now (section_fields section.now).name) result }
@@ -90,7 +90,7 @@ impl<'a> ElfFile<'a> {
     #[tactic(auto, unfolding(crate::specs::NameTable::name_table_of))]
     #[inline(always)]
     pub(crate) fn name_table(&self) -> Result<&'a [u8], ElfError>
-        ensures table { Lends (IsNameTable self.now) result }
+        ensures table { IfPart (IsNameTable self.now) result }
         ensures place { IfOk result (LiesAsNameTable self.now) }
         ensures exact { Answers (name_table_of self.now) result }
     {

@@ -2,7 +2,7 @@
 
 ghost use Rattle.std.specs.Prelude.{◌≡◌, ◌↔◌, ◌+◌, ◌≤◌, ◌<◌};
 ghost use Rattle.std.specs.Prelude.{IfOk, IsOk, IsTrue, MatchOption, length, ℕ};
-ghost use Rattle.elf_base.specs.Lent.{Answers, Lends, LiesAt};
+ghost use Rattle.elf_base.specs.Lent.{Answers, IfPart, LiesAt};
 ghost use Rattle.xmas_elf.specs.HeaderTable.{entry_place};
 ghost use Rattle.xmas_elf.specs.Ranges.{IsRange, range_of};
 
@@ -30,7 +30,7 @@ pub(crate) fn ends_inside(input: &[u8], start: u64, count: u64) -> bool
 #[inline(always)]
 pub(crate) fn range_at(input: &[u8], start: u64, count: u64) -> Result<&[u8], ElfError>
     ensures within { IsOk result ↔ (start + count ≤ length input.now) }
-    ensures range { Lends (IsRange input.now start count) result }
+    ensures range { IfPart (IsRange input.now start count) result }
     ensures place { IfOk result (LiesAt input.entry start) }
     ensures exact { Answers (range_of input.now start count) result }
 {

@@ -2,7 +2,7 @@
 
 ghost use Rattle.std.specs.Prelude.{◌≡◌, Some, OnOk, IfErr};
 ghost use Rattle.xmas_elf.specs.NameTable.{name_of};
-ghost use Rattle.xmas_elf.specs.Report.{AppendsReport, RefusesExactly, WritesNothing, WritesReport};
+ghost use Rattle.xmas_elf.specs.Report.{AppendsReport, FailsExactly, WritesNothing, WritesReport};
 ghost use Rattle.xmas_elf.specs.Report.{check_line, fault_text, hash_line, name_text, report_text};
 ghost use Rattle.xmas_elf.specs.Report.{section_line, section_lines, segment_line, segment_lines};
 ghost use Rattle.xmas_elf.specs.Report.{verdict_text};
@@ -218,7 +218,7 @@ impl Display for FileReport<'_, '_> {
 /// memory. As in std's `write_all`, interrupted writes are retried, and a write of 0 bytes fails.
 pub fn report<W: io::Write>(input: &[u8], w: &mut W) -> Result<(), ReportFault>
     ensures written { OnOk result (WritesReport input.entry (W.contents w.old) (W.contents w.new)) }
-    ensures refused { RefusesExactly input.now result }
+    ensures failed { FailsExactly input.now result }
     ensures untouched { IfErr result (λ fault. WritesNothing fault w.old w.new) }
 {
     report_with(input, w, &mut [])
@@ -235,7 +235,7 @@ pub fn report_with<W: io::Write>(
     words: &mut [u32],
 ) -> Result<(), ReportFault>
     ensures written { OnOk result (WritesReport input.entry (W.contents w.old) (W.contents w.new)) }
-    ensures refused { RefusesExactly input.now result }
+    ensures failed { FailsExactly input.now result }
     ensures untouched { IfErr result (λ fault. WritesNothing fault w.old w.new) }
 {
     match ElfFile::new(input) {

@@ -1,7 +1,7 @@
 //! The string tables of symbols, found by name, and their texts (gABI, "String Table").
 
 ghost use Rattle.std.specs.Prelude.{IfOk, codes};
-ghost use Rattle.elf_base.specs.Lent.{Answers, Lends};
+ghost use Rattle.elf_base.specs.Lent.{Answers, IfPart};
 ghost use Rattle.xmas_elf.specs.Place.{LiesAsNamed};
 ghost use Rattle.xmas_elf.specs.StringTables.{IsDynString, IsDynstr, IsString, IsStrtab};
 ghost use Rattle.xmas_elf.specs.StringTables.{dyn_string_of, dynstr_of, string_of, strtab_of};
@@ -22,7 +22,7 @@ impl<'a> ElfFile<'a> {
     /// section once, and call `bytes::text_at` on it.
     #[tactic(auto, unfolding(crate::specs::StringTables::string_of))]
     pub fn get_string(&self, index: u32) -> Result<&'a str, ElfError>
-        ensures text { Lends (IsString self.now index) result }
+        ensures text { IfPart (IsString self.now index) result }
         ensures exact { Answers (string_of self.now index) result }
     {
         text_at(self.strtab()?, index as usize)
@@ -35,7 +35,7 @@ impl<'a> ElfFile<'a> {
     /// section, of any type, extends past the end of the input; those of `bytes::text_at`.
     #[tactic(auto, unfolding(crate::specs::StringTables::dyn_string_of))]
     pub fn get_dyn_string(&self, index: u32) -> Result<&'a str, ElfError>
-        ensures text { Lends (IsDynString self.now index) result }
+        ensures text { IfPart (IsDynString self.now index) result }
         ensures exact { Answers (dyn_string_of self.now index) result }
     {
         text_at(self.dynstr()?, index as usize)
@@ -44,7 +44,7 @@ impl<'a> ElfFile<'a> {
     // The data of `.strtab`.
     #[tactic(auto, unfolding(crate::specs::StringTables::strtab_of))]
     pub(crate) fn strtab(&self) -> Result<&'a [u8], ElfError>
-        ensures table { Lends (IsStrtab self.now) result }
+        ensures table { IfPart (IsStrtab self.now) result }
         ensures place { IfOk result (LiesAsNamed self.now (codes ".strtab")) }
         ensures exact { Answers (strtab_of self.now) result }
     {
@@ -60,7 +60,7 @@ impl<'a> ElfFile<'a> {
     // The data of `.dynstr`, of any type.
     #[tactic(auto, unfolding(crate::specs::StringTables::dynstr_of))]
     pub(crate) fn dynstr(&self) -> Result<&'a [u8], ElfError>
-        ensures table { Lends (IsDynstr self.now) result }
+        ensures table { IfPart (IsDynstr self.now) result }
         ensures place { IfOk result (LiesAsNamed self.now (codes ".dynstr")) }
         ensures exact { Answers (dynstr_of self.now) result }
     {

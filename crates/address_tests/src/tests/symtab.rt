@@ -51,7 +51,7 @@ fn is_the_first_of_its_type(rt: HostRuntime) -> Result<(), Fail> {
 }
 
 // A field of the symbol table's header, and the error with this value.
-const REFUSED: &[(Place, u64, ElfError)] = &[
+const FAILED: &[(Place, u64, ElfError)] = &[
     (section_64::SIZE, 47, ElfError::NotMultiple),
     (section_64::OFFSET, 536, ElfError::DataRange),
     (section_64::LINK, 9, ElfError::ShortSectionHeader),
@@ -59,7 +59,7 @@ const REFUSED: &[(Place, u64, ElfError)] = &[
 
 #[test]
 fn errors(rt: HostRuntime) -> Result<(), Fail> {
-    for &(field, value, error) in REFUSED {
+    for &(field, value, error) in FAILED {
         let mut bytes = linked_file();
         set(&mut bytes, TABLE, field, value, LITTLE);
         let file = ElfFile::new(&bytes)?;

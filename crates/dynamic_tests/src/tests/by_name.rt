@@ -41,7 +41,7 @@ fn tries_no_other_version(rt: HostRuntime) {
 
 // The first bucket leads to no symbol, which is found whichever the name is.
 #[test]
-fn refuses_a_defined_symbol_as_the_check_does(rt: HostRuntime) -> Result<(), LinkError> {
+fn rejects_a_defined_symbol_as_the_check_does(rt: HostRuntime) -> Result<(), LinkError> {
     let file = open(&rt, SMALL);
     let object = DynamicObject::<DynEntry64>::read(&file)?;
     let found = object

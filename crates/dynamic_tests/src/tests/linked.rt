@@ -131,13 +131,13 @@ fn names_symbols_by_the_dynamic_segment(rt: HostRuntime) -> Result<(), LinkError
 
 // Changes of the file of class 64 with a table of the standard, whose dynamic entries begin at
 // 0x250; then why it has no symbols without names, and why none with them.
-type SymbolRefusal<'a> = (&'a [(usize, u8)], Option<LinkError>, Option<LinkError>);
+type SymbolError<'a> = (&'a [(usize, u8)], Option<LinkError>, Option<LinkError>);
 
 const NO_ENTRY: Option<LinkError> = Some(LinkError::NoEntry);
 
 const ADDRESS: Option<LinkError> = Some(LinkError::Address);
 
-const SYMBOL_REFUSALS: &[SymbolRefusal<'static>] = &[
+const SYMBOL_FAILURES: &[SymbolError<'static>] = &[
     (&[], None, None),
     // d_tag and d_un of the entry SymTab
     (&[(0x2a0, 0x15)], NO_ENTRY, NO_ENTRY),
@@ -155,17 +155,17 @@ const SYMBOL_REFUSALS: &[SymbolRefusal<'static>] = &[
 
 #[test]
 fn tells_why_there_are_no_symbols(rt: HostRuntime) -> Result<(), LinkError> {
-    for (row, &(changes, nameless, named)) in SYMBOL_REFUSALS.iter().enumerate() {
+    for (row, &(changes, nameless, named)) in SYMBOL_FAILURES.iter().enumerate() {
         let mut bytes = *SMALL;
         for &(place, byte) in changes {
             put(&mut bytes, place, &[byte]);
         }
         let file = open(&rt, &bytes);
         let view = DynamicView::read(&file)?;
-        let refused = view.records::<DynEntry64>(&file).err();
-        want_at(&rt, row, refused, nameless);
-        let refused = view.symbols::<DynEntry64>(&file).err();
-        want_at(&rt, row, refused, named);
+        let failed = view.records::<DynEntry64>(&file).err();
+        want_at(&rt, row, failed, nameless);
+        let failed = view.symbols::<DynEntry64>(&file).err();
+        want_at(&rt, row, failed, named);
     }
     Ok(())
 }
@@ -199,8 +199,8 @@ fn reads_a_table_of_the_standard(rt: HostRuntime) -> Result<(), LinkError> {
     let table = view.hash_table(&file)?;
     want(&rt, table.chain_count(), 5);
     want(&rt, table.check_in(&symbols), Ok(()));
-    let refused = view.gnu_hash_table(&file).err();
-    want(&rt, refused, Some(LinkError::NoEntry));
+    let failed = view.gnu_hash_table(&file).err();
+    want(&rt, failed, Some(LinkError::NoEntry));
     Ok(())
 }
 
@@ -241,7 +241,7 @@ fn finds_values_by_a_table_of_the_standard(rt: HostRuntime) {
     }
 }
 
-const REFUSALS: &[(usize, u8, LinkError)] = &[
+const FAILURES: &[(usize, u8, LinkError)] = &[
     (0, 0, LinkError::Elf(ElfError::NoMagic)),
     // p_type of the dynamic segment, then of the first that is loaded
     (64 + 112, 4, LinkError::NoDynamic),
@@ -256,11 +256,11 @@ const REFUSALS: &[(usize, u8, LinkError)] = &[
     (0x128, 5, LinkError::Elf(ElfError::ChainIndex)),
 ];
 
-// Each refusal: the place of a byte in the file of class 64 with a table of the standard, what is
+// Each failure: the place of a byte in the file of class 64 with a table of the standard, what is
 // put there, and what is answered then.
 #[test]
 fn tells_why_no_value_is_found(rt: HostRuntime) {
-    for &(place, byte, error) in REFUSALS {
+    for &(place, byte, error) in FAILURES {
         let mut bytes = *SMALL;
         put(&mut bytes, place, &[byte]);
         want_at(&rt, place, value_by_name(&bytes, "ab"), Err(error));

@@ -31,8 +31,8 @@ fn check(
         want_at(rt, row, said_by(&mut notes), Some(*wanted));
     }
     if let Some(fault) = fault {
-        let refused = notes.next().and_then(|note| note.err());
-        want_at(rt, row, refused, Some(fault));
+        let failed = notes.next().and_then(|note| note.err());
+        want_at(rt, row, failed, Some(fault));
     }
     want_at(rt, row, notes.next().is_none(), true);
     want_at(rt, row, notes.next().is_none(), true);

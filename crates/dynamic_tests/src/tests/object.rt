@@ -131,8 +131,8 @@ fn has_the_parts_of_the_dynamic_segment(rt: HostRuntime) -> Result<(), LinkError
     check_parts::<DynEntry64>(&rt, SMALL)
 }
 
-// The error with which a file is refused, by the class that it is read as.
-fn refusal(rt: &impl Abort, bytes: &[u8], class: u8) -> Option<LinkError> {
+// The error of a file, by the class that it is read as.
+fn failure(rt: &impl Abort, bytes: &[u8], class: u8) -> Option<LinkError> {
     let file = open(rt, bytes);
     if class == 1 {
         DynamicObject::<DynEntry32>::read(&file).err()
@@ -144,9 +144,9 @@ fn refusal(rt: &impl Abort, bytes: &[u8], class: u8) -> Option<LinkError> {
 // A place in a file, and the byte there.
 type Change = (usize, u8);
 
-// Changes of the file of class 64 with versions, the class that it is read as, and the refusal. Its
+// Changes of the file of class 64 with versions, the class that it is read as, and the failure. Its
 // program headers begin at 0x40, its dynamic entries at 0x310.
-const REFUSALS: &[(&[Change], u8, Option<LinkError>)] = &[
+const FAILURES: &[(&[Change], u8, Option<LinkError>)] = &[
     (&[], 2, None),
     // p_type of the dynamic segment
     (&[(0xb0, 4)], 2, Some(LinkError::NoDynamic)),
@@ -175,30 +175,30 @@ const REFUSALS: &[(&[Change], u8, Option<LinkError>)] = &[
 ];
 
 #[test]
-fn refuses_with_the_first_error(rt: HostRuntime) {
-    for (row, &(changes, class, error)) in REFUSALS.iter().enumerate() {
+fn rejects_with_the_first_error(rt: HostRuntime) {
+    for (row, &(changes, class, error)) in FAILURES.iter().enumerate() {
         let mut bytes = *WIDE;
         for &(place, byte) in changes {
             put(&mut bytes, place, &[byte]);
         }
-        want_at(&rt, row, refusal(&rt, &bytes, class), error);
+        want_at(&rt, row, failure(&rt, &bytes, class), error);
         if class == 2 && error.is_some() {
             want_at(&rt, row, value_by_name(&bytes, "ab").err(), error);
         }
     }
 }
 
-// With tables of both kinds GNU's is refused before the symbols are, which are counted by the other.
+// With tables of both kinds GNU's has an error before the symbols are, which are counted by the other.
 #[test]
-fn refuses_the_hash_table_before_the_symbols(rt: HostRuntime) {
+fn rejects_the_hash_table_before_the_symbols(rt: HostRuntime) {
     let mut bytes = *SMALL;
     put(&mut bytes, 0x2f0, &[0xf5, 0xfe, 0xff, 0x6f]);
-    want(&rt, refusal(&rt, &bytes, 2), Some(LinkError::BloomCount));
+    want(&rt, failure(&rt, &bytes, 2), Some(LinkError::BloomCount));
     put(&mut bytes, 0x2a0, &[0x15]);
-    want(&rt, refusal(&rt, &bytes, 2), Some(LinkError::BloomCount));
+    want(&rt, failure(&rt, &bytes, 2), Some(LinkError::BloomCount));
     let mut bytes = *SMALL;
     put(&mut bytes, 0x2a0, &[0x15]);
-    want(&rt, refusal(&rt, &bytes, 2), Some(LinkError::NoEntry));
+    want(&rt, failure(&rt, &bytes, 2), Some(LinkError::NoEntry));
 }
 
 // A name that begins past the end of the string table: its size is in the entry StrSize.

@@ -92,7 +92,7 @@ const COUNTS: &[(usize, Class, Result<usize, LinkError>)] = &[
 ];
 
 #[test]
-fn data_that_is_no_words_is_refused(rt: HostRuntime) {
+fn data_that_is_no_words_is_an_error(rt: HostRuntime) {
     let bytes = [0; 12];
     for &(len, class, answer) in COUNTS {
         let found = relocation_count(&bytes[..len], class, LITTLE);

@@ -72,8 +72,8 @@ fn packed_relocations_need_a_class(rt: HostRuntime) -> Result<(), ElfError> {
     let file = open(&rt, &bytes);
     let section = file.section_header(1)?;
     let classless = section_relr(&with_class(&file, 0), &section);
-    let refusal = classless.and_then(|relr| relr.err());
-    want(&rt, refusal, Some(LinkError::UnknownClass));
+    let failure = classless.and_then(|relr| relr.err());
+    want(&rt, failure, Some(LinkError::UnknownClass));
     want(&rt, section_gnu_hash(&file, &section).is_none(), true);
     Ok(())
 }

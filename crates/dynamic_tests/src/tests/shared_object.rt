@@ -56,7 +56,7 @@ fn finds_each<E: Entry + Record>(
 }
 
 // Wants each exported name and no other of the table, and of the table with any one byte changed
-// each exported name or a refusal.
+// each exported name or a failure.
 fn check_table<E: Entry + Record>(
     rt: &impl Abort,
     bytes: &[u8],

@@ -102,7 +102,7 @@ fn reads_the_symbols_of_a_file(rt: HostRuntime) {
 }
 
 // A change of a byte of a section header, and the error.
-const REFUSED: &[(usize, &[u8], LinkError)] = rows! {
+const FAILED: &[(usize, &[u8], LinkError)] = rows! {
     // sh_size of `.symtab`: not whole records, and past the end
     12 * 64 + 32, &[1], LinkError::Elf(ElfError::NotMultiple);
     12 * 64 + 34, &[1], LinkError::Elf(ElfError::DataRange);
@@ -113,7 +113,7 @@ const REFUSED: &[(usize, &[u8], LinkError)] = rows! {
 
 #[test]
 fn tells_why_a_file_has_no_symbols(rt: HostRuntime) {
-    for &(place, change, error) in REFUSED {
+    for &(place, change, error) in FAILED {
         let mut bytes = *IMPORTER;
         put(&mut bytes, 1352usize.wrapping_add(place), change);
         let found = FileSymbols::read(&open(&rt, &bytes)).err();

@@ -319,9 +319,9 @@ fn tells_the_version_of_a_symbol(rt: HostRuntime) -> Result<(), LinkError> {
     Ok(())
 }
 
-// Changed fields behind the start of the definitions, where the needs begin at 88, and what bears
+// Changed fields behind the start of the definitions, where the needs begin at 88, and what has
 // the number 2 of symbol 2 then.
-const BEARERS: &[(&[Field], Result<Option<&str>, LinkError>)] = &[
+const VERSIONED: &[(&[Field], Result<Option<&str>, LinkError>)] = &[
     // a base, and a need, with this number
     (&[(4, 2, 2)], Ok(Some("V1"))),
     (&[(110, 2, 2)], Ok(Some("V1"))),
@@ -347,8 +347,8 @@ const BEARERS: &[(&[Field], Result<Option<&str>, LinkError>)] = &[
 ];
 
 #[test]
-fn tells_what_bears_a_number(rt: HostRuntime) -> Result<(), LinkError> {
-    for (row, &(fields, name)) in BEARERS.iter().enumerate() {
+fn tells_what_has_a_number(rt: HostRuntime) -> Result<(), LinkError> {
+    for (row, &(fields, name)) in VERSIONED.iter().enumerate() {
         for &(class, order) in KINDS {
             let mut bytes = version_file(class, order, ALL);
             set_fields(&mut bytes, DEFINITIONS, fields, order);
@@ -360,8 +360,8 @@ fn tells_what_bears_a_number(rt: HostRuntime) -> Result<(), LinkError> {
     Ok(())
 }
 
-// Dynamic entries, a number of symbols, and the refusal.
-const REFUSED: &[(&[(u64, u64)], u64, LinkError)] = rows! {
+// Dynamic entries, a number of symbols, and the failure.
+const FAILED: &[(&[(u64, u64)], u64, LinkError)] = rows! {
     &[(0x6fff_fffc, 0x1208), (0x6fff_fffd, 1)], 8, LinkError::Address;
     &[(0x6fff_fffe, 0xfff), (0x6fff_ffff, 1)], 8, LinkError::Address;
     &[(0x6fff_fff0, 0xfff), (0x6fff_fffe, 0x11b8)], 8, LinkError::Address;
@@ -372,7 +372,7 @@ const REFUSED: &[(&[(u64, u64)], u64, LinkError)] = rows! {
 
 #[test]
 fn tells_why_no_tables_are_read(rt: HostRuntime) {
-    for (row, &(entries, count, error)) in REFUSED.iter().enumerate() {
+    for (row, &(entries, count, error)) in FAILED.iter().enumerate() {
         for &(class, order) in KINDS {
             let bytes = version_file(class, order, entries);
             want_at(&rt, row, read(&rt, &bytes, count).err(), Some(error));

@@ -76,6 +76,6 @@ fn tells_what_no_dynamic_segment_is(rt: HostRuntime) {
     set(&mut bytes, DYNAMIC_HEADER, program_32::TYPE, 4, LITTLE);
     let file = open(&rt, &bytes);
     want(&rt, strings(&file), Err(LinkError::NoDynamic));
-    let refused = DynamicView::read(&file).err();
-    want(&rt, refused, Some(LinkError::NoDynamic));
+    let failed = DynamicView::read(&file).err();
+    want(&rt, failed, Some(LinkError::NoDynamic));
 }

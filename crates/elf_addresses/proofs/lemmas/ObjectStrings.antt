@@ -1,6 +1,6 @@
 -- The string table of a file from which an object was read.
 use Rattle.std.proofs.Common.{◌≡◌, ℕ, Option, Ok, ap, ◌∙◌}
-use Rattle.elf_base.specs.Refusal.{and_then}
+use Rattle.elf_base.specs.FirstError.{and_then}
 use Rattle.elf_linking.specs.DynamicObject.{IsObjectFor}
 use Rattle.elf_linking.specs.DynamicView.{dynamic_strings_of, strings_by}
 use Rattle.elf_linking.specs.declared.object.DynamicObject.{DynamicObject}

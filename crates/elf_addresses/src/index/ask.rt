@@ -3,7 +3,7 @@
 ghost use Rattle.std.specs.Prelude.{◌≡◌, ◌≤◌, ◌<◌, ◌+◌, ℕ, Bool, true, false, max, length, nat_le, slice_get, slice_index, IfSome, Some};
 ghost use Rattle.elf_addresses.specs.Claims.{Among, Covers, IsForemost, begins_nearer};
 ghost use Rattle.elf_addresses.specs.Claims.{comes_before};
-ghost use Rattle.elf_addresses.specs.Index.{AreLasting, AreRanges, IsKind, IsKnownIn, IsWorstFirst, StandsAt};
+ghost use Rattle.elf_addresses.specs.Index.{AreLasting, AreRanges, IsKind, IsKnownIn, IsWorstFirst, IsFoundAt};
 ghost use Rattle.elf_addresses.specs.declared.claim.Claim.{Claim};
 
 use crate::claim::Claim;
@@ -69,7 +69,7 @@ pub(crate) fn over<C: Claims>(claims: &C, starts: &[u32], address: u64) -> Optio
 fn known_covering<C: Claims>(claims: &C, words: &[u32], place: usize, address: u64) -> Option<Claim>
     ensures covers { IfSome result (λ claim. Covers claim address) }
     ensures listed { IfSome result (IsKnownIn (C.known_of claims.now) words.now) }
-    ensures known { (claim : Claim) → StandsAt (C.claim_of claims.now) words.now place claim
+    ensures known { (claim : Claim) → IsFoundAt (C.claim_of claims.now) words.now place claim
         → Covers claim address → result ≡ Some claim }
 {
     match index_at(words, place) {

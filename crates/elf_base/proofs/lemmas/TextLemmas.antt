@@ -4,14 +4,14 @@ use Rattle.std.proofs.lemmas.Bool.{eqb-true, eqb-false}
 use Rattle.std.specs.Prelude.{IsErrOf, IsOkAnd}
 use Rattle.std.specs.Str.{IsUtf8, is_utf8}
 use Rattle.std.proofs.lemmas.Str.{IsUtf8-from_is_utf8, is_utf8-from_IsUtf8}
-use Rattle.elf_base.specs.Refusal.{and_then, unless}
+use Rattle.elf_base.specs.FirstError.{and_then, unless}
 use Rattle.elf_base.specs.Lent.{Answers}
 use Rattle.elf_base.specs.Text.{EndsInZero, IsText, TextIfUtf8, as_text, before_zero, bytes_up_to_zero_of, lent_text, text_of}
 use Rattle.elf_base.specs.declared.error.ElfError.{ElfError}
 use Rattle.elf_base.specs.declared.error.ElfError.TheVariants.{TextStart, TextEnd, TextUtf8}
 use Rattle.elf_base.proofs.Texts
 -- the bytes up to a zero byte are those computed, and so are the reasons why there are none, and why there is no text
-pub use Rattle.elf_base.proofs.Texts.{bytes-ended, bytes-refused, text_of-refused}
+pub use Rattle.elf_base.proofs.Texts.{bytes-ended, bytes-failed, text_of-failed}
 
 -- a byte other than zero before a text without a zero byte
 no_zero_before : (byte : ℕ) (text : List ℕ) → byte ≢ 0 → ((k : ℕ) → k < length text → slice_index text k ≢ 0) → (k : ℕ) → k < length (byte ∷ text) → slice_index (byte ∷ text) k ≢ 0
@@ -89,18 +89,18 @@ pub not_utf8-text : (bytes : List ℕ) → (IsUtf8 bytes → ⊥) → as_text by
 not_utf8-text bytes never = rw (Texts.not_utf8 bytes (is_utf8 bytes) refl never) refl
 
 -- only the returned bytes have the property, so that an error means that no bytes have it
-abbrev pub LendsOnly : (List ℕ → Type 0) → Result (Bor (List ℕ)) ElfError → Type 0
-LendsOnly Is result = (part : List ℕ) → Is part → IsOkAnd result (λ lent. lent.now ≡ part)
+abbrev pub IfOnlyPart : (List ℕ → Type 0) → Result (Bor (List ℕ)) ElfError → Type 0
+IfOnlyPart Is result = (part : List ℕ) → Is part → IsOkAnd result (λ lent. lent.now ≡ part)
 
 -- that is so if only the computed bytes have it
-pub lends_only : (Is : List ℕ → Type 0) (answer : Result (List ℕ) ElfError) (r : Result (Bor (List ℕ)) ElfError) → Answers answer r → ((part : List ℕ) → Is part → answer ≡ Ok part) → LendsOnly Is r
-lends_only Is answer (Ok lent) exact computed part is = let same = computed part is in cc
-lends_only Is answer (Err error) exact computed part is = let same = computed part is in absurd (cc)
+pub if_only_part : (Is : List ℕ → Type 0) (answer : Result (List ℕ) ElfError) (r : Result (Bor (List ℕ)) ElfError) → Answers answer r → ((part : List ℕ) → Is part → answer ≡ Ok part) → IfOnlyPart Is r
+if_only_part Is answer (Ok lent) exact computed part is = let same = computed part is in cc
+if_only_part Is answer (Err error) exact computed part is = let same = computed part is in absurd (cc)
 
 -- only the computed error is returned
-pub refuses_only : (answer : Result (List ℕ) ElfError) (r : Result (Bor (List ℕ)) ElfError) (why : ElfError) → Answers answer r → answer ≡ Err why → IsErrOf r why
-refuses_only answer (Ok lent) why exact refused = absurd (cc)
-refuses_only answer (Err error) why exact refused = cc
+pub fails_only : (answer : Result (List ℕ) ElfError) (r : Result (Bor (List ℕ)) ElfError) (why : ElfError) → Answers answer r → answer ≡ Err why → IsErrOf r why
+fails_only answer (Ok lent) why exact failed = absurd (cc)
+fails_only answer (Err error) why exact failed = cc
 
 -- the texts with a property are the returned bytes, if these are UTF-8 and their text is the computed one
 pub lent_texts : (Is : List ℕ → Type 0) (answer : Result (List ℕ) ElfError) (r : Result (Bor (List ℕ)) ElfError) → answer ≡ lent_text r → ((text : List ℕ) → answer ≡ Ok text → Is text) → ((text : List ℕ) → Is text → answer ≡ Ok text) → TextIfUtf8 Is r

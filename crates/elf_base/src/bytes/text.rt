@@ -2,8 +2,8 @@
 
 ghost use Rattle.std.specs.Prelude.{◌≡◌, ◌↔◌, ◌+◌, ◌<◌, ◌≤◌, Err, IfErr, IfOk, IsTrue};
 ghost use Rattle.std.specs.Prelude.{MatchResult, Ok, drop, length, take};
-ghost use Rattle.elf_base.specs.Lent.{Answers, Lends, LiesAt};
-ghost use Rattle.elf_base.specs.Text.{BytesRefused, EndsInZero, IsText, TextRefused};
+ghost use Rattle.elf_base.specs.Lent.{Answers, IfPart, LiesAt};
+ghost use Rattle.elf_base.specs.Text.{BytesError, EndsInZero, IsText, TextError};
 ghost use Rattle.elf_base.specs.Text.{bytes_up_to_zero_of, lent_text, text_of};
 ghost use Rattle.elf_base.specs.TextCompared.{FrontCompared, TextCompared};
 
@@ -16,9 +16,9 @@ use memchr::memchr;
 /// Errors: `TextStart` if `start` is past the end of `data`, `TextEnd` if no zero byte follows.
 #[inline(always)]
 pub fn bytes_up_to_zero(data: &[u8], start: usize) -> Result<&[u8], ElfError>
-    ensures bytes { Lends (EndsInZero «data».now start) result }
+    ensures bytes { IfPart (EndsInZero «data».now start) result }
     ensures place { IfOk result (LiesAt «data».entry start) }
-    ensures refused { IfErr result (BytesRefused «data».now start) }
+    ensures failed { IfErr result (BytesError «data».now start) }
     ensures as_text { text_of «data».now start ≡ lent_text result }
     ensures exact { Answers (bytes_up_to_zero_of «data».now start) result }
 {
@@ -38,8 +38,8 @@ pub fn bytes_up_to_zero(data: &[u8], start: usize) -> Result<&[u8], ElfError>
 /// `TextUtf8` if the bytes before it are not UTF-8.
 #[inline(always)]
 pub fn text_at(data: &[u8], start: usize) -> Result<&str, ElfError>
-    ensures text { Lends (IsText «data».now start) result }
-    ensures refused { IfErr result (TextRefused «data».now start) }
+    ensures text { IfPart (IsText «data».now start) result }
+    ensures failed { IfErr result (TextError «data».now start) }
     ensures exact { Answers (text_of «data».now start) result }
 {
     if start > data.len() {
@@ -93,7 +93,7 @@ pub fn text_is(data: &[u8], start: usize, text: &str) -> (bool, usize)
 /// without the number. The zero byte after the text is checked first, since it rules out most texts
 /// of other lengths; `text` is searched for a zero byte only if all else agrees.
 #[inline(always)]
-pub fn stands_at(data: &[u8], start: usize, text: &str) -> bool
+pub fn is_found_at(data: &[u8], start: usize, text: &str) -> bool
     ensures { IsTrue result ↔ IsText «data».now start text.now }
 {
     let wanted = text.as_bytes();

@@ -3,7 +3,7 @@
 ghost use Rattle.std.specs.Prelude.{◌≡◌, ◌↔◌, ◌<◌, ℕ, IfErr, IfOk, IsOkAnd};
 ghost use Rattle.std.specs.Prelude.{IsTrue, MatchOption, MatchResult, None, Option, Result, Some};
 ghost use Rattle.std.specs.Prelude.{slice_get, true};
-ghost use Rattle.elf_callers.specs.Linked.{AreLinked, IsFileValueOf, IsLinkRefused};
+ghost use Rattle.elf_callers.specs.Linked.{AreLinked, IsFileValueOf, IsLinkError};
 ghost use Rattle.elf_callers.specs.Linked.{NotLinked, symbols_in, table_in};
 ghost use Rattle.xmas_elf.specs.HashTable.{IsGood, hash_data, hash_order};
 ghost use Rattle.xmas_elf.specs.FileHeader.{header_of};
@@ -101,7 +101,7 @@ pub fn linked_tables<'a>(file: &ElfFile<'a>) -> Option<(HashTable<'a>, Table<'a,
 /// and an error where the file has no such tables or they fail the check.
 pub fn value_of_name(file: &ElfFile<'_>, name: &str) -> Result<Option<u64>, ElfError>
     ensures value { IfOk result (IsFileValueOf file.now name.now) }
-    ensures refused { IfErr result (IsLinkRefused file.now) }
+    ensures failed { IfErr result (IsLinkError file.now) }
 {
     let Some((table, symbols)) = linked_tables(file) else {
         return Err(ElfError::ShortData);
@@ -120,9 +120,9 @@ pub fn value_in_bytes(input: &[u8], name: &str) -> Result<Option<u64>, ElfError>
     ensures value { IfOk result (λ found. IsOkAnd (header_of input.now) (λ header.
         let file : ElfFile = record { input = input.entry; header = header } in
         IsFileValueOf file name.now found)) }
-    ensures refused { IfErr result (λ error. MatchResult (header_of input.now) (λ header.
+    ensures failed { IfErr result (λ error. MatchResult (header_of input.now) (λ header.
         let file : ElfFile = record { input = input.entry; header = header } in
-        IsLinkRefused file error) (λ why. why ≡ error)) }
+        IsLinkError file error) (λ why. why ≡ error)) }
 {
     let file = ElfFile::new(input)?;
     value_of_name(&file, name)

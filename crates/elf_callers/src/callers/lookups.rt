@@ -49,7 +49,7 @@ pub fn find_counted<E: Entry + Record, F: Fn(&E) -> bool>(
     requires callable { (e : Bor E) → Contains (table_items symbols.now) e.now → F.pre f e }
     requires decides { Decides (symbols_of E.fields E.text_in symbols.now file.now) F.Fn f }
     requires good { IsGood table.now (symbols_of E.fields E.text_in symbols.now file.now) }
-    ensures unrefused { IsOk result.0 }
+    ensures without_error { IsOk result.0 }
     ensures finds { let all = symbols_of E.fields E.text_in symbols.now file.now in
         FindsAll all name.now (IsMatch all F.Fn f name.now) result.0 }
     ensures counted { let all = symbols_of E.fields E.text_in symbols.now file.now in

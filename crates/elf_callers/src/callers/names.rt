@@ -1,6 +1,6 @@
 //! Callers that take names as bytes.
 
-ghost use Rattle.xmas_elf.specs.Lent.{Answers, Lends};
+ghost use Rattle.xmas_elf.specs.Lent.{Answers, IfPart};
 ghost use Rattle.xmas_elf.specs.NameTable.{HasName, name_of};
 
 use xmas_elf::sections::SectionHeader;
@@ -9,7 +9,7 @@ use xmas_elf::{ElfError, ElfFile};
 /// The name of a section by its bytes, where these are UTF-8: what `get_name` returns, with the
 /// same errors.
 pub fn name_by_bytes<'a>(file: &ElfFile<'a>, section: &SectionHeader) -> Result<&'a str, ElfError>
-    ensures name { Lends (HasName file.now section.now) result }
+    ensures name { IfPart (HasName file.now section.now) result }
     ensures exact { Answers (name_of file.now section.now) result }
 {
     let bytes = section.name_bytes(file)?;

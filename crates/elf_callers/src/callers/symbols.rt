@@ -100,7 +100,7 @@ pub fn name_bytes<E: Entry + Record>(
     symbols: Table<'_, E>,
 ) -> Result<u64, ElfError>
     ensures sum { IfOk result (IsNameTotal (symbols_of E.fields E.text_in symbols.entry file.now)) }
-    ensures refused { let all = symbols_of E.fields E.text_in symbols.entry file.now in
+    ensures failed { let all = symbols_of E.fields E.text_in symbols.entry file.now in
         IfErr result (λ _. (symbol : E) × IsFirstWithout (HasText all) all.items symbol) }
 {
     let named = SymbolTable::new(symbols, file);

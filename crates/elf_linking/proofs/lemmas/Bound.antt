@@ -5,7 +5,7 @@ use Rattle.std.specs.Prelude.{IfSome}
 use Rattle.elf_linking.specs.DynamicObject.{object_view}
 use Rattle.elf_linking.specs.DynamicView.{is_symbolic, view_entries}
 use Rattle.elf_linking.specs.Find.{DynamicSymbols, IsFound}
-use Rattle.elf_linking.specs.Scope.{IsBoundFor, ComesBefore, Gives, GivesAt, IsBound, IsFirstGiven, IsProtectedBound, IsReferenceBound, NoneBefore, asked, asked_of, at_home, elsewhere, fails, given, lacks, nowhere, passed_over, refused, serves, serves_none, undefined, unfound, unread}
+use Rattle.elf_linking.specs.Scope.{IsBoundFor, ComesBefore, Gives, GivesAt, IsBound, IsFirstGiven, IsProtectedBound, IsReferenceBound, NoneBefore, asked, asked_of, at_home, elsewhere, fails, given, lacks, nowhere, passed_over, failed, serves, serves_none, undefined, unfound, unread}
 use Rattle.elf_linking.specs.Serves.{if_serving}
 use Rattle.elf_linking.specs.VersionTables.{result_map}
 use Rattle.elf_linking.specs.declared.error.LinkError.{LinkError}
@@ -75,13 +75,13 @@ module _ {E : Type 0} (AtIndex : ℕ → Result (Option (ℕ × E)) LinkError �
   pub first_once : (a b : Result (Option (Bound E)) LinkError) → IsFirstGiven AtIndex count symbolic from a → IsFirstGiven AtIndex count symbolic from b → a ≡ b
   first_once _ _ (given x below none gives) (given y below' none' gives') = same_first x.object y.object (Ok (Some (x.index, x.symbol))) (Ok (Some (y.index, y.symbol))) gives gives' (λ same. cc) (λ same. cc) none none'
   first_once _ _ (given x below none gives) (nowhere all) = absurd (never_none x.object _ gives (λ same. cc) (all x.object below))
-  first_once _ _ (given x below none gives) (refused j error below' none' gives') = same_first x.object j (Ok (Some (x.index, x.symbol))) (Err error) gives gives' (λ same. cc) (λ same. cc) none none'
+  first_once _ _ (given x below none gives) (failed j error below' none' gives') = same_first x.object j (Ok (Some (x.index, x.symbol))) (Err error) gives gives' (λ same. cc) (λ same. cc) none none'
   first_once _ _ (nowhere all) (given y below' none' gives') = absurd (never_none y.object _ gives' (λ same. cc) (all y.object below'))
   first_once _ _ (nowhere all) (nowhere all') = refl
-  first_once _ _ (nowhere all) (refused j error below' none' gives') = absurd (never_none j _ gives' (λ same. cc) (all j below'))
-  first_once _ _ (refused i error below none gives) (given y below' none' gives') = same_first i y.object (Err error) (Ok (Some (y.index, y.symbol))) gives gives' (λ same. cc) (λ same. cc) none none'
-  first_once _ _ (refused i error below none gives) (nowhere all) = absurd (never_none i _ gives (λ same. cc) (all i below))
-  first_once _ _ (refused i error below none gives) (refused j other below' none' gives') = same_first i j (Err error) (Err other) gives gives' (λ same. cc) (λ same. cc) none none'
+  first_once _ _ (nowhere all) (failed j error below' none' gives') = absurd (never_none j _ gives' (λ same. cc) (all j below'))
+  first_once _ _ (failed i error below none gives) (given y below' none' gives') = same_first i y.object (Err error) (Ok (Some (y.index, y.symbol))) gives gives' (λ same. cc) (λ same. cc) none none'
+  first_once _ _ (failed i error below none gives) (nowhere all) = absurd (never_none i _ gives (λ same. cc) (all i below))
+  first_once _ _ (failed i error below none gives) (failed j other below' none' gives') = same_first i j (Err error) (Err other) gives gives' (λ same. cc) (λ same. cc) none none'
 
 -- what a reference to a protected symbol gets, if each look-up has only one result
 module _ {E : Type 0} (Finds : uses.Use → Result (Option (Bound E)) LinkError → Type 0) (own : Bound E) (purpose : uses.Use) (once : (purpose : uses.Use) (a b : Result (Option (Bound E)) LinkError) → Finds purpose a → Finds purpose b → a ≡ b) where

@@ -6,7 +6,7 @@ use Rattle.std.proofs.lemmas.List.{length-map}
 use Rattle.std.specs.Option.{option_or}
 use Rattle.std.specs.Prelude.{IfSome, option_and_then, option_map}
 use Rattle.std.specs.Result.{result_ok}
-use Rattle.elf_base.specs.Refusal.{and_then}
+use Rattle.elf_base.specs.FirstError.{and_then}
 use Rattle.elf_base.specs.Table.{table_items}
 use Rattle.elf_linking.specs.AnyTable.{IsCheckBy, IsGoodBy}
 use Rattle.elf_linking.specs.Checked.{AreChecked, found_fields, found_in, found_parts}

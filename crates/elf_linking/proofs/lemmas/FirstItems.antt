@@ -1,7 +1,7 @@
--- Searches among items that can be refusals: the computed answer is the first item with the property.
+-- Searches among items that can be errors: the computed answer is the first item with the property.
 use Rattle.std.proofs.Common.{◌≡◌, ℕ, zero, suc, Bool, true, false, if◌then◌else◌, List, [], ◌∷◌, length, Option, Some, None, Result, Ok, Err, refl, ap, ◌∙◌, arith}
 use Rattle.elf_linking.specs.declared.error.LinkError.{LinkError}
-use Rattle.elf_linking.specs.Versions.{IsFirst, found, missing, refused, NoItemBefore, first_item}
+use Rattle.elf_linking.specs.Versions.{IsFirst, found, missing, failed, NoItemBefore, first_item}
 
 module _ {A : Type 0} (test : A → Bool) where
   pub search_end : (items : List (Result A LinkError)) → items ≡ [] → first_item test items ≡ Ok None
@@ -25,7 +25,7 @@ module _ {A : Type 0} (P : A → Type 0) (test : A → Bool) (hits : (x : A) →
   behind : (item : A) (items : List (Result A LinkError)) (answer : Result (Option A) LinkError) → (P item → ⊥) → IsFirst P items answer → IsFirst P (Ok item ∷ items) answer
   behind item items _ never (found i x none is holds) = found (suc i) x (one_more item items i never none) is holds
   behind item items _ never (missing none) = missing (one_more item items (length items) never none)
-  behind item items _ never (refused i error none is) = refused (suc i) error (one_more item items i never none) is
+  behind item items _ never (failed i error none is) = failed (suc i) error (one_more item items i never none) is
 
   first_by : (item : A) (items : List (Result A LinkError)) (b : Bool) → test item ≡ b → IsFirst P items (first_item test items) → IsFirst P (Ok item ∷ items) (if b then Ok (Some item) else first_item test items)
   first_by item items true is rest = found 0 item (λ i below. absurd (omega (arith, below))) refl (hits item is)
@@ -33,5 +33,5 @@ module _ {A : Type 0} (P : A → Type 0) (test : A → Bool) (hits : (x : A) →
 
   pub first_is : (items : List (Result A LinkError)) → IsFirst P items (first_item test items)
   first_is [] = missing (λ i below. absurd (omega (arith, below)))
-  first_is (Err error ∷ items) = refused 0 error (λ i below. absurd (omega (arith, below))) refl
+  first_is (Err error ∷ items) = failed 0 error (λ i below. absurd (omega (arith, below))) refl
   first_is (Ok item ∷ items) = first_by item items (test item) refl (first_is items)

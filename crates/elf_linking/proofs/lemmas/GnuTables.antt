@@ -3,7 +3,7 @@
 use Rattle.std.proofs.Common.{◌≡◌, ℕ, List, Option, None, Result, Ok, Bool, true, refl, subst}
 use Rattle.std.specs.Borrow.{Bor}
 use Rattle.std.specs.Fn.{Shared, FnReturnsAt}
-use Rattle.elf_linking.specs.GnuHash.{FindsAll, IsExported, IsHit, Looks, LooksFrom, LooksWhere, Stops, ended, found, goes, no_run, refused, too_early}
+use Rattle.elf_linking.specs.GnuHash.{FindsAll, IsExported, IsHit, Looks, LooksFrom, LooksWhere, Stops, ended, found, goes, no_run, failed, too_early}
 use Rattle.elf_linking.specs.Layouts.{gnu_hash_number}
 use Rattle.elf_linking.specs.declared.error.LinkError.{LinkError}
 use Rattle.elf_linking.specs.declared.gnu_hash.GnuHashTable.{GnuHashTable}
@@ -36,7 +36,7 @@ module _ {E : Type 0} (h : ℕ) (table : GnuHashTable) (symbols : List E) (P Q :
   stops_so : (i n : ℕ) (a : Result (Option (ℕ × E)) LinkError) → Stops P h table symbols i a n → Stops Q h table symbols i a n
   stops_so i _ _ (found e hit) = found e (hit_so h table symbols P Q to i e hit)
   stops_so i _ _ (ended there ends none) = ended there ends (λ e hit. none e (hit_so h table symbols Q P back i e hit))
-  stops_so i _ _ (refused error lacks) = refused error lacks
+  stops_so i _ _ (failed error lacks) = failed error lacks
 
   from_so : (from n : ℕ) (a : Result (Option (ℕ × E)) LinkError) → LooksFrom P h table symbols from a n → LooksFrom Q h table symbols from a n
   from_so from n a looks = record {

@@ -8,7 +8,7 @@ use Rattle.elf_linking.specs.declared.any_table.AnyTable.{AnyTable}
 use Rattle.elf_linking.specs.declared.any_table.AnyTable.TheVariants.{Gnu, Sysv}
 use Rattle.elf_linking.specs.declared.error.LinkError.{LinkError}
 use Rattle.xmas_elf.specs.HashTable.{chains_of, start_of}
-use Rattle.xmas_elf.proofs.lemmas.Walks as gabi
+use Rattle.xmas_elf.proofs.lemmas.Traversals as gabi
 use Rattle.xmas_elf.specs.Symbol.{Symbols}
 use Rattle.xmas_elf.specs.Symbols.{IsMatch}
 

@@ -4,7 +4,7 @@ use Rattle.std.proofs.Common.{◌≡◌, ℕ, List, None, Result, Ok, Err, Match
 use Rattle.elf_base.proofs.lemmas.RecordLemmas.{length-records}
 use Rattle.elf_base.specs.FileHeader.{file_class}
 use Rattle.elf_base.specs.Table.{table_data, table_order}
-use Rattle.elf_linking.specs.DynamicObject.{AreDynamicSymbols, AreOfClassFor, AreVersionedSymbols, IsObject, IsObjectRefused, object_dynamic_symbols, object_records, object_strings, object_table, object_versions, object_view, same_class, symbols_with}
+use Rattle.elf_linking.specs.DynamicObject.{AreDynamicSymbols, AreOfClassFor, AreVersionedSymbols, IsObject, IsObjectError, object_dynamic_symbols, object_records, object_strings, object_table, object_versions, object_view, same_class, symbols_with}
 use Rattle.elf_linking.specs.DynamicView.{AreSymbols, view_entries}
 use Rattle.elf_linking.specs.VersionTables.{version_tables_of}
 use Rattle.elf_linking.specs.Versions.{version_tables}
@@ -13,7 +13,7 @@ use Rattle.elf_linking.specs.declared.object.DynamicObject.{DynamicObject}
 use Rattle.elf_records.specs.declared.dynamic.Dynamic.{Dynamic}
 use Rattle.xmas_elf.specs.Symbol.{SymbolFields}
 use Rattle.xmas_elf.specs.declared.ElfFile.{ElfFile}
-use Rattle.elf_linking.proofs.ObjectRefusals.{all_read, refused_once}
+use Rattle.elf_linking.proofs.ObjectErrors.{all_read, failed_once}
 
 pub symbols_of_object : {E : Type 0} {r : _} (object : DynamicObject E r) (class : ℕ) (fields : E → SymbolFields) (file : ElfFile) → IsObject class r.SIZE file object → AreDynamicSymbols class r.SIZE r.value fields file (object_dynamic_symbols fields object)
 symbols_of_object {E} {r} object class fields file is = record {
@@ -47,13 +47,13 @@ pub class_same : (class size : ℕ) (file : ElfFile) (entries : List (Dynamic �
 class_same class size file entries bytes (same_class _ same are) = same
 
 -- reading a file as an object has only one error
-pub object_once : {E : Type 0} {r : _} (class : ℕ) (file : ElfFile) (answer : Result (DynamicObject E r) LinkError) (error : LinkError) → MatchResult answer (IsObject class r.SIZE file) (IsObjectRefused class r.SIZE file) → IsObjectRefused class r.SIZE file error → answer ≡ Err error
-object_once {E} {r} class file (Ok object) error is refused =
+pub object_once : {E : Type 0} {r : _} (class : ℕ) (file : ElfFile) (answer : Result (DynamicObject E r) LinkError) (error : LinkError) → MatchResult answer (IsObject class r.SIZE file) (IsObjectError class r.SIZE file) → IsObjectError class r.SIZE file error → answer ≡ Err error
+object_once {E} {r} class file (Ok object) error is failed =
     let entries = view_entries (object_view object) in
     let bytes = table_data (object_records object) in
     let strings = (object_strings object).now in
     absurd (all_read class r.SIZE file entries (object_table object) bytes strings (version_tables (object_versions object)) error is.entries_are is.table_is is.symbols_are
     is.strings_are
     (subst (λ n. version_tables_of file entries (Ok strings) n ≡ Ok (version_tables (object_versions object))) (length-records r.SIZE (r.value (table_order (object_records object))) bytes) is.versions_are)
-    refused)
-object_once {E} {r} class file (Err other) error is refused = ap (λ e. Err e) (refused_once class r.SIZE file other error is refused)
+    failed)
+object_once {E} {r} class file (Err other) error is failed = ap (λ e. Err e) (failed_once class r.SIZE file other error is failed)

@@ -5,7 +5,7 @@ ghost use Rattle.elf_linking.specs.Find.{IsFound, dynamic_symbols};
 ghost use Rattle.elf_linking.specs.Layouts.{gnu_hash_number};
 ghost use Rattle.elf_linking.specs.Versions.{version_list};
 ghost use Rattle.elf_linking.specs.declared.any_table.AnyTable.TheVariants.{Sysv};
-ghost use Rattle.xmas_elf.specs.HashTable.{Halts, StandsAt, chains_of};
+ghost use Rattle.xmas_elf.specs.HashTable.{Halts, IsFoundAt, chains_of};
 ghost use Rattle.xmas_elf.specs.SymbolTable.{table_symbols};
 
 use crate::find::kept::{Kept, Step};
@@ -93,7 +93,7 @@ fn check_place<E: Entry + Record>(
     requires { 0 < index }
     ensures { let chains = chains_of table.now (table_symbols symbols.now).items in
         MatchResult result
-        (λ _. ((e : E) × StandsAt chains index e) × (passed < chains.count)
+        (λ _. ((e : E) × IsFoundAt chains index e) × (passed < chains.count)
         × (passed + 1 < 2 ^ 32))
         (Halts chains passed index) }
 {

@@ -192,12 +192,12 @@ impl<'a> GnuHashTable<'a> {
         if from < self.first_symbol() {
             return (Err(LinkError::ChainIndex), 0);
         }
-        self.walk(from, hash, name, symbols, f)
+        self.follow_chain(from, hash, name, symbols, f)
     }
 
     // The pass over the run from an index on, by the hash number of the name.
     #[inline(always)]
-    fn walk<E: Entry + Record, F: Fn(u32, &E) -> bool>(
+    fn follow_chain<E: Entry + Record, F: Fn(u32, &E) -> bool>(
         &self,
         from: u32,
         hash: u32,

@@ -3,7 +3,7 @@
 ghost use Rattle.std.specs.Prelude.{◌≡◌, ◌<◌, ◌%◌, ◌^◌, ◌==◌, ◌∷◌, [], not, Err, IfOk, MatchResult, Ok, length};
 ghost use Rattle.std.specs.Iterator.{YieldsFirst};
 ghost use Rattle.elf_base.specs.FileHeader.{file_class, file_order};
-ghost use Rattle.elf_base.specs.Refusal.{unless};
+ghost use Rattle.elf_base.specs.FirstError.{unless};
 ghost use Rattle.elf_base.specs.Table.{table_data, table_order, table_rest};
 ghost use Rattle.elf_base.specs.declared.error.ElfError.TheVariants.{NotMultiple};
 ghost use Rattle.elf_linking.specs.References.{relocations_in, relocations_left};

@@ -11,7 +11,7 @@ ghost use Rattle.elf_linking.specs.VersionTables.{result_map};
 use crate::LinkError;
 use crate::view::entries::DynamicEntries;
 use crate::view::tags::DT_NEEDED;
-use elf_base::bytes::{stands_at, text_at};
+use elf_base::bytes::{is_found_at, text_at};
 
 // The text at an offset in a string table, which may be an error.
 pub(crate) fn text_by<'a>(
@@ -35,7 +35,7 @@ pub(crate) fn is_text_by(
         ≡ result_map (λ text. bytes_eq text wanted.now) (text_in_strings (lent strings.entry) place) }
 {
     if let Ok(table) = strings {
-        if stands_at(table, place as usize, wanted) {
+        if is_found_at(table, place as usize, wanted) {
             return Ok(true);
         }
     }

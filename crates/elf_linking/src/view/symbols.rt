@@ -4,7 +4,7 @@ ghost use Rattle.std.specs.Prelude.{◌≡◌, ◌%◌, ◌^◌, ◌<◌, ◌≤
 ghost use Rattle.std.specs.Prelude.{Ok, Err, IfOk, IsOkAnd, MatchResult, Some, length};
 ghost use Rattle.elf_base.specs.FileHeader.{file_order};
 ghost use Rattle.elf_base.specs.Table.{table_bytes, table_data, table_order};
-ghost use Rattle.elf_linking.specs.DynamicView.{AreSymbols, AreSymbolsRefused, IsSymbolCount};
+ghost use Rattle.elf_linking.specs.DynamicView.{AreSymbols, AreSymbolsFailed, IsSymbolCount};
 ghost use Rattle.elf_linking.specs.DynamicView.{LieAsSymbols, counted_symbols_of, view_strings};
 ghost use Rattle.elf_linking.specs.DynamicView.{view_table};
 ghost use Rattle.elf_linking.specs.References.{IsReachedCount, count_with, references_left};
@@ -60,7 +60,7 @@ impl<'a> DynamicView<'a> {
             (λ symbols. AreSymbols file.now (view_entries self.now) E.SIZE
             (Ok (table_data (carried_table symbols)))
             × (table_order (carried_table symbols) ≡ file_order file.now.header))
-            (AreSymbolsRefused file.now (view_entries self.now) (view_strings self.now) E.SIZE) }
+            (AreSymbolsFailed file.now (view_entries self.now) (view_strings self.now) E.SIZE) }
         ensures names { IfOk result (λ symbols. IsOkAnd (view_table self.now) (λ strings.
             (carried_strings symbols ≡ Some (Ok strings)) × (table_symbols symbols
             ≡ named_symbols E.fields strings.now (carried_table symbols)))) }

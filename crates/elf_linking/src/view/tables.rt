@@ -3,7 +3,7 @@
 
 ghost use Rattle.std.specs.Prelude.{◌≡◌, Ok, Err, MatchResult, ok_or};
 ghost use Rattle.elf_base.specs.FileHeader.{class_of, file_class, file_order};
-ghost use Rattle.elf_base.specs.Refusal.{and_then};
+ghost use Rattle.elf_base.specs.FirstError.{and_then};
 ghost use Rattle.elf_linking.specs.Loaded.{bytes_from_of, lent};
 
 use crate::LinkError;

@@ -66,7 +66,7 @@ impl<'s, 'a, E: LinkedSymbol> Model for CheckedImage<'s, 'a, E> {
 impl<'s, 'a, E: LinkedSymbol> CheckedImage<'s, 'a, E> {
     ghost use Rattle.std.specs.Prelude.{◌≤◌, ◌*◌, ◌↔◌, ℕ, IfOk, length, IfErr, IsOk, Ok, Some};
     ghost use Rattle.std.specs.List.{count_by};
-    ghost use Rattle.elf_base.specs.Refusal.{and_then};
+    ghost use Rattle.elf_base.specs.FirstError.{and_then};
     ghost use Rattle.elf_loading.specs.CheckedImage.{AreWordsWritten, IsMappedImage};
     ghost use Rattle.elf_loading.specs.CheckedImage.{image_at_index, image_result, image_words};
     ghost use Rattle.elf_loading.specs.CheckedImage.{written_words};

@@ -2,8 +2,8 @@
 
 ghost use Rattle.std.specs.Prelude.{◌≡◌, ◌<◌, ◌+◌, length, IfErr, IfOk};
 ghost use Rattle.std.proofs.Common.{lit<};
-ghost use Rattle.elf_base.specs.Lent.{Answers, Lends, LiesAt};
-ghost use Rattle.elf_records.specs.Note.{IsNoteDescription, IsNoteName, NoteNameRefused};
+ghost use Rattle.elf_base.specs.Lent.{Answers, IfPart, LiesAt};
+ghost use Rattle.elf_records.specs.Note.{IsNoteDescription, IsNoteName, NoteNameError};
 ghost use Rattle.elf_records.specs.Note.{note_desc_of, note_desc_size, note_header, note_name_of};
 ghost use Rattle.elf_records.specs.Note.{note_name_size, note_type, rounded_up};
 
@@ -71,8 +71,8 @@ impl NoteHeader {
     #[tactic(auto, unfolding(crate::specs::Note::note_name_of))]
     #[inline(always)]
     pub fn name<'a>(&self, body: &'a [u8]) -> Result<&'a str, ElfError>
-        ensures text { Lends (IsNoteName body.now (note_name_size self.now)) result }
-        ensures refused { IfErr result (NoteNameRefused body.now (note_name_size self.now)) }
+        ensures text { IfPart (IsNoteName body.now (note_name_size self.now)) result }
+        ensures failed { IfErr result (NoteNameError body.now (note_name_size self.now)) }
         ensures exact { Answers (note_name_of body.now (note_name_size self.now)) result }
     {
         let text = text_at(body, 0)?;
@@ -87,10 +87,10 @@ impl NoteHeader {
     #[tactic(auto, unfolding(crate::specs::Note::note_desc_of))]
     #[inline(always)]
     pub fn desc<'a>(&self, body: &'a [u8]) -> Result<&'a [u8], ElfError>
-        ensures desc { Lends (IsNoteDescription body.now (note_name_size self.now)
+        ensures desc { IfPart (IsNoteDescription body.now (note_name_size self.now)
             (note_desc_size self.now)) result }
         ensures place { IfOk result (LiesAt body.entry (rounded_up (note_name_size self.now))) }
-        ensures refused { IfErr result (λ error. (error ≡ ElfError.NoteDesc)
+        ensures failed { IfErr result (λ error. (error ≡ ElfError.NoteDesc)
             × (length body.now < rounded_up (note_name_size self.now) + note_desc_size self.now)) }
         ensures exact { Answers (note_desc_of body.now (note_name_size self.now)
             (note_desc_size self.now)) result }

@@ -8,4 +8,4 @@ returns-in-Ok g c =
     printed_input g.W.Write.contents c.args.path c.args.addresses.now _ c.args.source c.args.input c.in-Ok.file c.print_file.result c.in-Ok.ensures.input c.in-Ok.ensures.header c.print_file.ensures
 
 pub returns-in-Err : goal.returns-in-Err
-returns-in-Err g c = (refl, no_header c.in-Err.error c.in-Err.ensures.refused)
+returns-in-Err g c = (refl, no_header c.in-Err.error c.in-Err.ensures.failed)

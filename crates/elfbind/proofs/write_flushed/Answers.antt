@@ -21,4 +21,4 @@ returns g c =
     subst (λ known. AppendsSome Is known after) (none_buffered before (writer_buffer old) c.requires.empty) held
 
 pub returns-in-Err : goal.returns-in-Err
-returns-in-Err g c = stop_so _ _ _ _ _ _ c.in-Err.stop (λ refused why. why) (λ begun. inl begun) (λ never. never) c.in-Err.ensures
+returns-in-Err g c = stop_so _ _ _ _ _ _ c.in-Err.stop (λ failed why. why) (λ begun. inl begun) (λ never. never) c.in-Err.ensures

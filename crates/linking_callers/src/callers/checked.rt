@@ -21,7 +21,7 @@ pub fn file_with_name<E: LinkedSymbol>(
     ensures found { IfOk result (λ at. let objects = object_parts E.fields program.entry
         ∷ object_parts E.fields library.entry ∷ [] in
         at ≡ option_map (λ bound. bound.object) (looked_up objects 0 name.now Wanted.Newest Use.Any)) }
-    ensures refused { IfErr result (IsFirstError E.fields program.entry library.entry) }
+    ensures failed { IfErr result (IsFirstError E.fields program.entry library.entry) }
 {
     let objects = [CheckedObject::of(program)?, CheckedObject::of(library)?];
     let found = CheckedScope::new(&objects).find(0, name, &Wanted::Newest, Use::Any);

@@ -3,7 +3,7 @@ use Rattle.std.proofs.lemmas.List.{length_push, take_more}
 use Rattle.linking_programs.specs.Files.{AreObjectsOf, IsObjectOfBytes}
 use Rattle.linking_programs.specs.declared.Input.{Input}
 use Rattle.program_ends.proofs.LineLists.{zip_one_more}
-use Rattle.linking_programs.specs.Files.{IsRefusedAsObject}
+use Rattle.linking_programs.specs.Files.{IsObjectErrorOf}
 use Rattle.linking_programs.proofs.Objects.{input_stops}
 use Rattle.linking_programs.proofs.read_objects.Goals as goal
 
@@ -26,13 +26,13 @@ loop-input-preserved g c =
       ap length pushed ∙ length_push done object ∙ ap (λ n. n + 1) c.loop-input.invariant.1,
     )
 
-pub returns-in-Err-clause-refused : goal.returns-in-Err-clause-refused
-returns-in-Err-clause-refused g c =
+pub returns-in-Err-clause-failed : goal.returns-in-Err-clause-failed
+returns-in-Err-clause-failed g c =
     let C = g.E.LinkedSymbol.CLASS in
     let S = g.E.Record.SIZE in
     let inputs = c.args.inputs.now in
     let index = c.loop-input.input-index in
     let item = c.input-item.result in
     let below : index < length inputs = omega (arith, c.loop-input-test.true) in
-    let why : IsRefusedAsObject C S item.bytes.items c.in-Err.error = subst (λ (bytes : List ℕ). IsRefusedAsObject C S bytes c.in-Err.error) c.deref.ensures.value c.in-Err.ensures.exact in
-    input_stops _ C S inputs index item c.loop-input.objects.items c.in-Err.error _ below c.input-item.is c.loop-input.invariant.0 why c.refusal.ensures
+    let why : IsObjectErrorOf C S item.bytes.items c.in-Err.error = subst (λ (bytes : List ℕ). IsObjectErrorOf C S bytes c.in-Err.error) c.deref.ensures.value c.in-Err.ensures.exact in
+    input_stops _ C S inputs index item c.loop-input.objects.items c.in-Err.error _ below c.input-item.is c.loop-input.invariant.0 why c.failure.ensures

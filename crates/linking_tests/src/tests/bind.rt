@@ -64,7 +64,7 @@ const UNDEFINED: Change = With(1, (0x12, 0, 0x10));
 
 // The numbers of the symbols of either file from index 1 on, what is changed in which file, the
 // file, the type and the symbol of the reference, and what it gets. Number 2 is V1, number 3 is V2;
-// number 4 is V3 and number 5 the hidden V4 of a library; nothing bears 9.
+// number 4 is V3 and number 5 the hidden V4 of a library; nothing has number 9.
 type Row = (
     &'static [u16],
     &'static [u16],
@@ -157,7 +157,7 @@ const USES: &[Row] = rows! {
 
 const PAST: LinkError = LinkError::Elf(ElfError::TextStart);
 
-const REFUSED: &[Row] = rows! {
+const FAILED: &[Row] = rows! {
     &[2], &[2], &[], (2, 0, 1), Err(LinkError::ObjectIndex);
     &[2], &[2], &[], (usize::MAX, 0, 9), Err(LinkError::ObjectIndex);
     &[2], &[2], &[], (1, 0, 4), Err(LinkError::SymbolIndex);
@@ -245,7 +245,7 @@ fn answer(rt: &impl Abort, kind: Kind, row: Row) -> Answer {
 
 #[test]
 fn binds_a_reference(rt: HostRuntime) {
-    for (table, rows) in [ORDER, VERSIONS, USES, REFUSED].iter().enumerate() {
+    for (table, rows) in [ORDER, VERSIONS, USES, FAILED].iter().enumerate() {
         for (index, &row) in rows.iter().enumerate() {
             for &kind in KINDS {
                 want_at(&rt, (table, index, kind), answer(&rt, kind, row), row.4);

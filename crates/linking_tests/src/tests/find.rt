@@ -112,7 +112,7 @@ fn index_in(rt: &impl Abort, class: u8, bytes: &[u8], asked: Asked) -> Answer {
 }
 
 // The numbers of symbols from index 1 on, which version is asked for, and the symbol found. Number
-// 2 is V1, number 3 is V2; number 4 is V3 and number 5 the hidden V4 of a library; nothing bears 9.
+// 2 is V1, number 3 is V2; number 4 is V3 and number 5 the hidden V4 of a library; nothing has number 9.
 const BY_VERSION: &[(&[u16], Asked, Option<u32>)] = rows! {
     &[], V1, None; &[0x8002, 3], V1, Some(1); &[0x8002, 3], V2, Some(2); &[0x8002, 3], V3, None;
     &[3, 0x8002], V1, Some(2); &[3, 2], V1, Some(2); &[3, 2, 2], V1, Some(2);

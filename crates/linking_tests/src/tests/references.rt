@@ -276,12 +276,12 @@ fn reads_words(rt: HostRuntime) -> Result<(), LinkError> {
 
 // The segments of a file of another class are read as those of class 64, but its relocations have no known size.
 #[test]
-fn refuses_relocations_of_another_class(rt: HostRuntime) -> Result<(), LinkError> {
+fn rejects_relocations_of_another_class(rt: HostRuntime) -> Result<(), LinkError> {
     let bytes = reference_file(2, Order::Little, &[RELA_AT, RELA_SIZE]);
     let file = open(&rt, &bytes);
     let view = DynamicView::read(&file)?;
-    let refused = view.references(&with_class(&file, 3)).err();
-    want(&rt, refused, Some(LinkError::UnknownClass));
+    let failed = view.references(&with_class(&file, 3)).err();
+    want(&rt, failed, Some(LinkError::UnknownClass));
     Ok(())
 }
 

@@ -81,8 +81,8 @@ fn fills_an_image(rt: HostRuntime) -> Result<(), Fail> {
     let file = open(&rt, &bytes);
     let plan = LoadPlan::check_load(&file, 0x1000, LIMIT)?;
     let mut short = [7u8; 3];
-    let refused = plan.fill(Loader::Kernel, &mut short);
-    want_at(&rt, "short", refused, Err(LoadError::ImageSize));
+    let failed = plan.fill(Loader::Kernel, &mut short);
+    want_at(&rt, "short", failed, Err(LoadError::ImageSize));
     want_at(&rt, "short", short, [7; 3]);
     let mut linux = Vec::new(rt.alloc());
     linux.resize(0x21000, 7u8)?;

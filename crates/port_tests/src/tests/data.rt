@@ -20,8 +20,8 @@ fn reads_the_counts_of_a_hash_table(rt: HostRuntime) -> Result<(), ElfError> {
     let table = HashTable::read(&TWELVE, Order::Big)?;
     want(&rt, table.bucket_count(), 0x0001_0203);
     want(&rt, table.chain_count(), 0x0405_0607);
-    let refused = HashTable::read(&TWELVE[..11], Order::Little).err();
-    want(&rt, refused, Some(ElfError::ShortData));
+    let failed = HashTable::read(&TWELVE[..11], Order::Little).err();
+    want(&rt, failed, Some(ElfError::ShortData));
     Ok(())
 }
 
@@ -39,11 +39,11 @@ fn check_texts(
     }
 }
 
-const REFUSED: Option<Result<&str, ElfError>> = Some(Err(ElfError::TextUtf8));
+const FAILED: Option<Result<&str, ElfError>> = Some(Err(ElfError::TextUtf8));
 
 const TEXTS: &[(&[u8], &[Option<Result<&str, ElfError>>])] = rows! {
     b"ab\0cd", &[Some(Ok("ab")), Some(Err(ElfError::TextEnd)), None, None];
-    b"a\0\xff\0b\0", &[Some(Ok("a")), REFUSED, None];
+    b"a\0\xff\0b\0", &[Some(Ok("a")), FAILED, None];
     b"a\0b\0\0c\0", &[Some(Ok("a")), Some(Ok("b")), None, None];
     b"a\0", &[Some(Ok("a")), None];
 };

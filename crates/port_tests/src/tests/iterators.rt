@@ -40,9 +40,9 @@ fn the_index_stays_at_the_end(rt: HostRuntime) {
     check_no_segment(&rt, &mut file.program_iter());
 }
 
-// So it does in a file without sections and segments, and where a header is refused.
+// So it does in a file without sections and segments, and where a header has an error.
 #[test]
-fn the_index_stays_at_a_refusal(rt: HostRuntime) {
+fn the_index_stays_at_a_failure(rt: HostRuntime) {
     let bytes = plain_header(2);
     let file = open(&rt, &bytes);
     check_no_section(&rt, &mut file.section_iter(), 0);

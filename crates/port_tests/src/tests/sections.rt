@@ -26,7 +26,7 @@ const PRINTED: &str = "Section header:
     entry size:       0
 ";
 
-const PRINTED_REFUSED: &str = "Section header:
+const PRINTED_FAILED: &str = "Section header:
     name:             0
     type:             Err(\"Invalid sh type\")
     flags:            18446744073709551615
@@ -48,7 +48,7 @@ fn prints_a_section_header(rt: HostRuntime) -> Result<(), Fail> {
     set(&mut record, 0, section_64::FLAGS, u64::MAX, LITTLE);
     let section = SectionHeader::Sh64(SectionHeader_::<P64>::decode(&record, LITTLE));
     let found = section.to_string(rt.alloc())?;
-    want(&rt, found.as_str(), PRINTED_REFUSED);
+    want(&rt, found.as_str(), PRINTED_FAILED);
     Ok(())
 }
 
@@ -83,8 +83,8 @@ fn callers_count_what_they_ask_for(rt: HostRuntime) {
     let file = open(&rt, &bytes);
     want(&rt, callers::counted_sections(&file), 4);
     want(&rt, file.program_iter().count(), 0);
-    let refused = file.program_header(0).err();
-    want(&rt, refused, Some(ElfError::NoProgramHeaders));
+    let failed = file.program_header(0).err();
+    want(&rt, failed, Some(ElfError::NoProgramHeaders));
 }
 
 #[test]

@@ -20,7 +20,7 @@ const EXPORTS: &[(u32, &str, u64, u64)] = rows! {
     4, "second", 0x181, 0x225; 5, "third", 0x208, 0x2f0; 6, "first", 0x17b, 0x21f;
 };
 
-// Names that none of them bears.
+// Names that none of them has.
 const OTHERS: &[&str] = &["inner", "", "firs", "first2"];
 
 // What both look-ups of a name find: the index and the value.

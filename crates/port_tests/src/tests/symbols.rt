@@ -95,8 +95,8 @@ fn callers_name_symbols(rt: HostRuntime) -> Result<(), ElfError> {
         check_dynamic_names(&rt, &dyn_file, place, name)?;
     }
     let wide = symbol::<DynEntry64>(&wide_bytes(0), LITTLE)?;
-    let refused = name_of_any(&wide, &file).err();
-    want(&rt, refused, Some(ElfError::NoDynstr));
+    let failed = name_of_any(&wide, &file).err();
+    want(&rt, failed, Some(ElfError::NoDynstr));
     Ok(())
 }
 
@@ -121,8 +121,8 @@ fn symbols_of_ones_own_need_no_string_table(rt: HostRuntime) {
     let file = open(&rt, &bytes);
     want(&rt, Numbered::string_table(&file).is_none(), true);
     want(&rt, name_of_any(&Numbered { number: 1 }, &file), Ok("ab"));
-    let refused = name_of_any(&Numbered { number: 3 }, &file);
-    want(&rt, refused, Err(ElfError::TextEnd));
+    let failed = name_of_any(&Numbered { number: 3 }, &file);
+    want(&rt, failed, Err(ElfError::TextEnd));
 }
 
 #[test]
@@ -147,7 +147,7 @@ const PRINTED: &str = "Symbol table entry:
     size:             0
 ";
 
-const PRINTED_REFUSED: &str = "Symbol table entry:
+const PRINTED_FAILED: &str = "Symbol table entry:
     name:             9
     binding:          Err(\"Invalid value for binding\")
     type:             Err(\"Invalid value for type\")
@@ -181,14 +181,14 @@ fn prints_symbols(rt: HostRuntime) -> Result<(), Fail> {
 }
 
 #[test]
-fn prints_symbols_that_are_refused(rt: HostRuntime) -> Result<(), Fail> {
+fn prints_symbols_with_errors(rt: HostRuntime) -> Result<(), Fail> {
     let mut wide = wide_bytes(9);
     set(&mut wide, 0, symbol_64::INFO, 0x37, LITTLE);
     set(&mut wide, 0, symbol_64::OTHER, 3, LITTLE);
     set(&mut wide, 0, symbol_64::SHNDX, 4, LITTLE);
     set(&mut wide, 0, symbol_64::VALUE, 5, LITTLE);
     set(&mut wide, 0, symbol_64::SIZE, 6, LITTLE);
-    check_printed::<DynEntry64>(&rt, rt.alloc(), &wide, PRINTED_REFUSED)
+    check_printed::<DynEntry64>(&rt, rt.alloc(), &wide, PRINTED_FAILED)
 }
 
 // Wants this name of a symbol that has only a number, which is its value.

@@ -43,8 +43,8 @@ fn reads_tables_of_wide_words(rt: HostRuntime) -> Result<(), ElfError> {
     want(&rt, wide.get(0), Some(0x0100_0000_0000_0002));
     let wide = Table::<u64>::new(&BYTES, Order::Little)?;
     want(&rt, wide.get(1), Some(0x0a09_0807_0605_0403));
-    let refused = Table::<u64>::new(&BYTES[..12], LITTLE).err();
-    want(&rt, refused, Some(ElfError::NotMultiple));
+    let failed = Table::<u64>::new(&BYTES[..12], LITTLE).err();
+    want(&rt, failed, Some(ElfError::NotMultiple));
     Ok(())
 }
 
@@ -133,8 +133,8 @@ fn reads_tables_of_any_record(rt: HostRuntime) -> Result<(), ElfError> {
 #[test]
 fn tables_have_whole_records(rt: HostRuntime) {
     for length in [1, 2, 4, 5, 7, 8, 10] {
-        let refused = Table::<Colour>::new(&COLOUR_BYTES[..length], LITTLE).err();
-        want_at(&rt, length, refused, Some(ElfError::NotMultiple));
+        let failed = Table::<Colour>::new(&COLOUR_BYTES[..length], LITTLE).err();
+        want_at(&rt, length, failed, Some(ElfError::NotMultiple));
     }
 }
 

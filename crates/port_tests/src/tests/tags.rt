@@ -118,17 +118,17 @@ fn names_the_tags_of_class_64(rt: HostRuntime) {
 }
 
 #[test]
-fn refuses_other_tags(rt: HostRuntime) {
+fn rejects_other_tags(rt: HostRuntime) {
     for number in [31, 38, 0x6000_000c, 0x8000_0000, 0xffff_ffff] {
-        let refused = Some(ElfError::InvalidTag);
+        let failed = Some(ElfError::InvalidTag);
         let entry = narrow_entry(number);
         let found = [
             entry.get_tag().err(),
             entry.get_val().err(),
             entry.get_ptr().err(),
         ];
-        want_at(&rt, number, found, [refused; 3]);
-        want_at(&rt, number, wide_entry(number).get_tag().err(), refused);
+        want_at(&rt, number, found, [failed; 3]);
+        want_at(&rt, number, wide_entry(number).get_tag().err(), failed);
     }
 }
 

@@ -2,7 +2,7 @@
 
 use crate::tests::want::{want, want_at};
 use elf_base::ElfError;
-use elf_base::bytes::{bytes_up_to_zero, stands_at, text_at, text_is};
+use elf_base::bytes::{bytes_up_to_zero, is_found_at, text_at, text_is};
 use worked_files::rows;
 
 const COMPARED: &[(usize, &str, (bool, usize))] = rows! {
@@ -17,7 +17,7 @@ const COMPARED: &[(usize, &str, (bool, usize))] = rows! {
 fn texts_are_compared_in_place(rt: HostRuntime) {
     let bytes = b"\0ab\0\xff\0cd";
     for &(start, text, answer) in COMPARED {
-        let found = (text_is(bytes, start, text), stands_at(bytes, start, text));
+        let found = (text_is(bytes, start, text), is_found_at(bytes, start, text));
         want_at(&rt, (text, start), found, (answer, answer.0));
     }
     want(&rt, text_is(b"", 0, ""), (false, 0));

@@ -83,7 +83,7 @@ fn writes_the_same_to_slow_writers(rt: HostRuntime) -> Result<(), Fail> {
     Ok(())
 }
 
-// Each call failed in turn, until a run ends with Ok: no run before it does, nor is one refused.
+// Each call failed in turn, until a run ends with Ok: no run before it does, nor has one an error.
 fn check_faults(
     rt: &impl Abort,
     alloc: Global,
@@ -117,33 +117,33 @@ fn fails_as_its_writer_does(rt: HostRuntime) -> Result<(), Fail> {
     Ok(())
 }
 
-const REFUSALS: &[(usize, ElfError)] = &[
+const FAILURES: &[(usize, ElfError)] = &[
     (0, ElfError::ShortPart1),
     (3, ElfError::ShortPart1),
     (15, ElfError::ShortPart1),
     (51, ElfError::ShortHeaders),
 ];
 
-// Wants this refusal of an input, and no call of the writer.
-fn check_refused(rt: &impl Abort, alloc: Global, input: &[u8], refusal: ElfError, then: Then) {
+// Wants this failure of an input, and no call of the writer.
+fn check_failed(rt: &impl Abort, alloc: Global, input: &[u8], failure: ElfError, then: Then) {
     let mut writer = make_writer(alloc, usize::MAX, 0, then);
     let answer = report(input, &mut writer);
-    want_at(rt, input.len(), answer, Err(ReportFault::Elf(refusal)));
+    want_at(rt, input.len(), answer, Err(ReportFault::Elf(failure)));
     want(rt, writer.passes, 0);
 }
 
-// On a refused input the writer is never called.
+// On an input with an error the writer is never called.
 #[test]
-fn refuses_whatever_the_writer_does(rt: HostRuntime) {
+fn rejects_whatever_the_writer_does(rt: HostRuntime) {
     let file = strtab_file(Order::Little);
-    for &(len, refusal) in REFUSALS {
+    for &(len, failure) in FAILURES {
         let input = file.get(..len).unwrap_or(b"");
-        check_refused(&rt, rt.alloc(), input, refusal, Then::Fails);
-        check_refused(&rt, rt.alloc(), input, refusal, Then::TakesNothing);
-        check_refused(&rt, rt.alloc(), input, refusal, Then::IsInterrupted);
+        check_failed(&rt, rt.alloc(), input, failure, Then::Fails);
+        check_failed(&rt, rt.alloc(), input, failure, Then::TakesNothing);
+        check_failed(&rt, rt.alloc(), input, failure, Then::IsInterrupted);
         let mut text = Vec::new(rt.alloc());
         let answer = report(input, &mut text);
-        want_at(&rt, len, answer, Err(ReportFault::Elf(refusal)));
+        want_at(&rt, len, answer, Err(ReportFault::Elf(failure)));
         want_at(&rt, len, text.is_empty(), true);
     }
 }
@@ -157,14 +157,14 @@ impl Output for Report<'_> {
 
     ghost flushed = { λ report old new kept written keeps. tt };
 
-    type Refusal = ReportFault;
+    type AnyError = ReportFault;
 
-    ghost Refuses = { λ report error. Unit {0} };
+    ghost Fails = { λ report error. Unit {0} };
 
     ghost Begins = { λ report. Unit {0} };
 
     fn write_to<W: Write>(&self, out: &mut W) -> Result<(), Stop<ReportFault>> {
-        report(self.0, out).map_err(Stop::Refused)
+        report(self.0, out).map_err(Stop::Failed)
     }
 }
 

@@ -2,7 +2,7 @@
 use Rattle.std.proofs.Common.{◌≡◌, ◌≢◌, ◌<◌, ◌≤◌, ℕ, Option, Some, None, Result, Ok, Err, slice_get, ◌⊎◌, inl, inr, refl, subst, arith}
 use Rattle.elf_base.specs.declared.error.ElfError.TheVariants.{ChainIndex, HashCycle, SymbolIndex}
 use Rattle.xmas_elf.specs.Prelude.{ElfError}
-use Rattle.xmas_elf.specs.HashTable.{Chains, StandsAt, Stops, at_end, past_chains, past_symbols, found, refused, Comes, NoneBefore, LooksFrom, no_bucket, bad_bucket, reaches, endless}
+use Rattle.xmas_elf.specs.HashTable.{Chains, IsFoundAt, Stops, at_end, past_chains, past_symbols, found, failed, Comes, NoneBefore, LooksFrom, no_bucket, bad_bucket, reaches, endless}
 use Rattle.xmas_elf.proofs.ChainPaths.{by_order, comes_in, comes_once, goes_on, stop_or_link}
 
 module _ {E : Type 0} (P : ℕ × E → Type 0) (chains : Chains E) where
@@ -15,15 +15,15 @@ module _ {E : Type 0} (P : ℕ × E → Type 0) (chains : Chains E) where
   Told i a n = ((i ≡ 0) × Both a n (Ok None) 0)
       ⊎ (((0 < i) × (chains.count ≤ i) × Both a n (Err ChainIndex) 0)
       ⊎ (((0 < i) × (i < chains.count) × (slice_get chains.symbols i ≡ None) × Both a n (Err SymbolIndex) 0)
-      ⊎ (((e : E) × StandsAt chains i e × P (i, e) × Both a n (Ok (Some (i, e))) 1)
-      ⊎ ((e : E) × (error : ElfError) × StandsAt chains i e × (P (i, e) → ⊥) × (chains.chain i ≡ Err error) × Both a n (Err error) 1))))
+      ⊎ (((e : E) × IsFoundAt chains i e × P (i, e) × Both a n (Ok (Some (i, e))) 1)
+      ⊎ ((e : E) × (error : ElfError) × IsFoundAt chains i e × (P (i, e) → ⊥) × (chains.chain i ≡ Err error) × Both a n (Err error) 1))))
 
   told : (i n : ℕ) (a : Result (Option (ℕ × E)) ElfError) → Stops P chains i a n → Told i a n
   told _ _ _ at_end = inl (refl, (refl, refl))
   told _ _ _ (past_chains i above past) = inr (inl (above, past, (refl, refl)))
   told _ _ _ (past_symbols i above within absent) = inr (inr (inl (above, within, absent, (refl, refl))))
   told _ _ _ (found i e stands holds) = inr (inr (inr (inl (e, stands, holds, (refl, refl)))))
-  told _ _ _ (refused i e error stands misses refuses) = inr (inr (inr (inr (e, error, stands, misses, refuses, (refl, refl)))))
+  told _ _ _ (failed i e error stands misses fails) = inr (inr (inr (inr (e, error, stands, misses, fails, (refl, refl)))))
 
   -- a stop at an index has only one result
   answer_once : (i n m : ℕ) (a b : Result (Option (ℕ × E)) ElfError) → Stops P chains i a n → Stops P chains i b m → Both a n b m

@@ -7,7 +7,7 @@ use Rattle.std.specs.Fn.{Shared, FnReturnsAt}
 use Rattle.xmas_elf.specs.Prelude.{ElfError, HashTable}
 use Rattle.xmas_elf.specs.HashTable.{FindsAll, Looks, LooksWhere}
 use Rattle.xmas_elf.specs.Symbol.{IsGlobal, Symbols}
-use Rattle.xmas_elf.proofs.lemmas.Walks.{looks_alike}
+use Rattle.xmas_elf.proofs.lemmas.Traversals.{looks_alike}
 use Rattle.xmas_elf.specs.Symbols.{Decides, DecidesWhere, IsMatch, IsMatchWhere, ReturnsWhere}
 -- the check of a table has only one result
 pub use Rattle.xmas_elf.proofs.ChainChecks.{check_once}

@@ -5,7 +5,7 @@ use Rattle.std.proofs.lemmas.Bool.{cases_order}
 use Rattle.xmas_elf.specs.Prelude.{ElfError, ElfFile, HashTable, SectionHeader}
 use Rattle.xmas_elf.specs.Content.{Content, table_of, symbols_32, symbols_64, dyn_symbols_32, dyn_symbols_64}
 use Rattle.xmas_elf.specs.HashTable.{IsCheck, bucket_of, chain_of, faulty, good, hash_data, hash_order, missing, start_of}
-use Rattle.xmas_elf.specs.ReportHash.{FindsHash, IsHashVerdict, IsLinkedVerdict, IsVerdictOf, content_at, linked, none, refused}
+use Rattle.xmas_elf.specs.ReportHash.{FindsHash, IsHashVerdict, IsLinkedVerdict, IsVerdictOf, content_at, linked, none, failed}
 use Rattle.xmas_elf.specs.SectionHeader.{section_fields, section_type}
 use Rattle.xmas_elf.specs.Symbol.{Symbols}
 use Rattle.xmas_elf.specs.Symbols.{dyn_symbols_in_32, dyn_symbols_in_64, symbols_in_32, symbols_in_64}
@@ -49,13 +49,13 @@ module _ (one other : HashTable) (order : hash_order one ≡ hash_order other) (
 
 pub verdict_once : (file : ElfFile) (v w : HashVerdict) → IsHashVerdict file v → IsHashVerdict file w → v ≡ w
 verdict_once file _ _ (none n) (none m) = refl
-verdict_once file _ _ (none n) (refused s e f c) = absurd (no_first file s n f)
+verdict_once file _ _ (none n) (failed s e f c) = absurd (no_first file s n f)
 verdict_once file _ _ (none n) (linked s t w f c l) = absurd (no_first file s n f)
-verdict_once file _ _ (refused s e f c) (none n) = absurd (no_first file s n f)
-verdict_once file _ _ (refused s e f c) (refused s' e' f' c') = let same = first_once file s s' f f' in let is : e ≡ e' = cc in ap (λ x. Checked (Err x)) is
-verdict_once file _ _ (refused s e f c) (linked s' t w f' c' l) = let same = first_once file s s' f f' in absurd (cc)
+verdict_once file _ _ (failed s e f c) (none n) = absurd (no_first file s n f)
+verdict_once file _ _ (failed s e f c) (failed s' e' f' c') = let same = first_once file s s' f f' in let is : e ≡ e' = cc in ap (λ x. Checked (Err x)) is
+verdict_once file _ _ (failed s e f c) (linked s' t w f' c' l) = let same = first_once file s s' f f' in absurd (cc)
 verdict_once file _ _ (linked s t v f c l) (none n) = absurd (no_first file s n f)
-verdict_once file _ _ (linked s t v f c l) (refused s' e f' c') = let same = first_once file s s' f f' in absurd (cc)
+verdict_once file _ _ (linked s t v f c l) (failed s' e f' c') = let same = first_once file s s' f f' in absurd (cc)
 verdict_once file _ _ (linked s t v f c l) (linked s' t' w f' c' l') =
     let same : s ≡ s' = first_once file s s' f f' in
     linked_once t t' (cc) (cc) file (content_at file (section_fields s').link) v w (subst (λ x. IsLinkedVerdict file t (content_at file (section_fields x).link) v) same l) l'

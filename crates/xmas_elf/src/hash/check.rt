@@ -67,7 +67,7 @@ fn global_count<E: Entry + Record>(symbols: &SymbolTable<'_, E>) -> usize
 impl<'a> HashTable<'a> {
     ghost use Rattle.xmas_elf.specs.HashTable.{Comes, Ends, EndsBelow, IsAtFault, IsCheck, IsGood};
     ghost use Rattle.xmas_elf.specs.HashTable.{IsHeldBelow, IsHeldBy, IsReached, LooksFrom};
-    ghost use Rattle.xmas_elf.specs.HashTable.{Reaches, StandsAt, bucket_count_of, bucket_of};
+    ghost use Rattle.xmas_elf.specs.HashTable.{Reaches, IsFoundAt, bucket_count_of, bucket_of};
     ghost use Rattle.xmas_elf.specs.HashTable.{chains_of};
 
     /// Checks that all chains end, and that each symbol that isn't local and has a name is in the
@@ -244,7 +244,7 @@ impl<'a> HashTable<'a> {
     ) -> Result<(E, u32), ElfError>
         requires { 0 < index }
         ensures { let chains = chains_of self.now (table_symbols symbols.now).items in MatchResult result
-            (λ (entry, next). StandsAt chains index entry × (chains.chain index ≡ Ok next)
+            (λ (entry, next). IsFoundAt chains index entry × (chains.chain index ≡ Ok next)
             × (passed < chains.count) × (passed + 1 < 2 ^ 32))
             (λ error. (first : ℕ) → Comes chains first passed index
             → (n : ℕ) × LooksFrom (λ (at : ℕ × E). ⊥) chains (Some (Ok first)) (Err error) n) }
@@ -317,7 +317,11 @@ impl<'a> HashTable<'a> {
     {
         let count = (self.chain_count() as usize).min(symbols.len()) as u32;
         for index in 1..count {
-            if self.walk(index, symbols, |at| at.0 < index).0.is_err() {
+            if self
+                .follow_chain(index, symbols, |at| at.0 < index)
+                .0
+                .is_err()
+            {
                 return index;
             }
         }
@@ -338,7 +342,7 @@ impl<'a> HashTable<'a> {
             (λ _. Ends self.now items bucket) (λ error. IsAtFault self.now items bucket error) }
     {
         match self.get_bucket(bucket) {
-            Ok(first) => match self.walk(first, symbols, |at| at.0 < sound).0 {
+            Ok(first) => match self.follow_chain(first, symbols, |at| at.0 < sound).0 {
                 Ok(_) => Ok(()),
                 Err(error) => Err(error),
             },
@@ -393,7 +397,10 @@ impl<'a> HashTable<'a> {
         ensures { IsTrue result ↔ IsReached self.now (table_symbols symbols.now).items name.now index }
     {
         match self.start(name) {
-            Some(Ok(first)) => match self.walk(first, symbols, |at| at.0 as usize == index).0 {
+            Some(Ok(first)) => match self
+                .follow_chain(first, symbols, |at| at.0 as usize == index)
+                .0
+            {
                 Ok(found) => found.is_some(),
                 Err(_) => false,
             },

@@ -164,7 +164,7 @@ impl<'a> HashTable<'a> {
             Some(Err(error)) => return (Err(error), 0),
         };
         // The test is called only with symbols that have the name.
-        self.walk(
+        self.follow_chain(
             first,
             symbols,
             |at: &(u32, E)| -> bool

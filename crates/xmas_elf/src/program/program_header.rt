@@ -7,8 +7,8 @@ ghost use Rattle.std.specs.Prelude.{nat_lt, not, take, unwrap_or};
 ghost use Rattle.std.specs.Option.{ForSome};
 ghost use Rattle.std.proofs.Common.{lit<};
 ghost use Rattle.elf_base.specs.FileHeader.{file_class, header_fields};
-ghost use Rattle.elf_base.specs.Lent.{Answers, Lends};
-ghost use Rattle.elf_base.specs.Refusal.{unless};
+ghost use Rattle.elf_base.specs.Lent.{Answers, IfPart};
+ghost use Rattle.elf_base.specs.FirstError.{unless};
 ghost use Rattle.xmas_elf.specs.HeaderTable.{is_known_class};
 ghost use Rattle.xmas_elf.specs.Place.{LiesAsSegment};
 ghost use Rattle.xmas_elf.specs.ProgramHeader.{HasProgramEntry, HasProgramHeader, HasSegmentData};
@@ -85,7 +85,7 @@ impl ProgramHeader32 {
     #[inline(always)]
     pub fn raw_data<'a>(&self, file: &ElfFile<'a>) -> Result<&'a [u8], ElfError>
         ensures readable { IsOk result ↔ HasSegmentData file.now (program_64 self.now) }
-        ensures range { Lends (IsSegmentData file.now (program_64 self.now)) result }
+        ensures range { IfPart (IsSegmentData file.now (program_64 self.now)) result }
         ensures place { IfOk result (LiesAsSegment file.now (program_64 self.now)) }
         ensures exact { Answers (segment_data_of file.now (program_64 self.now)) result }
     {
@@ -159,7 +159,7 @@ impl ProgramHeader64 {
     #[inline(always)]
     pub fn raw_data<'a>(&self, file: &ElfFile<'a>) -> Result<&'a [u8], ElfError>
         ensures readable { IsOk result ↔ HasSegmentData file.now self.now }
-        ensures range { Lends (IsSegmentData file.now self.now) result }
+        ensures range { IfPart (IsSegmentData file.now self.now) result }
         ensures place { IfOk result (LiesAsSegment file.now self.now) }
         ensures exact { Answers (segment_data_of file.now self.now) result }
     {
@@ -312,7 +312,7 @@ impl ProgramHeader {
     #[inline(always)]
     pub fn raw_data<'a>(&self, file: &ElfFile<'a>) -> Result<&'a [u8], ElfError>
         ensures readable { IsOk result ↔ HasSegmentData file.now (program_fields self.now) }
-        ensures range { Lends (IsSegmentData file.now (program_fields self.now)) result }
+        ensures range { IfPart (IsSegmentData file.now (program_fields self.now)) result }
         ensures place { IfOk result (LiesAsSegment file.now (program_fields self.now)) }
         ensures exact { Answers (segment_data_of file.now (program_fields self.now)) result }
     {

@@ -5,8 +5,8 @@ ghost use Rattle.std.specs.Prelude.{◌≡◌, ◌↔◌, ◌+◌, ◌≤◌, �
 ghost use Rattle.std.specs.Prelude.{MatchResult, Ok, drop, length, nat_lt, not, take};
 ghost use Rattle.std.proofs.Common.{lit<};
 ghost use Rattle.elf_base.specs.FileHeader.{class_number};
-ghost use Rattle.elf_base.specs.Lent.{Answers, Lends};
-ghost use Rattle.elf_base.specs.Refusal.{unless};
+ghost use Rattle.elf_base.specs.Lent.{Answers, IfPart};
+ghost use Rattle.elf_base.specs.FirstError.{unless};
 ghost use Rattle.elf_base.specs.Text.{lent_text};
 ghost use Rattle.elf_records.specs.SectionNumbers.{sh_type_raw};
 ghost use Rattle.xmas_elf.specs.HeaderTable.{is_known_class};
@@ -22,7 +22,7 @@ ghost use Rattle.xmas_elf.specs.SectionHeader.{section_header_64};
 ghost use Rattle.xmas_elf.specs.SectionHeader.{section_header_size, section_type};
 ghost use Rattle.xmas_elf.specs.declared.ElfFile.{ElfFile};
 
-use crate::bytes::{Order, Record, stands_at};
+use crate::bytes::{Order, Record, is_found_at};
 use crate::header::Class::{SixtyFour, ThirtyTwo};
 use crate::header::{Class_, Header};
 use crate::ranges::{entry_at, is_within, range_at};
@@ -270,7 +270,7 @@ impl SectionHeader {
     #[tactic(auto, unfolding(crate::specs::NameTable::name_of))]
     #[inline(always)]
     pub fn get_name<'a>(&self, file: &ElfFile<'a>) -> Result<&'a str, ElfError>
-        ensures name { Lends (HasName file.now self.now) result }
+        ensures name { IfPart (HasName file.now self.now) result }
         ensures exact { Answers (name_of file.now self.now) result }
     {
         match self.get_type()? {
@@ -286,7 +286,7 @@ impl SectionHeader {
     #[tactic(auto, unfolding(crate::specs::NameTable::name_bytes_of, crate::specs::NameTable::name_of))]
     #[inline(always)]
     pub fn name_bytes<'a>(&self, file: &ElfFile<'a>) -> Result<&'a [u8], ElfError>
-        ensures bytes { Lends (HasNameBytes file.now self.now) result }
+        ensures bytes { IfPart (HasNameBytes file.now self.now) result }
         ensures place { IfOk result (LiesAsName file.now (section_fields self.now).name) }
         ensures as_text { name_of file.now self.now ≡ lent_text result }
         ensures exact { Answers (name_bytes_of file.now self.now) result }
@@ -304,7 +304,7 @@ impl SectionHeader {
             → (IsTrue result ↔ HasName file self.now name.now) }
     {
         // The name is compared first, since it rules out most sections.
-        if !stands_at(names, self.name() as usize, name) {
+        if !is_found_at(names, self.name() as usize, name) {
             return false;
         }
         match self.get_type() {
@@ -323,7 +323,7 @@ impl SectionHeader {
     #[inline(always)]
     pub fn raw_data<'a>(&self, file: &ElfFile<'a>) -> Result<&'a [u8], ElfError>
         ensures readable { IsOk result ↔ HasSectionData file.now self.now }
-        ensures range { Lends (IsSectionData file.now self.now) result }
+        ensures range { IfPart (IsSectionData file.now self.now) result }
         ensures place { IfOk result (LiesAsSection file.now self.now) }
         ensures exact { Answers (section_data_of file.now self.now) result }
     {

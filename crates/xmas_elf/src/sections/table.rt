@@ -6,7 +6,7 @@ ghost use Rattle.std.specs.Prelude.{Err, IfOk, MatchOption, Ok, ℕ};
 ghost use Rattle.std.specs.Result.{ForErr, ForOk};
 ghost use Rattle.std.specs.Iterator.{YieldsFirst, item_count};
 ghost use Rattle.elf_base.specs.FileHeader.{file_class, file_order, header_fields};
-ghost use Rattle.elf_base.specs.Lent.{Answers, Lends};
+ghost use Rattle.elf_base.specs.Lent.{Answers, IfPart};
 ghost use Rattle.elf_base.specs.Text.{lent_text};
 ghost use Rattle.xmas_elf.specs.SectionHeader.{HasSectionEntry, section_at_index, section_at_place};
 ghost use Rattle.xmas_elf.specs.SectionHeader.{section_count_of, section_header_size, section_list};
@@ -124,7 +124,7 @@ impl<'b, 'a> SectionTable<'b, 'a> {
     #[tactic(auto, unfolding(crate::specs::NameTable::name_of, crate::specs::NameTable::shstr_of))]
     #[inline(always)]
     pub fn name_of(&self, section: &SectionHeader) -> Result<&'a str, ElfError>
-        ensures name { Lends (HasName (section_table_file self.now) section.now) result }
+        ensures name { IfPart (HasName (section_table_file self.now) section.now) result }
         ensures exact { Answers (name_of (section_table_file self.now) section.now) result }
     {
         match section.get_type()? {
@@ -137,7 +137,7 @@ impl<'b, 'a> SectionTable<'b, 'a> {
     #[tactic(auto, unfolding(crate::specs::NameTable::name_bytes_of, crate::specs::NameTable::name_of, crate::specs::NameTable::shstr_bytes_of, crate::specs::NameTable::shstr_of))]
     #[inline(always)]
     pub fn name_bytes_of(&self, section: &SectionHeader) -> Result<&'a [u8], ElfError>
-        ensures bytes { Lends (HasNameBytes (section_table_file self.now) section.now) result }
+        ensures bytes { IfPart (HasNameBytes (section_table_file self.now) section.now) result }
         ensures place { LiesInNames self.now (section_fields section.now).name result }
         ensures as_text { name_of (section_table_file self.now) section.now ≡ lent_text result }
         ensures exact { Answers (name_bytes_of (section_table_file self.now) section.now) result }
@@ -153,7 +153,7 @@ impl<'b, 'a> SectionTable<'b, 'a> {
     // `position_of_name` prove theirs.
     #[inline(always)]
     fn name_table(&self) -> Result<&'a [u8], ElfError>
-        ensures table { Lends (IsNameTable (section_table_file self.now)) result }
+        ensures table { IfPart (IsNameTable (section_table_file self.now)) result }
         ensures same { result ≡ section_table_names self.now }
         ensures exact { Answers (name_table_of (section_table_file self.now)) result }
     {

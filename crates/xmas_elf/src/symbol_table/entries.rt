@@ -137,7 +137,7 @@ pub(crate) trait Kept {
 impl<K: Kept> Entry for K {
     ghost use Rattle.std.specs.Prelude.{IfOk, IfSome, IsSomeAnd, MatchResult, None, Some};
     ghost use Rattle.std.specs.Result.{result_ok};
-    ghost use Rattle.elf_base.specs.Lent.{Answers, Lends};
+    ghost use Rattle.elf_base.specs.Lent.{Answers, IfPart};
     ghost use Rattle.xmas_elf.specs.Place.{LiesAsSymbolStrings};
     ghost use Rattle.xmas_elf.specs.SymbolName.{HoldsNames, IsSymbolString, name_by};
     ghost use Rattle.xmas_elf.specs.SymbolName.{symbol_string_of, symbol_strings_of};
@@ -202,7 +202,7 @@ impl<K: Kept> Entry for K {
     /// The name of the symbol in `.strtab`, as in `ElfFile::get_string`; for a symbol for dynamic
     /// linking in `.dynstr`, as in `ElfFile::get_dyn_string`.
     fn get_name<'a>(&self, file: &ElfFile<'a>) -> Result<&'a str, ElfError>
-        ensures text { Lends (IsSymbolString K.DYNAMIC file.now (K.fields self.now).name) result }
+        ensures text { IfPart (IsSymbolString K.DYNAMIC file.now (K.fields self.now).name) result }
         ensures exact { Answers
             (symbol_string_of K.DYNAMIC file.now (K.fields self.now).name) result }
     {

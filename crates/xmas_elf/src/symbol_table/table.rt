@@ -16,7 +16,7 @@ use crate::symbol_table::Entry;
 use crate::symbol_table::file_ranges::symbol_range;
 use crate::symbol_table::symbol_names::Names;
 use crate::{ElfError, ElfFile};
-use elf_base::bytes::stands_at;
+use elf_base::bytes::is_found_at;
 
 /// A symbol table with the names of its symbols: the table, and the string table of the names, or
 /// the file if names are not texts of one table.
@@ -222,7 +222,7 @@ impl<'a, E: Entry + Record> SymbolTable<'a, E> {
     {
         match &self.names {
             Names::Strings(found) => match *found {
-                Ok(strings) => stands_at(strings, symbol.name() as usize, name),
+                Ok(strings) => is_found_at(strings, symbol.name() as usize, name),
                 Err(_) => false,
             },
             Names::File(file) => matches!(symbol.get_name(file), Ok(text) if text == name),

@@ -1,7 +1,7 @@
 //! Section indices of symbols that need more than 16 bits (gABI, "Sections", SHT_SYMTAB_SHNDX).
 
 ghost use Rattle.std.specs.Prelude.{◌≡◌, IfOk};
-ghost use Rattle.elf_base.specs.Lent.{Answers, Lends};
+ghost use Rattle.elf_base.specs.Lent.{Answers, IfPart};
 ghost use Rattle.xmas_elf.specs.SymbolSection.{IsIndexTable, IsWideIndex};
 ghost use Rattle.xmas_elf.specs.SymbolSection.{index_table_of, wide_index_of};
 
@@ -24,7 +24,7 @@ pub(crate) fn wide_index(file: &ElfFile<'_>, self_index: usize) -> Result<u32, E
 // The data of `.symtab_shndx`.
 #[tactic(auto, unfolding(crate::specs::SymbolSection::index_table_of))]
 fn index_table<'a>(file: &ElfFile<'a>) -> Result<&'a [u8], ElfError>
-    ensures table { Lends (IsIndexTable file.now) result }
+    ensures table { IfPart (IsIndexTable file.now) result }
     ensures exact { Answers (index_table_of file.now) result }
 {
     let Some(section) = file.find_section_by_name(".symtab_shndx") else {

@@ -1,6 +1,6 @@
 use Rattle.std.proofs.Common.{IfOk, IsSomeAnd, ap, subst, sym, ◌∙◌}
 use Rattle.elf_addresses.specs.Symtab.{LiesAsDataAt, data_at, whole_words, words_at}
-use Rattle.elf_addresses.proofs.lemmas.LentAnswers.{lent_answer}
+use Rattle.elf_addresses.proofs.lemmas.PartAnswers.{lent_answer}
 use Rattle.elf_addresses.proofs.symtab.words_at.Goals as goal
 
 pub returns-in-Some-clause-value : goal.returns-in-Some-clause-value

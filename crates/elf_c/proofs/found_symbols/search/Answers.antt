@@ -1,6 +1,6 @@
 use Rattle.std.proofs.lemmas.Result.{err_from_is_err_and}
 use Rattle.elf_linking.proofs.lemmas.Objects.{versions_of_object}
-use Rattle.elf_c.specs.FoundSymbols.{refused, searched}
+use Rattle.elf_c.specs.FoundSymbols.{failed, searched}
 use Rattle.elf_c.proofs.found_symbols.search.Goals as goal
 
 pub returns : goal.returns
@@ -16,4 +16,4 @@ returns g c = searched _ _ (versions_of_object c.in_ok-object.object _ g.E.Entry
 pub returns-in_err-object : goal.returns-in_err-object
 returns-in_err-object g c =
     let p = err_from_is_err_and c.from_residual.result c.from_residual.ensures.1 in
-    rw (p.1, p.2) (refused _ c.in_err-object.ensures)
+    rw (p.1, p.2) (failed _ c.in_err-object.ensures)

@@ -1,12 +1,12 @@
 use Rattle.std.proofs.Common.{rules, Ok, Err, refl, length, take}
 use Rattle.elf_loading.specs.LoadScope.{loaded_objects, loaded_plans}
 use Rattle.elf_c.specs.LoadImages.{unchecked, unplanned}
-use Rattle.elf_c.proofs.LoadObjects.{refused_first, unplanned_first}
+use Rattle.elf_c.proofs.LoadObjects.{failed_first, unplanned_first}
 use Rattle.elf_c.proofs.LoadImages.{checked_by}
 use Rattle.elf_c.proofs.load_images.check_objects.Goals as goal
 
 pub returns-in-Err : goal.returns-in-Err
-returns-in-Err g c = unchecked c.in-Err.failed.1 (refused_first c.in-Err.ensures) refl
+returns-in-Err g c = unchecked c.in-Err.failed.1 (failed_first c.in-Err.ensures) refl
 
 pub returns-in-Err-plans_of : goal.returns-in-Err-plans_of
 returns-in-Err-plans_of g c = unplanned (take (length c.args.loads.now) c.in-Ok.objects.all) c.in-Err-plans_of.failed.1 c.in-Ok.ensures (unplanned_first c.args.page c.args.limit (take (length c.args.loads.now) c.in-Ok.objects.all) c.in-Err-plans_of.failed.0 c.in-Err-plans_of.failed.1 (search rules)) refl

@@ -1,12 +1,12 @@
 use Rattle.std.proofs.Common.{rules, Ok, Err, refl, length, take}
 use Rattle.elf_loading.specs.LoadScope.{loaded_objects, loaded_plans}
 use Rattle.elf_c.specs.LoadImages.{unmapped, unrelocated}
-use Rattle.elf_c.proofs.LoadObjects.{refused_first, unplanned_first}
+use Rattle.elf_c.proofs.LoadObjects.{failed_first, unplanned_first}
 use Rattle.elf_c.proofs.LoadImages.{relocated_by}
 use Rattle.elf_c.proofs.load_images.relocate_objects.Goals as goal
 
 pub returns-in-Err-clause-exact : goal.returns-in-Err-clause-exact
-returns-in-Err-clause-exact g c = unrelocated c.in-Err.failed.1 (refused_first c.in-Err.ensures) refl refl
+returns-in-Err-clause-exact g c = unrelocated c.in-Err.failed.1 (failed_first c.in-Err.ensures) refl refl
 
 pub returns-in-Err-plans_of-clause-exact : goal.returns-in-Err-plans_of-clause-exact
 returns-in-Err-plans_of-clause-exact g c = unmapped (take (length c.args.loads.now) c.in-Ok.objects.all) c.in-Err-plans_of.failed.1 c.in-Ok.ensures (unplanned_first c.args.page c.args.limit (take (length c.args.loads.now) c.in-Ok.objects.all) c.in-Err-plans_of.failed.0 c.in-Err-plans_of.failed.1 (search rules)) refl refl

@@ -1,13 +1,13 @@
 use Rattle.std.proofs.Common.{◌≡◌, [], length, refl, subst, ◌∙◌, arith}
 use Rattle.std.proofs.lemmas.List.{length-set}
 use Rattle.std.proofs.lemmas.Option.{slice_get-get_or}
-use Rattle.elf_c.specs.LoadObjects.{AreFirstMade, IsObjectOf, IsRefusedAsObject}
+use Rattle.elf_c.specs.LoadObjects.{AreFirstMade, IsObjectOf, IsObjectErrorOf}
 use Rattle.elf_c.proofs.LoadObjects.{all_made, first_made, one_more_made, unmade_first}
 use Rattle.elf_c.proofs.load_objects.objects_of.Goals as goal
 
 pub returns-in-Err : goal.returns-in-Err
 returns-in-Err g c = record {
-  refused = unmade_first (IsObjectOf g.E.LinkedSymbol.CLASS g.E.Record.SIZE) c.args.loads.now (λ load. IsRefusedAsObject g.E.LinkedSymbol.CLASS g.E.Record.SIZE load.file.now) 0 _ [] c.in-Err.error
+  failed = unmade_first (IsObjectOf g.E.LinkedSymbol.CLASS g.E.Record.SIZE) c.args.loads.now (λ load. IsObjectErrorOf g.E.LinkedSymbol.CLASS g.E.Record.SIZE load.file.now) 0 _ [] c.in-Err.error
       (slice_get-get_or c.args.loads.now 0 _ c.requires.some) (λ index load below is. absurd (omega (arith, below))) c.in-Err.ensures.exact;
 }
 
@@ -19,7 +19,7 @@ loop-index-init g c = record {
 
 pub returns-in-Err-read_object : goal.returns-in-Err-read_object
 returns-in-Err-read_object g c = record {
-  refused = unmade_first (IsObjectOf g.E.LinkedSymbol.CLASS g.E.Record.SIZE) c.args.loads.now (λ load. IsRefusedAsObject g.E.LinkedSymbol.CLASS g.E.Record.SIZE load.file.now) c.loop-index.index _ c.loop-index.objects c.in-Err-read_object.error
+  failed = unmade_first (IsObjectOf g.E.LinkedSymbol.CLASS g.E.Record.SIZE) c.args.loads.now (λ load. IsObjectErrorOf g.E.LinkedSymbol.CLASS g.E.Record.SIZE load.file.now) c.loop-index.index _ c.loop-index.objects c.in-Err-read_object.error
       (slice_get-get_or c.args.loads.now c.loop-index.index _ c.loop-index-test.true) c.loop-index.invariant.first c.in-Err-read_object.ensures.exact;
 }
 

@@ -5,7 +5,7 @@ use Rattle.elf_linking.specs.LinkedSections.{IsRelr, relr_at}
 use Rattle.elf_linking.specs.declared.view.tags.TheConstants.{DT_RELR, DT_RELRSZ}
 use Rattle.elf_c.specs.Batch.{FillsBy}
 use Rattle.elf_c.specs.PackedRelocations.{address_among, address_by, dynamic_packed_address, entries_address}
-use Rattle.elf_c.specs.declared.status.Refusal.TheVariants.{Link}
+use Rattle.elf_c.specs.declared.status.AnyError.TheVariants.{Link}
 use Rattle.elf_c.proofs.packed_relocations.fill_from_segment.Goals as goal
 
 pub returns-in-Some-Err : goal.returns-in-Some-Err

@@ -1,6 +1,6 @@
 use Rattle.std.proofs.Common.{◌-◌, ap, subst, sym, ◌∙◌}
 use Rattle.std.proofs.lemmas.Result.{on_ok_weaker}
-use Rattle.elf_addresses.proofs.lemmas.LentAnswers.{lent_answer}
+use Rattle.elf_addresses.proofs.lemmas.PartAnswers.{lent_answer}
 use Rattle.elfaddr.specs.Lines.{IsSectionLine, in_section, nowhere, or_mark, place_text}
 use Rattle.xmas_elf.specs.NameTable.{shstr_bytes_of}
 use Rattle.xmas_elf.specs.SectionHeader.{section_fields}

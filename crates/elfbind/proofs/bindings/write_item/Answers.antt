@@ -7,8 +7,8 @@ use Rattle.elfbind.proofs.AskedLines.{asked_error, from_within, has_line, look_l
 use Rattle.elfbind.proofs.bindings.write_item.Goals as goal
 use Rattle.program_ends.proofs.Ends.{stop_so}
 
-pub refusal_at-requires-in-Err-asked : goal.refusal_at-requires-in-Err-asked
-refusal_at-requires-in-Err-asked g c =
+pub failure_at-requires-in-Err-asked : goal.failure_at-requires-in-Err-asked
+failure_at-requires-in-Err-asked g c =
     let same = c.requires.same in
     let below : c.in-Ok.binding.from < length c.args.objects.now = from_within g.E.Entry.fields c.args.inputs.now c.args.objects.now c.args.only_missing c.args.item c.in-Ok.binding c.in-Ok.is c.requires.item in
     omega (arith, same, below)
@@ -20,9 +20,9 @@ line_at-line-requires g c =
     omega (arith, same, below)
 
 pub returns-in-Err-asked : goal.returns-in-Err-asked
-returns-in-Err-asked g c = stop_so _ _ _ _ _ _ c.refusal_at-in-Err-asked.result
+returns-in-Err-asked g c = stop_so _ _ _ _ _ _ c.failure_at-in-Err-asked.result
     (asked_error g.E.Entry.fields c.args.inputs.now c.args.objects.now c.args.only_missing c.args.item c.in-Ok.binding c.in-Ok.is c.requires.item c.index-objects-from-2.result c.index-objects-from-2.is c.asked.result c.asked.ensures c.in-Err-asked.error c.in-Err-asked.is)
-    (λ never. absurd never) (λ never. never) c.refusal_at-in-Err-asked.ensures
+    (λ never. absurd never) (λ never. never) c.failure_at-in-Err-asked.ensures
 
 pub returns-in-Ok-Own : goal.returns-in-Ok-Own
 returns-in-Ok-Own g c = own_line g.E.Entry.fields c.args.inputs.now c.args.objects.now c.args.only_missing c.args.item c.in-Ok.binding c.in-Ok.is c.requires.item c.index-objects-from-2.result c.index-objects-from-2.is c.asked.result c.asked.ensures c.requires.passed c.in-Ok-Own.field-0-0 (c.in-Ok-Own.is ∙ ap (λ a. Ok a) c.in-Ok-Own.field-0-is) _

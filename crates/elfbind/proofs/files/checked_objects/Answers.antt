@@ -37,4 +37,4 @@ returns-in-Err g c =
     let index = c.loop-index.index in
     let below : index < length objects = omega (arith, c.loop-index-test.true) in
     check_stops g.E.Entry.fields c.args.inputs.now objects index c.index-objects-index.result c.in-Err.error _ below
-    c.index-objects-index.is c.loop-index.invariant.0 c.in-Err.ensures.exact c.refusal_at.ensures
+    c.index-objects-index.is c.loop-index.invariant.0 c.in-Err.ensures.exact c.failure_at.ensures

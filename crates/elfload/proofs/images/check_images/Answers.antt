@@ -8,5 +8,5 @@ loop-index-preserved g c =
     below_more (IsChecked g.E.Record.SIZE g.E.Entry.fields c.args.objects.now c.args.plans.now) c.loop-index.index c.loop-index.invariant c.in-Ok.ensures
 
 pub returns-in-Err : goal.returns-in-Err
-returns-in-Err g c = stop_so _ _ _ _ _ _ c.in-Err.stop (λ refused told. record { index = c.loop-index.index; before = c.loop-index.invariant; why = told })
+returns-in-Err g c = stop_so _ _ _ _ _ _ c.in-Err.stop (λ failed told. record { index = c.loop-index.index; before = c.loop-index.invariant; why = told })
     (λ never. never) (λ short. short) c.in-Err.ensures

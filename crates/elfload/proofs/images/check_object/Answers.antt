@@ -16,4 +16,4 @@ pub returns-in-Err : goal.returns-in-Err
 returns-in-Err g c =
     let objects = c.args.objects.now in
     let there = slice_get_read objects (length objects) c.args.index c.index-objects-index.result refl c.requires.below c.index-objects-index.is in
-    check_stops g.E.Record.SIZE g.E.Entry.fields c.args.inputs.now objects c.args.plans.now c.args.index (Link c.in-Err.error) c.refusal_at.result (by_symbols c.index-objects-index.result c.in-Err.error there c.in-Err.ensures.exact) c.refusal_at.ensures
+    check_stops g.E.Record.SIZE g.E.Entry.fields c.args.inputs.now objects c.args.plans.now c.args.index (Link c.in-Err.error) c.failure_at.result (by_symbols c.index-objects-index.result c.in-Err.error there c.in-Err.ensures.exact) c.failure_at.ensures

@@ -1,5 +1,5 @@
 use Rattle.std.proofs.Common.{◌∙◌}
-use Rattle.elfload.proofs.Checks.{image_good, image_refused}
+use Rattle.elfload.proofs.Checks.{image_good, image_failed}
 use Rattle.elfload.proofs.Stops.{check_stops}
 use Rattle.elfload.proofs.images.check_words.Goals as goal
 
@@ -10,5 +10,5 @@ returns-in-Ok-check_image g c =
 pub returns : goal.returns
 returns g c =
     let error = c.in-Err.error in
-    check_stops g.E.Record.SIZE g.E.Entry.fields c.args.inputs.now c.args.objects.now c.args.plans.now c.args.index error c.refusal_at.result
-    (image_refused g.E.Record.SIZE g.E.Entry.fields _ c.args.objects _ c.args.plans c.args.index _ (c.new-planned.ensures.objects ∙ c.new-scope.ensures) c.new-planned.ensures.plans error c.in-Err.ensures.exact) c.refusal_at.ensures
+    check_stops g.E.Record.SIZE g.E.Entry.fields c.args.inputs.now c.args.objects.now c.args.plans.now c.args.index error c.failure_at.result
+    (image_failed g.E.Record.SIZE g.E.Entry.fields _ c.args.objects _ c.args.plans c.args.index _ (c.new-planned.ensures.objects ∙ c.new-scope.ensures) c.new-planned.ensures.plans error c.in-Err.ensures.exact) c.failure_at.ensures

@@ -22,11 +22,11 @@ loop-index-preserved g c =
       ap length pushed ∙ length_push done plan ∙ ap (λ n. n + 1) c.loop-index.invariant.1,
     )
 
-pub returns-in-Err-clause-refused : goal.returns-in-Err-clause-refused
-returns-in-Err-clause-refused g c =
+pub returns-in-Err-clause-failed : goal.returns-in-Err-clause-failed
+returns-in-Err-clause-failed g c =
     let objects = c.args.objects.now in
     let index = c.loop-index.index in
     let object = c.index-objects-index.result in
     let below : index < length objects = omega (arith, c.loop-index-test.true) in
     let there = slice_get_read objects (length objects) index object refl below c.index-objects-index.is in
-    plan_stops c.args.page c.args.inputs.now objects index object c.loop-index.plans.items c.in-Err.error c.refusal_at.result there c.loop-index.invariant.0 c.in-Err.ensures c.refusal_at.ensures
+    plan_stops c.args.page c.args.inputs.now objects index object c.loop-index.plans.items c.in-Err.error c.failure_at.result there c.loop-index.invariant.0 c.in-Err.ensures c.failure_at.ensures

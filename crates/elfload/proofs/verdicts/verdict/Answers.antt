@@ -8,4 +8,4 @@ returns-in-Ok c =
     verdict_read c.args.by c.args.page c.args.bytes c.in-Ok.file c.file_verdict.result c.in-Ok.ensures.input c.in-Ok.ensures.header c.file_verdict.ensures
 
 pub returns-in-Err : goal.returns-in-Err
-returns-in-Err c = (c.args.bytes, refl, ap (verdict_of c.args.by c.args.page c.args.bytes) (sym c.in-Err.ensures.refused))
+returns-in-Err c = (c.args.bytes, refl, ap (verdict_of c.args.by c.args.page c.args.bytes) (sym c.in-Err.ensures.failed))

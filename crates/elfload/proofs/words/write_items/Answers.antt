@@ -17,5 +17,5 @@ returns g c = lines_end g.E.Entry.fields c.args.machine c.args.of c.args.words c
 pub returns-in-Err : goal.returns-in-Err
 returns-in-Err g c =
     let step = c.in-Some.ensures.steps in
-    stop_so _ _ _ _ _ _ c.in-Err.stop (λ refused told. (told.0, lines_stop g.E.Entry.fields c.args.machine c.args.of c.args.words c.loop-item.item-iterator c.next.new.self c.in-Some.item _ _ c.loop-item.invariant step.0 step.2 refused.error told.1))
+    stop_so _ _ _ _ _ _ c.in-Err.stop (λ failed told. (told.0, lines_stop g.E.Entry.fields c.args.machine c.args.of c.args.words c.loop-item.item-iterator c.next.new.self c.in-Some.item _ _ c.loop-item.invariant step.0 step.2 failed.error told.1))
     (λ written. written) (λ never. never) c.in-Err.ensures

@@ -31,5 +31,5 @@ returns-in-Ok g c =
 pub returns-in-Err : goal.returns-in-Err
 returns-in-Err g c =
     let of = c.args.of in
-    error_stops c.args.inputs.now of (IsTextError g.E.Entry.fields c.args.when c.args.objects.now of) ⊤ ⊥ (Link c.in-Err.error) c.refusal_at.result
-    (by_relocations c.in-Err.error (subst (λ lent. own_relocations (slice_get lent.now of) ≡ Err c.in-Err.error) c.new.ensures c.in-Err.ensures.exact)) c.refusal_at.ensures
+    error_stops c.args.inputs.now of (IsTextError g.E.Entry.fields c.args.when c.args.objects.now of) ⊤ ⊥ (Link c.in-Err.error) c.failure_at.result
+    (by_relocations c.in-Err.error (subst (λ lent. own_relocations (slice_get lent.now of) ≡ Err c.in-Err.error) c.new.ensures c.in-Err.ensures.exact)) c.failure_at.ensures

@@ -11,5 +11,5 @@ loop-of-preserved g c =
     one_more (IsObjectText g.E.Entry.fields c.args.when c.args.inputs.now c.args.objects.now) c.args.objects.now c.loop-of.of _ _ _ c.loop-of.invariant c.in-Ok.ensures
 
 pub returns-in-Err : goal.returns-in-Err
-returns-in-Err g c = stop_so _ _ _ _ _ _ c.in-Err.stop (λ refused told. record { of = c.loop-of.of; path_is = told.0; error_is = told.1 })
+returns-in-Err g c = stop_so _ _ _ _ _ _ c.in-Err.stop (λ failed told. record { of = c.loop-of.of; path_is = told.0; error_is = told.1 })
     (λ written. written) (λ never. never) c.in-Err.ensures

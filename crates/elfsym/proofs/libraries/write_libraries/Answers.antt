@@ -1,6 +1,6 @@
 use Rattle.std.proofs.Common.{subst}
 use Rattle.elf_linking.specs.DynamicView.{needed_bytes_in, view_entries}
-use Rattle.elfsym.specs.Libraries.{AreLibraryLines, HasFirstLibrary, IsNameRefused, by_name}
+use Rattle.elfsym.specs.Libraries.{AreLibraryLines, HasFirstLibrary, IsNameError, by_name}
 use Rattle.elfsym.proofs.libraries.write_libraries.Goals as goal
 use Rattle.program_ends.proofs.Ends.{ends_so}
 
@@ -14,7 +14,7 @@ returns-in-Ok g c =
       entries_are = c.in-Ok.ensures.exact.0;
       lines = subst (λ strings. AreLibraryLines (needed_bytes_in strings entries) text) strings_are lines;
     })
-    (λ error why. by_name entries c.in-Ok.ensures.exact.0 (subst (λ strings. IsNameRefused (needed_bytes_in strings entries) error) strings_are why))
+    (λ error why. by_name entries c.in-Ok.ensures.exact.0 (subst (λ strings. IsNameError (needed_bytes_in strings entries) error) strings_are why))
     (λ begun. record {
       entries = entries;
       entries_are = c.in-Ok.ensures.exact.0;

@@ -13,5 +13,5 @@ returns-in-Ok-write_buffered-clause-written g c = (
 )
 
 pub returns-clause-fault : goal.returns-clause-fault
-returns-clause-fault g c = subst (IsScopeFault g.E.Record g.E.Entry.fields g.E.LinkedSymbol.CLASS g.E.Record.SIZE c.args.inputs.now) (sym c.refused_fault_of.ensures)
+returns-clause-fault g c = subst (IsScopeFault g.E.Record g.E.Entry.fields g.E.LinkedSymbol.CLASS g.E.Record.SIZE c.args.inputs.now) (sym c.failed_fault_of.ensures)
     (lines_fault g.E.Record g.E.Entry.fields g.E.LinkedSymbol.CLASS g.E.Record.SIZE c.args.inputs.now c.in-Ok.objects.items _ c.in-Err-write_buffered.stop c.in-Ok.ensures c.in-Err-write_buffered.ensures)

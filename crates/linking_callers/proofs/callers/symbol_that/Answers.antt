@@ -3,7 +3,7 @@ use Rattle.elf_linking.specs.GnuHash.{FindsAll}
 use Rattle.xmas_elf.specs.Symbols.{IsMatch, symbols_of}
 use Rattle.linking_callers.proofs.callers.symbol_that.Goals as goal
 
--- what is found by a good table bears the name and passes
+-- what is found by a good table has the name and passes
 pub returns-in-Ok-Some : goal.returns-in-Ok-Some
 returns-in-Ok-Some g c =
     let all = symbols_of g.E.Entry.fields g.E.Entry.text_in c.args.symbols.now c.args.file.now in

@@ -229,8 +229,8 @@ fn goes_on_after_relocations_that_are_not_read(rt: HostRuntime) -> Result<(), Li
     let first = loaded::<DynEntry64>(&rt, WIDE_FIRST)?;
     let objects = [program, first];
     let mut bindings = Scope::new(&objects).bindings();
-    let refused = bindings.next().and_then(|item| item.err());
-    want(&rt, refused, Some((0, LinkError::RelocationKind)));
+    let failed = bindings.next().and_then(|item| item.err());
+    want(&rt, failed, Some((0, LinkError::RelocationKind)));
     let next = bindings.next().and_then(|item| item.ok());
     want(&rt, next.map(|binding| binding.from), Some(1));
     let checked = [CheckedObject::of(program)?, CheckedObject::of(first)?];

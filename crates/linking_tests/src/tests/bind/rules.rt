@@ -71,7 +71,7 @@ fn binds_by_visibility_and_numbers(rt: HostRuntime) {
 }
 
 // The numbers of the symbols `ab` from index 1 on, and which is found for V1 as a program asks, and
-// for V1 and no other version. Number 2 is V1, and nothing bears 9.
+// for V1 and no other version. Number 2 is V1, and nothing has number 9.
 const EXACT: &[(&[u16], Option<u32>, Option<u32>)] = rows! {
     &[2], Some(1), Some(1); &[0x8002], Some(1), Some(1); &[0], Some(1), None; &[1], Some(1), None;
     &[9], Some(1), None; &[0x8001], None, None; &[3], None, None; &[1, 2], Some(1), Some(2);

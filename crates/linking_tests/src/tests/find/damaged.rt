@@ -41,7 +41,7 @@ fn index_of<E: LinkedSymbol>(object: &DynamicObject<'_, E>, asked: Asked) -> Ans
 }
 
 // Whether a symbol has a version, or one that is open to each.
-fn bears<E: LinkedSymbol>(
+fn has_version<E: LinkedSymbol>(
     object: &DynamicObject<'_, E>,
     index: u32,
     name: &str,
@@ -67,9 +67,9 @@ fn check_version<E: LinkedSymbol>(
     name: &'static str,
     hash: u32,
 ) {
-    let answer = match bears(object, 3, name, hash) {
+    let answer = match has_version(object, 3, name, hash) {
         Ok(true) => Ok(Some(3)),
-        Ok(false) => bears(object, 4, name, hash).map(|bears| bears.then_some(4)),
+        Ok(false) => has_version(object, 4, name, hash).map(|has_version| has_version.then_some(4)),
         Err(error) => Err(error),
     };
     want_at(rt, (place, name), index_of(object, By(name, hash)), answer);

@@ -131,7 +131,7 @@ impl<'a> HashTable<'a> {
             Err(error) => return Err(error),
         };
         match self
-            .walk(first, symbols, |at| is_linked(words, at.0 as usize))
+            .follow_chain(first, symbols, |at| is_linked(words, at.0 as usize))
             .0
         {
             Ok(_) => {}

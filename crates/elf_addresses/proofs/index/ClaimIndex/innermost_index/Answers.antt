@@ -2,7 +2,7 @@ use Rattle.std.proofs.Common.{◌≡◌, ◌≤◌, ◌<◌, ◌+◌, max, lengt
 use Rattle.std.proofs.lemmas.Option.{slice_get-get_or}
 use Rattle.elf_addresses.specs.Index.{NoneCovers}
 use Rattle.elf_addresses.proofs.Ask.{none_reached}
-use Rattle.elf_addresses.proofs.Known.{stands_over}
+use Rattle.elf_addresses.proofs.Known.{spans_over}
 use Rattle.elf_addresses.proofs.Near.{index_there, none_there, rising_begins}
 use Rattle.elf_addresses.proofs.index.ClaimIndex.innermost_index.Goals as goal
 
@@ -12,7 +12,7 @@ returns-in-Some-clause-listed g c =
     let sizes = c.args.self.now.sizes.now in
     let address = c.args.address in
     let covers = subst (λ o. IfSome o (λ k. (k < length begins) × (slice_index begins k ≤ address) × (address < slice_index begins k + max (slice_index sizes k) 1))) c.in-Some.is c.reach_place-place.ensures.covers in
-    stands_over c.args.self.now.sized.now begins sizes address c.in-Some.place c.index_at.result c.index_at.ensures covers.1 covers.2
+    spans_over c.args.self.now.sized.now begins sizes address c.in-Some.place c.index_at.result c.index_at.ensures covers.1 covers.2
 
 pub returns-in-Some-clause-innermost : goal.returns-in-Some-clause-innermost
 returns-in-Some-clause-innermost g c = λ wb.

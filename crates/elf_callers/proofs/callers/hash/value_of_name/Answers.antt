@@ -23,9 +23,9 @@ returns-in-Some-symbol_with_name-clause-value c = record {
   value = search rules;
 }
 
-pub returns-in-Err-clause-refused : goal.returns-in-Err-clause-refused
-returns-in-Err-clause-refused c =
+pub returns-in-Err-clause-failed : goal.returns-in-Err-clause-failed
+returns-in-Err-clause-failed c =
     unchecked c.in-Some.table (table_order c.in-Some.symbols) (table_data c.in-Some.symbols) c.in-Err.error c.in-Some.ensures c.in-Err.ensures.exact
 
-pub returns-in_default-clause-refused : goal.returns-in_default-clause-refused
-returns-in_default-clause-refused c = unlinked c.in_default.ensures
+pub returns-in_default-clause-failed : goal.returns-in_default-clause-failed
+returns-in_default-clause-failed c = unlinked c.in_default.ensures

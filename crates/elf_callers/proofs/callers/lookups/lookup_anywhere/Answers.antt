@@ -1,5 +1,5 @@
 use Rattle.xmas_elf.proofs.lemmas.ChainOnce.{looks_once}
-use Rattle.xmas_elf.proofs.lemmas.Walks.{cycle_is_endless, endless_looks}
+use Rattle.xmas_elf.proofs.lemmas.Traversals.{cycle_is_endless, endless_looks}
 use Rattle.elf_callers.proofs.callers.lookups.lookup_anywhere.Goals as goal
 
 pub returns-clause-answer : goal.returns-clause-answer

@@ -25,8 +25,8 @@ returns-in-Err g c =
     let start : start_of c.args.table.now c.args.name.now ≡ Some (bucket_of c.args.table.now (hash_number c.args.name.now % bucket_count_of c.args.table.now)) = start_some c.args.table.now c.args.name.now some in
     let hash : c.hash.result ≡ hash_number c.args.name.now = c.hash.ensures.number in
     let exact = c.get_bucket.ensures.exact in
-    let refused : start_of c.args.table.now c.args.name.now ≡ Some (Err c.in-Err.error) = cc in
-    faulty (Elf c.in-Err.error) (seeks_bad_bucket c.args.table.now symbols versions c.args.name.now c.in-Err.error refused
+    let failed : start_of c.args.table.now c.args.name.now ≡ Some (Err c.in-Err.error) = cc in
+    faulty (Elf c.in-Err.error) (seeks_bad_bucket c.args.table.now symbols versions c.args.name.now c.in-Err.error failed
     (IsAsked (dynamic_symbols (Sysv c.args.table.now) symbols versions) c.args.name.now c.args.wanted.now c.args.use_))
 
 pub loop-index-init : goal.loop-index-init
@@ -57,8 +57,8 @@ pub returns-in-Err-get_chain : goal.returns-in-Err-get_chain
 returns-in-Err-get_chain g c =
     let loop = c.loop-index.invariant in
     let (d, stands) = c.in-Ok-check_place.ensures.0 in
-    let refuses : chain_of c.args.table.now c.loop-index.index ≡ Err c.in-Err-get_chain.error = sym c.get_chain.ensures.exact ∙ c.in-Err-get_chain.is in
-    found_break _ _ _ _ _ loop.starts _ _ loop.steps _ _ c.in-On.kept d stands c.in-Err-get_chain.error refuses
+    let fails : chain_of c.args.table.now c.loop-index.index ≡ Err c.in-Err-get_chain.error = sym c.get_chain.ensures.exact ∙ c.in-Err-get_chain.is in
+    found_break _ _ _ _ _ loop.starts _ _ loop.steps _ _ c.in-On.kept d stands c.in-Err-get_chain.error fails
     (goes_behind _ _ _ _ _ loop.starts _ _ loop.steps _ _ _ loop.comes d stands c.in-On.kept (c.in-On.ensures (Sysv c.args.table.now)))
 
 pub loop-index-preserved : goal.loop-index-preserved

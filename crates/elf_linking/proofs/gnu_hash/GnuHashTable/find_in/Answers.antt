@@ -11,7 +11,7 @@ use Rattle.xmas_elf.specs.SymbolTable.{table_symbols}
 use Rattle.elf_linking.proofs.GnuFinds.{MissedUpTo, found_fault, found_here, found_last, goes_by, missed_none}
 use Rattle.elf_linking.proofs.Kept.{Comes, comes_first, found_none}
 use Rattle.elf_linking.proofs.Runs.{run_first, run_next}
-use Rattle.elf_linking.proofs.Words.{chain_refused}
+use Rattle.elf_linking.proofs.Words.{chain_failed}
 use Rattle.elf_linking.proofs.gnu_hash.GnuHashTable.find_in.Goals as goal
 use Rattle.elf_linking.proofs.gnu_hash.GnuHashTable.find_in.Goals.{then-word-hash+in-On, else-word-hash}
 
@@ -42,9 +42,9 @@ returns-in-Err g c =
     let starts : start_of c.args.self.now c.args.name.now ≡ Some c.in-Some.from = cc in
     let ordered : c.in-Some.from ≤ c.loop-index.index = c.loop-index.invariant.run.ordered in
     let below : c.loop-index.index < symbol_end items = omega arith in
-    let refuses : chain_of c.args.self.now c.loop-index.index ≡ Err c.in-Err.error = sym c.get_chain.ensures.exact ∙ c.in-Err.is in
+    let fails : chain_of c.args.self.now c.loop-index.index ≡ Err c.in-Err.error = sym c.get_chain.ensures.exact ∙ c.in-Err.is in
     found_fault _ _ _ _ _ starts (omega arith) _ c.loop-index.invariant.run _ _ _ c.loop-index.invariant.comes c.in-Err.error
-    (chain_refused c.args.self.now items c.loop-index.index c.in-Err.error below (omega arith) refuses)
+    (chain_failed c.args.self.now items c.loop-index.index c.in-Err.error below (omega arith) fails)
 
 pub returns-in-End : goal.returns-in-End
 returns-in-End g c =

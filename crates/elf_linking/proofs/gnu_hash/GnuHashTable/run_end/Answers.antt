@@ -1,6 +1,6 @@
 use Rattle.std.proofs.Common.{◌≡◌, ◌%◌, refl, sym, subst, arith}
 use Rattle.std.proofs.lemmas.Result.{err_from_is_err_and}
-use Rattle.elf_linking.specs.GnuCount.{ended, refused, too_long}
+use Rattle.elf_linking.specs.GnuCount.{ended, failed, too_long}
 use Rattle.elf_linking.proofs.gnu_hash.GnuHashTable.run_end.Goals as goal
 
 pub returns-then-word-eq1-clause-exact : goal.returns-then-word-eq1-clause-exact
@@ -10,7 +10,7 @@ returns-then-word-eq1-clause-exact c =
 pub returns-in_err-word-clause-exact : goal.returns-in_err-word-clause-exact
 returns-in_err-word-clause-exact c =
     let p = err_from_is_err_and c.from_residual.result c.from_residual.ensures.1 in
-    rw (p.1, p.2) (c.loop-index.index, c.loop-index.invariant, refused _ (omega arith) (sym c.in_err-word.ensures.exact))
+    rw (p.1, p.2) (c.loop-index.index, c.loop-index.invariant, failed _ (omega arith) (sym c.in_err-word.ensures.exact))
 
 pub returns-clause-exact : goal.returns-clause-exact
 returns-clause-exact c = (c.loop-index.index, c.loop-index.invariant, too_long (omega arith))

@@ -4,8 +4,8 @@ use Rattle.elf_linking.specs.Layouts.{gnu_hash_number}
 use Rattle.elf_linking.proofs.Looks.{goes_by, start_bucket}
 use Rattle.elf_linking.proofs.gnu_hash.GnuHashTable.search.Goals as goal
 
-pub walk-requires-clause-above : goal.walk-requires-clause-above
-walk-requires-clause-above g c =
+pub follow_chain-requires-clause-above : goal.follow_chain-requires-clause-above
+follow_chain-requires-clause-above g c =
     let starts : start_at c.args.self.now (gnu_hash_number c.args.name.now) ≡ Some c.in-Some.from = cc in
     (start_bucket _ _ _ starts).2
 
@@ -22,4 +22,4 @@ returns-then-from-first_symbol-clause-answer g c = λ d.
 pub returns-clause-answer : goal.returns-clause-answer
 returns-clause-answer g c = λ d.
     let starts : start_of c.args.self.now c.args.name.now ≡ Some c.in-Some.from = cc in
-    goes_by _ _ _ _ _ _ _ _ c.gnu_hash-hash.ensures starts (omega arith) (c.walk.ensures.answer d)
+    goes_by _ _ _ _ _ _ _ _ c.gnu_hash-hash.ensures starts (omega arith) (c.follow_chain.ensures.answer d)

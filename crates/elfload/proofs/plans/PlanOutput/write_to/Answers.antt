@@ -1,5 +1,5 @@
 use Rattle.linking_programs.proofs.Objects.{of_header}
-use Rattle.elfload.specs.Plans.{IsFilePlan, IsFileRefused, IsLoaded, no_file, no_header}
+use Rattle.elfload.specs.Plans.{IsFilePlan, IsFileError, IsLoaded, no_file, no_header}
 use Rattle.elfload.proofs.plans.PlanOutput.write_to.Goals as goal
 use Rattle.program_ends.proofs.Ends.{ends_so}
 
@@ -9,8 +9,8 @@ returns-in-Ok g c =
     let file = c.in-Ok.file in
     ends_so _ _ _ _ _ _ _ c.write_file.result _ _
     (λ done text are. of_header (λ f. IsFilePlan plan.page plan.path f text) plan.input file c.in-Ok.ensures.input c.in-Ok.ensures.header are)
-    (λ refusal why. no_file refusal (of_header (λ f. IsFileRefused plan.page f refusal) plan.input file c.in-Ok.ensures.input c.in-Ok.ensures.header why))
+    (λ failure why. no_file failure (of_header (λ f. IsFileError plan.page f failure) plan.input file c.in-Ok.ensures.input c.in-Ok.ensures.header why))
     (λ begun. of_header (IsLoaded plan.page) plan.input file c.in-Ok.ensures.input c.in-Ok.ensures.header begun) c.write_file.ensures
 
 pub returns-in-Err : goal.returns-in-Err
-returns-in-Err g c = no_header c.in-Err.error c.in-Err.ensures.refused
+returns-in-Err g c = no_header c.in-Err.error c.in-Err.ensures.failed

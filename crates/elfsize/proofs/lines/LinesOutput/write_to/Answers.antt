@@ -8,4 +8,4 @@ returns-in-Ok g c =
     input_ends lines.view lines.path.now lines.input c.in-Ok.file c.in-Ok.ensures.input c.in-Ok.ensures.header c.write_file.result _ _ c.write_file.ensures
 
 pub returns-in-Err : goal.returns-in-Err
-returns-in-Err g c = inl c.in-Err.ensures.refused
+returns-in-Err g c = inl c.in-Err.ensures.failed

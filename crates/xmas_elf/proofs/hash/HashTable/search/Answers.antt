@@ -2,7 +2,7 @@ use Rattle.std.proofs.Common.{◌≡◌, None, Some, Ok, Err, IsTrue, true, fals
 use Rattle.xmas_elf.specs.HashTable.{bad_bucket, no_bucket, start_of}
 use Rattle.xmas_elf.specs.SymbolTable.{table_symbols}
 use Rattle.xmas_elf.specs.Symbols.{IsMatchWhere, ReturnsWhere}
-use Rattle.xmas_elf.proofs.ChainPaths.{walk_looks}
+use Rattle.xmas_elf.proofs.ChainPaths.{chain_looks}
 use Rattle.xmas_elf.proofs.hash.HashTable.search.Goals as goal
 
 pub returns-in-None-clause-answer : goal.returns-in-None-clause-answer
@@ -13,7 +13,7 @@ pub returns-clause-answer : goal.returns-clause-answer
 returns-clause-answer g c = λ d.
     let start : start_of c.args.self.now c.args.name.now ≡ Some (Ok c.in-Some-Ok.first) = cc in
     let P = IsMatchWhere (table_symbols c.args.symbols.now) g.F.Fn c.args.f.now c.args.name.now in
-    rw start (walk_looks _ _ _ c.in-Some-Ok.first P _ _ c.walk.ensures.answer
+    rw start (chain_looks _ _ _ c.in-Some-Ok.first P _ _ c.follow_chain.ensures.answer
     (λ i e is stop. (
     let yes : IsTrue true → P stop.shown.now = stop.says.met.0 in
     subst P stop.shows (yes refl)))

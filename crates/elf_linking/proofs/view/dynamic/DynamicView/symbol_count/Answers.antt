@@ -1,7 +1,7 @@
 use Rattle.std.proofs.Common.{Ok, sym, ap}
 use Rattle.elf_base.specs.FileHeader.{file_order}
 use Rattle.elf_base.specs.Number.{number}
-use Rattle.elf_base.specs.Refusal.{and_then}
+use Rattle.elf_base.specs.FirstError.{and_then}
 use Rattle.elf_linking.specs.DynamicView.{by_gnu, by_hash, no_table}
 use Rattle.elf_linking.proofs.ViewTables.{count_read}
 use Rattle.elf_linking.proofs.view.dynamic.DynamicView.symbol_count.Goals as goal

@@ -26,5 +26,5 @@ pub returns-in-Err : goal.returns-in-Err
 returns-in-Err c =
     let bytes = c.args.self.now.rest.now in
     let other : length bytes ≢ 0 = eqb-false (length bytes) _ (sym c.if-is_empty.ensures) in
-    let steps = strings_last bytes c.in-Err.error (omega arith) c.in-Err.ensures.refused in
+    let steps = strings_last bytes c.in-Err.error (omega arith) c.in-Err.ensures.failed in
     record { steps = steps; goes = record { on = λ _. (tt, tt, omega (arith, ap length steps)); keeps = tt; rests = λ _. tt } }

@@ -1,11 +1,11 @@
--- A look-up has the error HashCycle exactly if its walk reaches no stop, since no bucket or chain has that
+-- A look-up has the error HashCycle exactly if its traversal reaches no stop, since no bucket or chain has that
 -- error; and look-ups for two properties that are true together have the same results.
 use Rattle.std.proofs.Common.{◌≡◌, ℕ, Bool, true, false, List, [], ◌∷◌, Option, Some, None, Result, Err, if◌then◌else◌, refl, sym, subst}
 use Rattle.std.specs.List.{AllByRecursion}
-use Rattle.elf_base.specs.Refusal.{unless}
+use Rattle.elf_base.specs.FirstError.{unless}
 use Rattle.elf_base.specs.declared.error.ElfError.TheVariants.{BucketIndex, ChainIndex, ChainSum, HashCycle, HashData}
 use Rattle.xmas_elf.specs.Prelude.{ElfError, HashTable}
-use Rattle.xmas_elf.specs.HashTable.{Chains, IsEndless, LooksFrom, NoneBefore, Stops, at_end, bad_bucket, bucket_of, chain_of, chains_of, endless, found, no_bucket, past_chains, past_symbols, reaches, refused, start_of}
+use Rattle.xmas_elf.specs.HashTable.{Chains, IsEndless, LooksFrom, NoneBefore, Stops, at_end, bad_bucket, bucket_of, chain_of, chains_of, endless, found, no_bucket, past_chains, past_symbols, reaches, failed, start_of}
 
 rows_no_cycle : (rows : List (Bool × ElfError)) (v : ℕ) → AllByRecursion (λ row. row.1 ≡ HashCycle → ⊥) rows → unless rows v ≡ Err HashCycle → ⊥
 rows_no_cycle [] v others e = cc
@@ -33,7 +33,7 @@ stop_no_cycle P table symbols _ _ _ at_end e = cc
 stop_no_cycle P table symbols _ _ _ (past_chains i h k) e = cc
 stop_no_cycle P table symbols _ _ _ (past_symbols i h k l) e = cc
 stop_no_cycle P table symbols _ _ _ (found i d stands holds) e = cc
-stop_no_cycle P table symbols _ _ _ (refused i d error stands misses refuses) e =
+stop_no_cycle P table symbols _ _ _ (failed i d error stands misses fails) e =
     let same : error ≡ HashCycle = cc in
     let at : chain_of table i ≡ Err HashCycle = cc in
     chain_no_cycle table i at
@@ -64,7 +64,7 @@ module _ {E : Type 0} (P Q : ℕ × E → Type 0) (chains : Chains E) (to : (at 
   stops_alike _ _ _ (past_chains i above past) = past_chains i above past
   stops_alike _ _ _ (past_symbols i above within absent) = past_symbols i above within absent
   stops_alike _ _ _ (found i e stands holds) = found i e stands (to (i, e) holds)
-  stops_alike _ _ _ (refused i e error stands misses refuses) = refused i e error stands (λ has. misses (back (i, e) has)) refuses
+  stops_alike _ _ _ (failed i e error stands misses fails) = failed i e error stands (λ has. misses (back (i, e) has)) fails
 
 -- a look-up for one of two such properties is a look-up for the other
 pub looks_alike : {E : Type 0} (P Q : ℕ × E → Type 0) (chains : Chains E) → ((at : ℕ × E) → P at → Q at) → ((at : ℕ × E) → Q at → P at) → (s : Option (Result ℕ ElfError)) (a : Result (Option (ℕ × E)) ElfError) (n : ℕ) → LooksFrom P chains s a n → LooksFrom Q chains s a n

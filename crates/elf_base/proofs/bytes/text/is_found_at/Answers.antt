@@ -1,7 +1,7 @@
 use Rattle.std.proofs.Common.{subst, IsTrue, ◌↔◌}
 use Rattle.elf_base.specs.Text.{IsText}
 use Rattle.elf_base.proofs.TextComparisons.{stands}
-use Rattle.elf_base.proofs.bytes.text.stands_at.Goals as goal
+use Rattle.elf_base.proofs.bytes.text.is_found_at.Goals as goal
 
 pub returns-then-is_equal : goal.returns-then-is_equal
 returns-then-is_equal c =

@@ -1,10 +1,10 @@
 use Rattle.std.proofs.Common.{◌≡◌, ◌≤◌, ◌<◌, ◌%◌, ◌/◌, Err, refl, sym, ◌∙◌, subst, arith}
-use Rattle.elf_linking.specs.GnuHash.{HasChain, IsThere, chain_of, chain_word, ended, first_symbol_of, found, refused, symbol_end}
+use Rattle.elf_linking.specs.GnuHash.{HasChain, IsThere, chain_of, chain_word, ended, first_symbol_of, found, failed, symbol_end}
 use Rattle.xmas_elf.specs.SymbolTable.{table_symbols}
 use Rattle.elf_linking.proofs.Runs.{looks_past, missed_next, run_next}
-use Rattle.elf_linking.proofs.Words.{chain_refused}
-use Rattle.elf_linking.proofs.gnu_hash.GnuHashTable.walk.Goals as goal
-use Rattle.elf_linking.proofs.gnu_hash.GnuHashTable.walk.Goals.{then-word-hash+in_default, else-word-hash}
+use Rattle.elf_linking.proofs.Words.{chain_failed}
+use Rattle.elf_linking.proofs.gnu_hash.GnuHashTable.follow_chain.Goals as goal
+use Rattle.elf_linking.proofs.gnu_hash.GnuHashTable.follow_chain.Goals.{then-word-hash+in_default, else-word-hash}
 
 pub returns-in-Err-clause-answer : goal.returns-in-Err-clause-answer
 returns-in-Err-clause-answer g c = λ d.
@@ -12,13 +12,13 @@ returns-in-Err-clause-answer g c = λ d.
     let ordered : c.args.from ≤ c.loop-index.index = c.loop-index.invariant.run.ordered in
     let begins : first_symbol_of c.args.self.now ≤ c.args.from = c.requires.begins in
     let below : c.loop-index.index < symbol_end items = omega arith in
-    let refuses : chain_of c.args.self.now c.loop-index.index ≡ Err c.in-Err.error = sym c.get_chain.ensures.exact ∙ c.in-Err.is in
+    let fails : chain_of c.args.self.now c.loop-index.index ≡ Err c.in-Err.error = sym c.get_chain.ensures.exact ∙ c.in-Err.is in
     record {
       last = c.loop-index.index;
       here = 0;
       run = c.loop-index.invariant.run;
       missed = c.loop-index.invariant.missed d;
-      stop = refused c.in-Err.error (chain_refused c.args.self.now items c.loop-index.index c.in-Err.error below (omega arith) refuses);
+      stop = failed c.in-Err.error (chain_failed c.args.self.now items c.loop-index.index c.in-Err.error below (omega arith) fails);
       counted = omega arith;
     }
 

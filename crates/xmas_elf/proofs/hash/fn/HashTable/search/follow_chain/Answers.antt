@@ -1,6 +1,6 @@
 use Rattle.std.proofs.Common.{rules, ◌≡◌, true, refl, subst}
 use Rattle.xmas_elf.specs.Symbols.{ReturnsWhere}
-use Rattle.xmas_elf.proofs.hash.fn.HashTable.search.walk.Goals as goal
+use Rattle.xmas_elf.proofs.hash.fn.HashTable.search.follow_chain.Goals as goal
 
 -- the test has a result for a reference to the symbol
 pub returns-then-has_name : goal.returns-then-has_name

@@ -1,7 +1,7 @@
 use Rattle.xmas_elf.specs.Symbols.{DecidesWhere, IsMatchWhere}
 use Rattle.elf_linking.specs.GnuHash.{NoHit, Run}
 use Rattle.xmas_elf.specs.SymbolTable.{table_symbols}
-use Rattle.elf_linking.proofs.gnu_hash.GnuHashTable.walk.Given as goal
+use Rattle.elf_linking.proofs.gnu_hash.GnuHashTable.follow_chain.Given as goal
 
 abbrev pub invariant-loop-index : goal.invariant-loop-index
 invariant-loop-index g l =
