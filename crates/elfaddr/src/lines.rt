@@ -34,7 +34,7 @@ impl<C: Named> Output for Lines<'_, '_, C> {
     ghost flushed = { λ lines. appended_flushed (AreLines (C.claim_of lines.claims.now)
         (C.name_of lines.claims.now) lines.file.now lines.addresses.now) };
 
-    type AnyError = LinkError;
+    type Error = LinkError;
 
     ghost Fails = { λ lines error. ⊥ };
 

@@ -105,7 +105,7 @@ impl Output for Report<'_> {
 
     ghost flushed = { λ report. report_flushed report.input };
 
-    type AnyError = ElfError;
+    type Error = ElfError;
 
     ghost Fails = { λ report error. header_of report.input.now ≡ Err error };
 

@@ -53,7 +53,7 @@ impl Output for Plan<'_> {
 
     ghost flushed = { λ plan. appended_flushed (IsInputPlan plan.page plan.path plan.input) };
 
-    type AnyError = AnyError;
+    type Error = AnyError;
 
     ghost Fails = { λ plan. IsInputError plan.page plan.input };
 

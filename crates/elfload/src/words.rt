@@ -37,7 +37,7 @@ impl<'s, E: LinkedSymbol> Output for WordsText<'s, '_, '_, '_, E> {
     ghost flushed = { λ text. appended_flushed
         (AreWordsWritten E.fields text.when text.inputs.now text.objects.now) };
 
-    type AnyError = Failed<'s, LoadError>;
+    type Error = Failed<'s, LoadError>;
 
     ghost Fails = { λ text. IsTextFailed E.fields text.when text.inputs.now text.objects.now };
 

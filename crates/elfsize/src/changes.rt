@@ -37,7 +37,7 @@ impl Output for Difference<'_> {
 
     ghost flushed = { λ sides. appended_flushed (IsDifferenceText sides.old.now sides.new.now) };
 
-    type AnyError = AnyError;
+    type Error = AnyError;
 
     ghost Fails = { λ sides. IsShort };
 

@@ -57,7 +57,7 @@ impl Output for Lines<'_> {
     ghost flushed = { λ lines.
         appended_flushed (IsInputText lines.view lines.path.now lines.input) };
 
-    type AnyError = AnyError;
+    type Error = AnyError;
 
     ghost Fails = { λ lines. IsInputError lines.view lines.input };
 

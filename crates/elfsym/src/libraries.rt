@@ -27,7 +27,7 @@ impl Output for Libraries<'_> {
 
     ghost flushed = { λ libraries. appended_flushed (AreInputLibraries libraries.0) };
 
-    type AnyError = LinkError;
+    type Error = LinkError;
 
     ghost Fails = { λ libraries. AreInputLibrariesFailed libraries.0 };
 

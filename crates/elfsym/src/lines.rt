@@ -38,7 +38,7 @@ impl<S: AsStr> Output for Lines<'_, S> {
     ghost flushed = { λ lines. appended_flushed (AreInputLines S.text lines.input
         lines.references.now) };
 
-    type AnyError = LinkError;
+    type Error = LinkError;
 
     ghost Fails = { λ lines error. AreInputLinesFailed S.text lines.input lines.references.now
         error };

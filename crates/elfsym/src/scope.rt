@@ -189,7 +189,7 @@ impl<'i, E: LinkedSymbol, S: AsStr> Output for ScopeLines<'_, 'i, '_, E, S> {
     ghost flushed = { λ lines. appended_flushed (AreScopeLines S.text lines.inputs.now
         lines.objects.now lines.references.now) };
 
-    type AnyError = Failed<'i, LinkError>;
+    type Error = Failed<'i, LinkError>;
 
     ghost Fails = { λ lines failed. ⊥ };
 

@@ -34,7 +34,7 @@ impl Output for Lines<'_> {
 
     ghost flushed = { λ _ _ _ _ _ _. tt };
 
-    type AnyError = ();
+    type Error = ();
 
     ghost Fails = { λ _ _. ⊥ };
 

@@ -57,16 +57,16 @@ pub trait Output {
         → Keeps new kept → Writes output old kept };
 
     /// The error of the input.
-    type AnyError;
+    type Error;
 
     /// The input has this error.
-    ghost Fails: { Self → Self.AnyError → Type 0 };
+    ghost Fails: { Self → Self.Error → Type 0 };
 
     /// The input has no error before the output begins.
     ghost Begins: { Self → Type 0 };
 
     /// Writes the output.
-    fn write_to<W: Write>(&self, out: &mut W) -> Result<(), Stop<Self::AnyError>>
+    fn write_to<W: Write>(&self, out: &mut W) -> Result<(), Stop<Self::Error>>
         ensures { MatchResult result
             (λ _. Writes self.now (W.contents out.old) (W.contents out.new))
             (IsStop (Fails self.now) (Begins self.now) ⊥) };
@@ -95,7 +95,7 @@ pub fn write_buffered<O: Output, W: Write + Drop>(
     alloc: Global,
     output: &O,
     out: W,
-) -> Result<W, Stop<O::AnyError>>
+) -> Result<W, Stop<O::Error>>
     ensures { MatchResult result
         (λ back. O.Writes output.now (W.contents out) (W.contents back))
         (IsStop (O.Fails output.now) (HasBegun (O.Begins output.now) (O.Writes output.now)) ⊤) }
@@ -116,7 +116,7 @@ pub fn write_buffered<O: Output, W: Write + Drop>(
 fn write_flushed<O: Output, W: Write + Drop>(
     output: &O,
     buffered: &mut BufWriter<W>,
-) -> Result<(), Stop<O::AnyError>>
+) -> Result<(), Stop<O::Error>>
     requires { writer_buffer buffered.old ≡ [] }
     ensures { MatchResult result
         (λ _. O.Writes output.now

@@ -157,7 +157,7 @@ impl Output for Report<'_> {
 
     ghost flushed = { λ report old new kept written keeps. tt };
 
-    type AnyError = ReportFault;
+    type Error = ReportFault;
 
     ghost Fails = { λ report error. Unit {0} };
 
