@@ -1,5 +1,5 @@
 -- The relocations of a file that name a symbol (gABI, "Relocation" and "Dynamic Section").
-use Rattle.std.specs.Prelude.{◌≡◌, ℕ, ◌+◌, ◌*◌, ◌/◌, ◌%◌, ◌^◌, nat_le, ◌==◌, ◌&&◌, ◌||◌, not, Bool, true, false, List, [], ◌∷◌, ◌++◌, length, filter, Option, None, Some, ok_or, option_map, unwrap_or, Result, Ok, Err, if◌then◌else◌}
+use Rattle.std.specs.Prelude.{◌≡◌, ℕ, ◌+◌, ◌*◌, ◌/◌, ◌%◌, ◌^◌, nat_le, nat_lt, ◌==◌, ◌&&◌, ◌||◌, not, Bool, true, false, List, [], ◌∷◌, ◌++◌, length, filter, Option, None, Some, ok_or, option_map, unwrap_or, Result, Ok, Err, if◌then◌else◌}
 use Rattle.elf_base.specs.FileHeader.{file_class, file_order, header_fields, machine_number}
 use Rattle.elf_base.specs.Number.{number}
 use Rattle.elf_base.specs.FirstError.{and_then, unless}
@@ -133,9 +133,9 @@ count_with count [] = count
 count_with count (reference ∷ rest) =
     count_with (if nat_le count reference.symbol then reference.symbol + 1 else count) rest
 
--- the number of symbols by the hash table, or one that is above the indices of all references
+-- the number of symbols by the hash table; or, if that is symbol 0 at most, one above the indices of all references
 pub record IsReachedCount (file : ElfFile) (entries : List (Dynamic ℕ)) (answer : Result ℕ LinkError) : Type 0 where
   pub count : Result ℕ LinkError
   pub counted : IsSymbolCount file entries count
-  pub reached : answer ≡ and_then count (λ least.
+  pub reached : answer ≡ and_then count (λ least. if nat_lt 1 least then Ok least else
       and_then (references_of file entries) (λ references. Ok (count_with least references)))

@@ -48,8 +48,8 @@ pub fn row_of(machine: u16, kind: u32) -> Row
 }
 
 /// The formula of a relocation type in a file for a machine (`e_machine`), as glibc 2.36 applies it;
-/// `None` for types that only a static linker applies, for `R_X86_64_RELATIVE64`, and for machines
-/// other than x86-64, 386 and AArch64.
+/// `None` for types that only a static linker applies, and for machines other than x86-64, 386 and
+/// AArch64.
 pub fn formula_of(machine: u16, kind: u32) -> Option<Formula>
     ensures { result ≡ (row_of machine kind).formula }
 {

@@ -194,7 +194,7 @@ pub enum Formula {
 pub struct Row {
     /// Its number.
     pub kind: u32,
-    /// What it writes; `None` if only a static linker applies it, and for `R_X86_64_RELATIVE64`.
+    /// What it writes; `None` if only a static linker applies it.
     pub formula: Option<Formula>,
     /// The number of bytes of the number that it writes: 4 or 8.
     pub width: u32,
@@ -226,7 +226,7 @@ pub const X86_64: [Row; 16] = [
     Row { kind: R_X86_64_SIZE64,     formula: Some(Size),          width: 8, use_: Use::Any,     names: true,  slot: false },
     Row { kind: R_X86_64_TLSDESC,    formula: Some(Descriptor),    width: 8, use_: Use::Defined, names: true,  slot: false },
     Row { kind: R_X86_64_IRELATIVE,  formula: Some(Call),          width: 8, use_: Use::Any,     names: true,  slot: false },
-    Row { kind: R_X86_64_RELATIVE64, formula: None,                width: 8, use_: Use::Any,     names: false, slot: false },
+    Row { kind: R_X86_64_RELATIVE64, formula: Some(Base),          width: 8, use_: Use::Any,     names: false, slot: false },
 ];
 
 /// The types of the 386 (386 psABI, "Relocation Types"), each of 4 bytes.

@@ -140,19 +140,23 @@ impl<'a> DynamicView<'a> {
         }
     }
 
-    /// The number of symbols that look-ups and relocations reach: `symbol_count`, or one more than
-    /// the greatest index of a symbol that a relocation of `references` names, if that is more.
+    /// The number of symbols that look-ups and relocations reach: `symbol_count` if the hash table
+    /// counts a symbol besides symbol 0, which is reserved. Otherwise one more than the greatest index
+    /// of a symbol that a relocation of `references` names, or `symbol_count` if that is more.
     ///
     /// GNU's linker makes an empty hash table for a program that exports nothing, so that
-    /// `symbol_count` counts none of the symbols that its relocations name. The sections of a file,
-    /// if it has them, say the number of all symbols.
+    /// `symbol_count` counts none of the symbols that its relocations name. Of another file no
+    /// relocation is read. The sections of a file, if it has them, say the number of all symbols.
     ///
-    /// Errors: those of `symbol_count`; those of `references`.
+    /// Errors: those of `symbol_count`; those of `references`, if the table counts no symbol.
     pub fn reached_count(&self, file: &ElfFile<'a>) -> Result<u64, LinkError>
         ensures exact { IsReachedCount file.now (view_entries self.now) result }
         ensures bound { IfOk result (λ count. count ≤ 2 ^ 32) }
     {
         let count = self.symbol_count(file)?;
+        if count > 1 {
+            return Ok(count);
+        }
         let references = self.references(file)?;
         Ok(count_with(count, references))
     }
