@@ -1,6 +1,6 @@
 -- The status where there is no memory, whether or not a library is missing.
 use Rattle.std.proofs.Common.{◌≡◌, Bool, true, false, refl}
-use Rattle.elfbind.specs.Found.{with_missing}
+use Rattle.program_libraries.specs.Complete.{with_missing}
 
 pub missing_failed : (missing : Bool) → with_missing missing 1 ≡ 1
 missing_failed false = refl

@@ -1,5 +1,5 @@
 -- How the program ends for a program whose libraries were found (this project's own).
-use Rattle.std.specs.Prelude.{◌≡◌, ◌==◌, ◌&&◌, ℕ, Bool, cond, List, Result, Err}
+use Rattle.std.specs.Prelude.{◌≡◌, ℕ, Bool, List, Result, Err}
 use Rattle.elf_linking.specs.declared.error.LinkError.{LinkError}
 use Rattle.elfbind.specs.Answers.{IsEnd}
 use Rattle.elfbind.specs.declared.Question as questions
@@ -16,7 +16,3 @@ pub data IsFoundEnd (narrow_record wide_record : _) (files : List StoredFile) (t
   listed : (inputs : List Input) → AreListed files tree inputs → IsEnd narrow_record wide_record inputs question end
       → IsFoundEnd narrow_record wide_record files tree question end
   short : end ≡ Err faults.Memory → IsFoundEnd narrow_record wide_record files tree question end
-
--- a status, which isn't 0 if a library is missing
-abbrev pub with_missing : Bool → ℕ → ℕ
-with_missing missing status = cond (missing && (status == 0)) 1 status

@@ -17,7 +17,8 @@ ghost use Rattle.elf_linking.specs.declared.object.DynamicObject.{DynamicObject}
 ghost use Rattle.elfbind.specs.Answers.{AreFilesFailed, AreFilesWritten, IsAnswer, IsAnswerBegun};
 ghost use Rattle.elfbind.specs.Answers.{IsAnswerError, IsAnswerWritten, IsEnd, status_of};
 ghost use Rattle.elfbind.specs.Files.{AreAccepted};
-ghost use Rattle.elfbind.specs.Found.{IsFoundEnd, with_missing};
+ghost use Rattle.elfbind.specs.Found.{IsFoundEnd};
+ghost use Rattle.program_libraries.specs.Complete.{with_missing};
 ghost use Rattle.linking_programs.specs.Files.{AreObjectsOf, failed_fault_of};
 ghost use Rattle.program_ends.specs.Appended.{AppendsSome};
 ghost use Rattle.program_ends.specs.Stops.{IsStop};
@@ -37,6 +38,7 @@ use linking_programs::{
 use program_ends::{CLOSED, Fault, Stop, Watched, arguments, exit_code, say, write_about};
 use program_libraries::{
     Finder, Given, Settings, StoredFile, Tree, given_files, listed_inputs, say_error, say_missing,
+    with_missing,
 };
 use std::alloc::Global;
 use std::io;
@@ -131,15 +133,6 @@ pub fn run_found<W: Write, E: Write>(
         Some(inputs) => with_missing(missing, run(alloc, question, &inputs, out, err)),
         None => say(NAME, &"not enough memory", err),
     }
-}
-
-// A status, but 1 in place of 0 if a library is missing.
-fn with_missing(missing: bool, status: u8) -> u8
-    ensures value { result ≡ with_missing missing status }
-    ensures whole { result ≡ 0 → IsFalse missing }
-    ensures bound { (status ≢ CLOSED → status ≤ 1) → result ≢ CLOSED → result ≤ 1 }
-{
-    if missing && status == 0 { 1 } else { status }
 }
 
 // Writes what is asked of the files, by the class of the first; whether something is wrong.

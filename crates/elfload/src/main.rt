@@ -12,7 +12,7 @@
 #![tactic(auto)]
 
 ghost use Rattle.std.specs.Prelude.{◌≡◌, ◌<◌, ◌≤◌, ◌⊎◌, Err, IfErr, IfOk, IfSome, List, MatchResult, Ok};
-ghost use Rattle.std.specs.Prelude.{IsFalse, OnOk, Result, length, ⊤};
+ghost use Rattle.std.specs.Prelude.{OnOk, Result, length, ⊤};
 ghost use Rattle.elf_linking.specs.declared.object.DynamicObject.{DynamicObject};
 ghost use Rattle.elfload.specs.Ends.{AreFailed, IsBegun, IsEnd, IsFault, IsWordsEnd, load_stop};
 ghost use Rattle.elfload.specs.Ends.{words_fault_of};
@@ -45,6 +45,7 @@ use program_ends::{
 };
 use program_libraries::{
     Finder, Given, Settings, StoredFile, Tree, given_files, listed_inputs, say_error, say_missing,
+    with_missing,
 };
 use std::alloc::Global;
 use std::io;
@@ -144,15 +145,6 @@ pub fn run_found<W: Write, E: Write>(
         Some(inputs) => with_missing(missing, run(alloc, asked, &inputs, out, err)),
         None => say(NAME, &"not enough memory", err),
     }
-}
-
-// A status, but 1 in place of 0 if a library is missing.
-fn with_missing(missing: bool, status: u8) -> u8
-    ensures bound { status ≤ 1 → result ≤ 1 }
-    ensures whole { result ≡ 0 → IsFalse missing }
-    ensures kept { result ≡ 0 → status ≡ 0 }
-{
-    if missing && status == 0 { 1 } else { status }
 }
 
 // The plans of all files, and the status: 1 if that of one is.

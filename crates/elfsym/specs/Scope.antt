@@ -1,6 +1,6 @@
 -- What the program writes of names that are looked up in a program and its libraries (this project's own): a line for
 -- each, with the value and the size of its symbol and the path of the file that has it.
-use Rattle.std.specs.Prelude.{◌≡◌, ◌==◌, ◌&&◌, ℕ, ◌++◌, Bool, true, false, cond, List, Option, None, Some, Result, Ok, Err, codes, option_map, slice_get, take}
+use Rattle.std.specs.Prelude.{◌≡◌, ℕ, ◌++◌, Bool, true, false, List, Option, None, Some, Result, Ok, Err, codes, option_map, slice_get, take}
 use Rattle.std.specs.Borrow.{Bor}
 use Rattle.std.specs.Fmt.{digits}
 use Rattle.std.specs.List.{AllZip, concat}
@@ -117,7 +117,3 @@ pub data IsScopeEnd {S : Type 0} (narrow_record wide_record : _) (text_of : S �
       → IsScopeEndOf {E = DynEntry64} wide_record dyn_entry_64_fields 2 24 text_of inputs references end
       → IsScopeEnd narrow_record wide_record text_of files tree references end
   short : end ≡ Err faults.Memory → IsScopeEnd narrow_record wide_record text_of files tree references end
-
--- a status, which isn't 0 if a library is missing
-abbrev pub with_missing : Bool → ℕ → ℕ
-with_missing missing status = cond (missing && (status == 0)) 1 status

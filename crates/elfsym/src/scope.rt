@@ -8,7 +8,8 @@ ghost use Rattle.elf_linking.specs.Exports.{ObjectParts};
 ghost use Rattle.elf_linking.specs.declared.error.LinkError.{LinkError};
 ghost use Rattle.elfsym.specs.Scope.{AreScopeLines, AreScopeObjects, IsScopeEnd, IsScopeFault};
 ghost use Rattle.elfsym.specs.Scope.{IsScopeBound, IsScopeLine, IsScopeObject, IsUnreadObject};
-ghost use Rattle.elfsym.specs.Scope.{scope_text, target_of, with_missing};
+ghost use Rattle.elfsym.specs.Scope.{scope_text, target_of};
+ghost use Rattle.program_libraries.specs.Complete.{with_missing};
 ghost use Rattle.program_ends.proofs.Flushed.{appended_flushed};
 ghost use Rattle.program_ends.specs.Appended.{AppendsSome};
 ghost use Rattle.program_ends.specs.Ends.{quiet_status_of};
@@ -28,7 +29,7 @@ use linking_programs::{Failed, Input, failed_fault_of, is_first_narrow};
 use program_ends::{CLOSED, Fault, Output, Stop, Watched, quiet_status_of, write_buffered};
 use program_libraries::{
     Finder, Settings, StoredFile, Tree, listed_inputs, own_settings, say_error, say_missing,
-    with_option,
+    with_missing, with_option,
 };
 use std::alloc::Global;
 use std::convert::AsStr;
@@ -63,15 +64,6 @@ pub fn run_scope<S: AsStr, W: Write, E: Write>(
     let missing = say_missing(NAME, files, &tree.objects, &mut *err);
     let ended = print_found(alloc, references, files, tree, &mut *out);
     with_missing(missing, quiet_status_of(NAME, ended, out.is_closed(), err))
-}
-
-// A status, but 1 in place of 0 if a library is missing.
-fn with_missing(missing: bool, status: u8) -> u8
-    ensures value { result ≡ with_missing missing status }
-    ensures whole { result ≡ 0 → IsFalse missing }
-    ensures bound { (status ≢ CLOSED → status ≤ 1) → result ≢ CLOSED → result ≤ 1 }
-{
-    if missing && status == 0 { 1 } else { status }
 }
 
 // Writes the lines by the files of the program and its libraries, which are of the class of the first.

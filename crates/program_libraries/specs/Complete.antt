@@ -1,5 +1,5 @@
 -- Whether a program gets all libraries that it needs (this project's own).
-use Rattle.std.specs.Prelude.{◌≡◌, ◌<◌, ◌&&◌, ℕ, Bool, true, false, List, [], ◌∷◌, Option, None, Some, Ok, Err, IfSome, length, nat_lt, slice_get}
+use Rattle.std.specs.Prelude.{◌≡◌, ◌<◌, ◌&&◌, ◌==◌, ℕ, Bool, true, false, List, [], ◌∷◌, Option, None, Some, Ok, Err, IfSome, cond, length, nat_lt, slice_get}
 use Rattle.elf_base.specs.FileHeader.{header_of}
 use Rattle.elf_linking.specs.DynamicView.{dynamic_entries_of, strings_by, view_entries, view_strings}
 use Rattle.elf_linking.specs.declared.error.LinkError.TheVariants.{NoDynamic}
@@ -62,3 +62,7 @@ pub record IsServed (files : List StoredFile) (count : ℕ) (object : Object) : 
 pub record IsComplete (files : List StoredFile) (objects : List Object) : Type 0 where
   pub program : 0 < length objects
   pub each : (i : ℕ) → IfSome (slice_get objects i) (IsServed files (length objects))
+
+-- a status, which isn't 0 if a library is missing
+abbrev pub with_missing : Bool → ℕ → ℕ
+with_missing missing status = cond (missing && (status == 0)) 1 status

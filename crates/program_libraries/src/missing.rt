@@ -1,7 +1,8 @@
 //! Which libraries of a program are missing.
 
-ghost use Rattle.std.specs.Prelude.{IsFalse};
-ghost use Rattle.program_libraries.specs.Complete.{IsComplete};
+ghost use Rattle.std.specs.Prelude.{◌≡◌, ◌≢◌, ◌≤◌, IsFalse};
+ghost use Rattle.program_ends.specs.declared.TheConstants.{CLOSED};
+ghost use Rattle.program_libraries.specs.Complete.{IsComplete, with_missing};
 
 use crate::complete::is_complete;
 use crate::objects::Object;
@@ -28,6 +29,17 @@ pub fn say_missing<W: Write>(
         let _ = write_missing(program, objects.len(), object, err);
     }
     true
+}
+
+/// The status of a program that says whether a library is missing: 1 in place of 0 if one is.
+pub fn with_missing(missing: bool, status: u8) -> u8
+    ensures value { result ≡ with_missing missing status }
+    ensures whole { result ≡ 0 → IsFalse missing }
+    ensures kept { result ≡ 0 → status ≡ 0 }
+    ensures bound { (status ≢ CLOSED → status ≤ 1) → result ≢ CLOSED → result ≤ 1 }
+    ensures small { status ≤ 1 → result ≤ 1 }
+{
+    if missing && status == 0 { 1 } else { status }
 }
 
 // Writes a line for each name of an object that found none of so many.

@@ -1,11 +1,11 @@
 use Rattle.std.proofs.Common.{◌∙◌, List, Err, ap, refl, sym, subst}
 use Rattle.elfbind.specs.Answers.{IsEnd}
-use Rattle.elfbind.specs.Found.{listed, short, with_missing}
+use Rattle.elfbind.specs.Found.{listed, short}
 use Rattle.elfbind.proofs.Missing.{missing_failed}
 use Rattle.elfbind.proofs.run_found.Goals as goal
 use Rattle.linking_programs.specs.declared.Input.{Input}
 use Rattle.program_ends.specs.declared.Fault.TheVariants as faults
-use Rattle.program_libraries.specs.Complete.{IsComplete}
+use Rattle.program_libraries.specs.Complete.{IsComplete, with_missing}
 use Rattle.program_libraries.specs.declared.objects.Object.{Object}
 
 pub returns-in-Some-clause-bound : goal.returns-in-Some-clause-bound

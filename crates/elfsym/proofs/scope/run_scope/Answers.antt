@@ -1,8 +1,7 @@
 use Rattle.std.proofs.Common.{◌∙◌, List, ap, subst}
-use Rattle.elfsym.specs.Scope.{with_missing}
 use Rattle.elfsym.proofs.scope.run_scope.Goals as goal
 use Rattle.program_ends.specs.Ends.{quiet_status_of}
-use Rattle.program_libraries.specs.Complete.{IsComplete}
+use Rattle.program_libraries.specs.Complete.{IsComplete, with_missing}
 use Rattle.program_libraries.specs.declared.objects.Object.{Object}
 
 pub returns-clause-complete : goal.returns-clause-complete
