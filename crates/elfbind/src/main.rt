@@ -106,10 +106,10 @@ pub fn run<W: Write, E: Write>(
 }
 
 /// Writes what is asked of a program and its libraries that were found to `out`, as `run` does, and says
-/// to `err` which libraries are missing; returns the exit status.
+/// to `err` which libraries and versions are missing; returns the exit status.
 ///
 /// The status is that of `run` for the files of the program and its libraries, in the order in which names
-/// are looked up. It is 1 if that is 0 and a library is missing, and if there is no memory for the list of
+/// are looked up. It is 1 if that is 0 and a library or a version is missing, and if there is no memory for the list of
 /// the files. By the contract it is 0 only if each name that these files ask for, other than by an
 /// auxiliary entry, found an object.
 pub fn run_found<W: Write, E: Write>(
@@ -128,7 +128,7 @@ pub fn run_found<W: Write, E: Write>(
         end
         × (result ≡ with_missing missing (status_of end out.new.closed)) }
 {
-    let missing = say_missing(NAME, files, &tree.objects, &mut *err);
+    let missing = say_missing(alloc, NAME, files, tree, &mut *err);
     match listed_inputs(alloc, files, tree) {
         Some(inputs) => with_missing(missing, run(alloc, question, &inputs, out, err)),
         None => say(NAME, &"not enough memory", err),

@@ -120,10 +120,10 @@ pub fn run<W: Write, E: Write>(
 }
 
 /// Writes what `run` does of a program and its libraries that were found to `out`, and says to `err` which
-/// libraries are missing; returns the exit status.
+/// libraries and versions are missing; returns the exit status.
 ///
 /// The status is that of `run` for the files of the program and its libraries, in the order in which names
-/// are looked up. It is 1 if that is 0 and a library is missing, and if there is no memory for the list of
+/// are looked up. It is 1 if that is 0 and a library or a version is missing, and if there is no memory for the list of
 /// the files. By the contract it is 0 only if each name that these files ask for, other than by an
 /// auxiliary entry, found an object, and if what `run` says of the status 0 is so.
 pub fn run_found<W: Write, E: Write>(
@@ -140,7 +140,7 @@ pub fn run_found<W: Write, E: Write>(
     ensures good { result ≡ 0 → IsFoundGood ⟦<DynEntry32 as Record>⟧ ⟦<DynEntry64 as Record>⟧
         asked.page files.now tree.now }
 {
-    let missing = say_missing(NAME, files, &tree.objects, &mut *err);
+    let missing = say_missing(alloc, NAME, files, tree, &mut *err);
     match listed_inputs(alloc, files, tree) {
         Some(inputs) => with_missing(missing, run(alloc, asked, &inputs, out, err)),
         None => say(NAME, &"not enough memory", err),

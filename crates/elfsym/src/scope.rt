@@ -42,7 +42,7 @@ use xmas_elf::symbol_table::{DynEntry32, DynEntry64, Entry};
 /// Writes a line for each reference, which is looked up in a program and its libraries that were found, to
 /// `out`, and which libraries are missing, or the reason why it can't, to `err`; returns the exit status.
 ///
-/// The status is 0 once all is written and flushed and no library is missing, `CLOSED`, and of the output
+/// The status is 0 once all is written and flushed and no library or version is missing, `CLOSED`, and of the output
 /// nothing is said, if a write failed since nobody reads it, and 1 otherwise. By the contract it is 0 only
 /// if each name that the files ask for, other than by an auxiliary entry, found an object.
 pub fn run_scope<S: AsStr, W: Write, E: Write>(
@@ -61,7 +61,7 @@ pub fn run_scope<S: AsStr, W: Write, E: Write>(
         references.now end
         × (result ≡ with_missing missing (quiet_status_of end out.new.closed)) }
 {
-    let missing = say_missing(NAME, files, &tree.objects, &mut *err);
+    let missing = say_missing(alloc, NAME, files, tree, &mut *err);
     let ended = print_found(alloc, references, files, tree, &mut *out);
     with_missing(missing, quiet_status_of(NAME, ended, out.is_closed(), err))
 }

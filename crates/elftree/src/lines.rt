@@ -3,9 +3,8 @@
 
 use elf_search::candidates::How;
 use elf_search::names::NameKind;
-use elf_search::versions::Lack;
 use program_ends::{Output, Stop, write_name};
-use program_libraries::{Entry, Found, LackedVersion, Object, Tree};
+use program_libraries::{Entry, Found, LackedVersion, Object, Tree, write_lacked};
 use std::io;
 use std::io::Write;
 
@@ -84,25 +83,6 @@ fn write_starts<W: Write>(tree: &Tree, out: &mut W) -> io::Result<()> {
         }
     }
     Ok(())
-}
-
-// A version that is missing, in the words of `ld.so`.
-fn write_lacked<W: Write>(lacked: &LackedVersion<'_>, out: &mut W) -> io::Result<()> {
-    write_name(lacked.library.as_bytes(), out)?;
-    match lacked.lack {
-        Lack::NoInformation => write!(out, ": no version information available")?,
-        Lack::Weak => write_version(": weak version `", lacked.version, out)?,
-        Lack::Strong => write_version(": version `", lacked.version, out)?,
-    }
-    write!(out, " (required by ")?;
-    write_name(lacked.by.as_bytes(), out)?;
-    writeln!(out, ")")
-}
-
-fn write_version<W: Write>(before: &str, version: &str, out: &mut W) -> io::Result<()> {
-    write!(out, "{}", before)?;
-    write_name(version.as_bytes(), out)?;
-    write!(out, "' not found")
 }
 
 // The program, and below each object those that it had loaded.

@@ -23,7 +23,7 @@ pub use crate::complete::is_complete;
 pub use crate::error::{FindError, say_error};
 pub use crate::finding::{CacheFile, Finder, Settings};
 pub use crate::listed::listed_inputs;
-pub use crate::missing::{say_missing, with_missing};
+pub use crate::missing::{say_missing, with_missing, write_lacked};
 pub use crate::objects::{Entry, Found, Object};
 pub use crate::options::{Given, given_files, own_settings, with_option};
 pub use crate::store::StoredFile;

@@ -5,33 +5,87 @@ ghost use Rattle.program_ends.specs.declared.TheConstants.{CLOSED};
 ghost use Rattle.program_libraries.specs.Complete.{IsComplete, with_missing};
 
 use crate::complete::is_complete;
+use crate::error::say_error;
 use crate::objects::Object;
 use crate::store::StoredFile;
+use crate::trees::Tree;
+use crate::versions::{LackedVersion, lacked_versions};
 use elf_search::names::NameKind;
+use elf_search::versions::Lack;
 use program_ends::write_name;
+use std::alloc::Global;
 use std::io;
 use std::io::Write;
 
-/// Says which names found no object, after the name of the program that runs, but not those of auxiliary
-/// entries; and whether a library is missing.
+/// Says what a program doesn't get, after the name of the program that runs: the names that found no
+/// object, but not those of auxiliary entries; if each found one, the versions that libraries lack.
+/// Whether a library is missing, or a version that isn't weak, or versions can't be read: `ld.so` doesn't
+/// start such a program.
 pub fn say_missing<W: Write>(
+    alloc: Global,
     program: &str,
     files: &[StoredFile],
-    objects: &[Object],
+    tree: &Tree,
     err: &mut W,
 ) -> bool
-    ensures { IsFalse result → IsComplete files.now objects.now }
+    ensures { IsFalse result → IsComplete files.now tree.now.objects.items }
 {
-    if is_complete(files, objects) {
-        return false;
+    if is_complete(files, &tree.objects) {
+        return say_lacked(alloc, program, files, tree, err);
     }
-    for object in objects {
-        let _ = write_missing(program, objects.len(), object, err);
+    for object in &tree.objects {
+        let _ = write_missing(program, tree.objects.len(), object, err);
     }
     true
 }
 
-/// The status of a program that says whether a library is missing: 1 in place of 0 if one is.
+// Says which versions libraries lack, and whether one isn't weak.
+fn say_lacked<W: Write>(
+    alloc: Global,
+    program: &str,
+    files: &[StoredFile],
+    tree: &Tree,
+    err: &mut W,
+) -> bool {
+    let all = match lacked_versions(alloc, files, tree) {
+        Ok(all) => all,
+        Err(error) => return say_error(program, &error, err) > 0,
+    };
+    let mut is_missing = false;
+    for lacked in &all {
+        let _ = write_said(program, lacked, err);
+        is_missing = is_missing || matches!(lacked.lack, Lack::Strong);
+    }
+    is_missing
+}
+
+// Writes that a version is missing, after the name of the program that runs.
+fn write_said<W: Write>(program: &str, lacked: &LackedVersion<'_>, err: &mut W) -> io::Result<()> {
+    write!(err, "{program}: ")?;
+    write_lacked(lacked, err)
+}
+
+/// Writes that a version is missing, in the words of `ld.so`.
+pub fn write_lacked<W: Write>(lacked: &LackedVersion<'_>, out: &mut W) -> io::Result<()> {
+    write_name(lacked.library.as_bytes(), out)?;
+    match lacked.lack {
+        Lack::NoInformation => write!(out, ": no version information available")?,
+        Lack::Weak => write_version(": weak version `", lacked.version, out)?,
+        Lack::Strong => write_version(": version `", lacked.version, out)?,
+    }
+    write!(out, " (required by ")?;
+    write_name(lacked.by.as_bytes(), out)?;
+    writeln!(out, ")")
+}
+
+// Writes that a version isn't found.
+fn write_version<W: Write>(before: &str, version: &str, out: &mut W) -> io::Result<()> {
+    write!(out, "{before}")?;
+    write_name(version.as_bytes(), out)?;
+    write!(out, "' not found")
+}
+
+/// The status of a program that says whether a library or a version is missing: 1 in place of 0 if one is.
 pub fn with_missing(missing: bool, status: u8) -> u8
     ensures value { result ≡ with_missing missing status }
     ensures whole { result ≡ 0 → IsFalse missing }

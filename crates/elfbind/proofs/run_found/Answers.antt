@@ -5,22 +5,20 @@ use Rattle.elfbind.proofs.Missing.{missing_failed}
 use Rattle.elfbind.proofs.run_found.Goals as goal
 use Rattle.linking_programs.specs.declared.Input.{Input}
 use Rattle.program_ends.specs.declared.Fault.TheVariants as faults
-use Rattle.program_libraries.specs.Complete.{IsComplete, with_missing}
-use Rattle.program_libraries.specs.declared.objects.Object.{Object}
+use Rattle.program_libraries.specs.Complete.{with_missing}
 
 pub returns-in-Some-clause-bound : goal.returns-in-Some-clause-bound
 returns-in-Some-clause-bound g c = c.with_missing.ensures.bound c.run.ensures.bound
 
 pub returns-in-Some-clause-complete : goal.returns-in-Some-clause-complete
-returns-in-Some-clause-complete g c = λ zero. subst (λ (objects : List Object). IsComplete c.args.files.now objects) c.deref.ensures.value
-    (c.say_missing-missing.ensures (c.with_missing.ensures.whole zero))
+returns-in-Some-clause-complete g c = λ zero. c.say_missing-missing.ensures (c.with_missing.ensures.whole zero)
 
 pub returns-in-Some-clause-ends : goal.returns-in-Some-clause-ends
 returns-in-Some-clause-ends g c =
     let (end, is, status) = c.run.ensures.ends in (
       c.say_missing-missing.result,
       end,
-      λ none. subst (λ (objects : List Object). IsComplete c.args.files.now objects) c.deref.ensures.value (c.say_missing-missing.ensures none),
+      λ none. c.say_missing-missing.ensures none,
       listed c.in-Some.inputs.items c.in-Some.ensures (subst (λ (inputs : List Input). IsEnd _ _ inputs c.args.question end) c.deref-in-Some.ensures.value is),
       c.with_missing.ensures.value ∙ ap (with_missing c.say_missing-missing.result) status,
     )
@@ -29,7 +27,7 @@ pub returns-in-None-clause-ends : goal.returns-in-None-clause-ends
 returns-in-None-clause-ends g c = (
   c.say_missing-missing.result,
   Err faults.Memory,
-  λ none. subst (λ (objects : List Object). IsComplete c.args.files.now objects) c.deref.ensures.value (c.say_missing-missing.ensures none),
+  λ none. c.say_missing-missing.ensures none,
   short refl,
   c.say.ensures ∙ sym (missing_failed c.say_missing-missing.result),
 )

@@ -4,8 +4,6 @@ use Rattle.elfload.specs.Files.{AreLoaded, HasStatic}
 use Rattle.elfload.specs.Images.{AreImagesGood}
 use Rattle.elfload.proofs.run_found.Goals as goal
 use Rattle.linking_programs.specs.declared.Input.{Input}
-use Rattle.program_libraries.specs.Complete.{IsComplete}
-use Rattle.program_libraries.specs.declared.objects.Object.{Object}
 
 -- the checks of the same inputs
 same_checked : (narrow_record wide_record : _) (page : ℕ) (one other : List Input) → one ≡ other → HasStatic one ⊎ AreImagesGood narrow_record wide_record page one → HasStatic other ⊎ AreImagesGood narrow_record wide_record page other
@@ -13,8 +11,7 @@ same_checked narrow_record wide_record page one other same is =
     subst (λ (inputs : List Input). HasStatic inputs ⊎ AreImagesGood narrow_record wide_record page inputs) same is
 
 pub returns-in-Some-clause-complete : goal.returns-in-Some-clause-complete
-returns-in-Some-clause-complete g c = λ zero. subst (λ (objects : List Object). IsComplete c.args.files.now objects) c.deref.ensures.value
-    (c.say_missing-missing.ensures (c.with_missing.ensures.whole zero))
+returns-in-Some-clause-complete g c = λ zero. c.say_missing-missing.ensures (c.with_missing.ensures.whole zero)
 
 pub returns-in-Some-clause-good : goal.returns-in-Some-clause-good
 returns-in-Some-clause-good g c = λ zero.
