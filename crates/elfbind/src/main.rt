@@ -109,8 +109,8 @@ pub fn run<W: Write, E: Write>(
 /// to `err` which libraries and versions are missing; returns the exit status.
 ///
 /// The status is that of `run` for the files of the program and its libraries, in the order in which names
-/// are looked up. It is 1 if that is 0 and a library or a version is missing, and if there is no memory for the list of
-/// the files. By the contract it is 0 only if each name that these files ask for, other than by an
+/// are looked up. It is 1 if that is 0 and a library or a version is missing, and if there is no memory for
+/// the list of the files. By the contract it is 0 only if each name that these files ask for, other than by an
 /// auxiliary entry, found an object.
 pub fn run_found<W: Write, E: Write>(
     alloc: Global,

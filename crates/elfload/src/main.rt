@@ -123,8 +123,8 @@ pub fn run<W: Write, E: Write>(
 /// libraries and versions are missing; returns the exit status.
 ///
 /// The status is that of `run` for the files of the program and its libraries, in the order in which names
-/// are looked up. It is 1 if that is 0 and a library or a version is missing, and if there is no memory for the list of
-/// the files. By the contract it is 0 only if each name that these files ask for, other than by an
+/// are looked up. It is 1 if that is 0 and a library or a version is missing, and if there is no memory for
+/// the list of the files. By the contract it is 0 only if each name that these files ask for, other than by an
 /// auxiliary entry, found an object, and if what `run` says of the status 0 is so.
 pub fn run_found<W: Write, E: Write>(
     alloc: Global,

@@ -42,9 +42,9 @@ use xmas_elf::symbol_table::{DynEntry32, DynEntry64, Entry};
 /// Writes a line for each reference, which is looked up in a program and its libraries that were found, to
 /// `out`, and which libraries are missing, or the reason why it can't, to `err`; returns the exit status.
 ///
-/// The status is 0 once all is written and flushed and no library or version is missing, `CLOSED`, and of the output
-/// nothing is said, if a write failed since nobody reads it, and 1 otherwise. By the contract it is 0 only
-/// if each name that the files ask for, other than by an auxiliary entry, found an object.
+/// The status is 0 once all is written and flushed and no library or version is missing, `CLOSED`, and of
+/// the output nothing is said, if a write failed since nobody reads it, and 1 otherwise. By the contract
+/// it is 0 only if each name that the files ask for, other than by an auxiliary entry, found an object.
 pub fn run_scope<S: AsStr, W: Write, E: Write>(
     alloc: Global,
     references: &[S],
