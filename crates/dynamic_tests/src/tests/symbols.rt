@@ -31,6 +31,20 @@ fn counts_the_symbols_that_relocations_name(rt: HostRuntime) -> Result<(), LinkE
     Ok(())
 }
 
+// The first relocation of each names symbol 100: of `WIDE` at 0x2b8, of `IMPORTER` at 0x1a0.
+#[test]
+fn relocations_count_where_the_table_has_no_symbol(rt: HostRuntime) -> Result<(), LinkError> {
+    let (mut counted, mut empty) = (*WIDE, *IMPORTER);
+    put(&mut counted, 0x2c4, &[100]);
+    put(&mut empty, 0x1ac, &[100]);
+    let file = open(&rt, &counted);
+    want(&rt, DynamicView::read(&file)?.reached_count(&file), Ok(7));
+    let file = open(&rt, &empty);
+    let found = DynamicView::read(&file)?.reached_count(&file);
+    want(&rt, found, Ok(101));
+    Ok(())
+}
+
 // A number of symbols, and the number that is read or the error.
 const COUNTED: &[(u64, Result<usize, LinkError>)] = rows! {
     0, Ok(0); 3, Ok(3);
