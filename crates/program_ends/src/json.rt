@@ -1,6 +1,7 @@
 //! Records as JSON (RFC 8259), an object on a line, for other programs to read.
 
-ghost use Rattle.std.specs.Prelude.{◌≡◌, ◌++◌, ◌<◌, ◌+◌, ◌^◌, IfSome, OnOk, codes, length};
+ghost use Rattle.std.specs.Fmt.{digit_glyph};
+ghost use Rattle.std.specs.Prelude.{false, ◌≡◌, ◌++◌, ◌<◌, ◌+◌, ◌^◌, IfSome, OnOk, codes, length};
 ghost use Rattle.std.specs.Io.KnownBytes.{Appends};
 ghost use Rattle.std.specs.List.{flat_map, position_from};
 ghost use Rattle.std.specs.Str.{is_utf8};
@@ -40,11 +41,11 @@ pub fn write_json<W: Write>(members: &[Member<'_>], out: &mut W) -> io::Result<(
     ensures { OnOk result (Appends (W.contents out.old) (W.contents out.new) (json_line members.now)) }
 {
     out.write_all(b"{")?;
-    let mut between = "";
+    let mut between: &[u8] = b"";
     for member in members {
-        out.write_all(between.as_bytes())?;
+        out.write_all(between)?;
         write_member(member, out)?;
-        between = ",";
+        between = b",";
     }
     out.write_all(b"}\n")
 }
@@ -110,7 +111,7 @@ fn write_hex<W: Write>(bytes: &[u8], out: &mut W) -> io::Result<()>
 {
     out.write_all(b"\"")?;
     for byte in bytes {
-        write!(out, "{byte:02x}")?;
+        write_hex_byte(*byte, out)?;
     }
     out.write_all(b"\"")
 }
@@ -133,10 +134,32 @@ fn write_characters<W: Write>(text: &[u8], out: &mut W) -> io::Result<()>
 fn write_byte<W: Write>(byte: u8, out: &mut W) -> io::Result<()>
     ensures { OnOk result (Appends (W.contents out.old) (W.contents out.new) (string_byte byte)) }
 {
-    match byte {
-        0..=0x1f => write!(out, "\\u00{byte:02x}"),
-        b'"' | b'\\' => out.write_all(&[b'\\', byte]),
-        _ => out.write_all(&[byte]),
+    if byte < 0x20 {
+        out.write_all(b"\\u00")?;
+        write_hex_byte(byte, out)
+    } else if is_escaped(byte) {
+        out.write_all(&[b'\\', byte])
+    } else {
+        out.write_all(&[byte])
+    }
+}
+
+// A byte in two hexadecimal digits.
+fn write_hex_byte<W: Write>(byte: u8, out: &mut W) -> io::Result<()>
+    ensures { OnOk result (Appends (W.contents out.old) (W.contents out.new) (hex_byte byte)) }
+{
+    out.write_all(&[hex_digit(byte / 16), hex_digit(byte % 16)])
+}
+
+// The hexadecimal digit of a number.
+fn hex_digit(number: u8) -> u8
+    requires { number < 16 }
+    ensures { result ≡ digit_glyph false number }
+{
+    if number < 10 {
+        b'0' + number
+    } else {
+        b'a' - 10 + number
     }
 }
 
