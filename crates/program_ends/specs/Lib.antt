@@ -1,4 +1,5 @@
 pub mod Appended
 pub mod Ends
+pub mod Json
 pub mod Names
 pub mod Stops

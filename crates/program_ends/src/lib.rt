@@ -20,6 +20,7 @@ use std::{env, io};
 use thiserror::Error;
 pub use watched::Watched;
 
+pub mod json;
 mod watched;
 
 /// The status if nobody reads the output to its end: that of a program which the signal SIGPIPE ends,
