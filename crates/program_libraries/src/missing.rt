@@ -91,7 +91,7 @@ pub fn with_missing(missing: bool, status: u8) -> u8
     ensures whole { result ≡ 0 → IsFalse missing }
     ensures kept { result ≡ 0 → status ≡ 0 }
     ensures bound { (status ≢ CLOSED → status ≤ 1) → result ≢ CLOSED → result ≤ 1 }
-    ensures small { status ≤ 1 → result ≤ 1 }
+    ensures closed { result ≡ CLOSED → status ≡ CLOSED }
 {
     if missing && status == 0 { 1 } else { status }
 }
