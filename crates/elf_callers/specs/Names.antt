@@ -6,7 +6,7 @@ use Rattle.elf_callers.specs.Totals.{IsTotal}
 use Rattle.xmas_elf.specs.ElfError.TheVariants.{NotMultiple, SymbolIndex}
 use Rattle.xmas_elf.specs.FileHeader.{header_of}
 use Rattle.xmas_elf.specs.NameTable.{shstr_of}
-use Rattle.xmas_elf.specs.AnyError.{and_then, unless}
+use Rattle.xmas_elf.specs.FirstError.{and_then, unless}
 use Rattle.xmas_elf.specs.StringTables.{string_of}
 use Rattle.xmas_elf.specs.Symbol.{Symbols, entry_64, entry_64_fields}
 use Rattle.xmas_elf.specs.Types.{ElfError, Order}
