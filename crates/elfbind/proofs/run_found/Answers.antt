@@ -19,7 +19,7 @@ returns-in-Some-clause-ends g c =
       c.say_missing-missing.result,
       end,
       λ none. c.say_missing-missing.ensures none,
-      listed c.in-Some.inputs.items c.in-Some.ensures (subst (λ (inputs : List Input). IsEnd _ _ inputs c.args.question end) c.deref-in-Some.ensures.value is),
+      listed c.in-Some.inputs.items c.in-Some.ensures (subst (λ (inputs : List Input). IsEnd _ _ inputs c.args.question end) c.deref.ensures.value is),
       c.with_missing.ensures.value ∙ ap (with_missing c.say_missing-missing.result) status,
     )
 

@@ -20,6 +20,6 @@ returns-in-Some-clause-good g c = λ zero.
     record {
       inputs = c.in-Some.inputs.items;
       inputs_are = c.in-Some.ensures;
-      loaded = subst (λ (inputs : List Input). AreLoaded page inputs) c.deref-in-Some.ensures.value (c.run.ensures.loaded kept);
-      checked = same_checked _ _ page _ _ c.deref-in-Some.ensures.value (c.run.ensures.checked kept);
+      loaded = subst (λ (inputs : List Input). AreLoaded page inputs) c.deref.ensures.value (c.run.ensures.loaded kept);
+      checked = same_checked _ _ page _ _ c.deref.ensures.value (c.run.ensures.checked kept);
     }
