@@ -26,7 +26,7 @@ const X86_64: &[Expected] = &[
     (33, Some(Formula::Size), 8, Some(Use::Any)),
     (36, Some(Formula::Descriptor), 8, Some(Use::Defined)),
     (37, Some(Formula::Call), 8, Some(Use::Any)),
-    (38, None, 8, None),
+    (38, Some(Formula::Base), 8, None),
 ];
 
 const I386: &[Expected] = &[
@@ -64,7 +64,7 @@ const AARCH64: &[Expected] = &[
 // A machine, its types, that of the jump slots, that of the relative relocations, and the number of
 // types with a formula.
 const MACHINES: &[(u16, &[Expected], u32, u32, usize)] = &[
-    (62, X86_64, 7, 8, 15),
+    (62, X86_64, 7, 8, 16),
     (3, I386, 7, 8, 14),
     (183, AARCH64, 1026, 1027, 12),
 ];
