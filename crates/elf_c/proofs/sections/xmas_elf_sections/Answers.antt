@@ -9,6 +9,6 @@ pub returns : goal.returns
 returns c = (
   c.fill.result,
   subst (λ (file : ElfFile). Fills (record_in section_record (section_list file)) c.args.first c.args.out.now c.fill.result c.fill.new.out)
-    (c.section_table.ensures.file ∙ c.file-file.ensures) c.fill.ensures,
+      (c.section_table.ensures.file ∙ c.file-file.ensures) c.fill.ensures,
   c.give.ensures,
 )
