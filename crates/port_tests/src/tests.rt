@@ -6,6 +6,7 @@ mod data;
 mod hash;
 mod headers;
 mod iterators;
+mod json;
 mod messages;
 mod names;
 mod notes;

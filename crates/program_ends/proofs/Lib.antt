@@ -1,5 +1,6 @@
 pub mod Ends
 pub mod Flushed
+mod JsonSpelled
 mod JsonTexts
 pub mod LineLists
 mod Names

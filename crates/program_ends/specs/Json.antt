@@ -9,10 +9,10 @@ use Rattle.program_ends.specs.declared.json.Value.TheVariants as values
 
 -- Strings (RFC 8259, section 7).
 
--- the bytes that a string has only in an escape: the quotation mark, the reverse solidus, and the control characters
--- below 0x20
+-- the bytes that a string has only in an escape: the control characters below 0x20, the quotation mark, and the
+-- reverse solidus
 abbrev pub is_escaped : ℕ → Bool
-is_escaped byte = byte == 34 || byte == 92 || nat_lt byte 32
+is_escaped byte = nat_lt byte 32 || byte == 34 || byte == 92
 
 -- a byte in two hexadecimal digits, in lower case
 abbrev pub hex_byte : ℕ → List ℕ
@@ -55,6 +55,16 @@ json_value (values.Name name) = if is_utf8 name.now then json_string name.now el
 -- a member: its key, a colon and its value
 abbrev pub json_member : Member → List ℕ
 json_member member = json_string (member.key.now ++ key_end member.value) ++ 58 ∷ json_value member.value
+
+-- a member by its key, and the values of a text and of a name
+abbrev pub member : List ℕ → Value → Member
+member key value = record { key = record { ref_ptr = (0, 0); now = key }; value = value }
+
+abbrev pub text_value : List ℕ → Value
+text_value text = values.Text (record { ref_ptr = (0, 0); now = text })
+
+abbrev pub name_value : List ℕ → Value
+name_value name = values.Name (record { ref_ptr = (0, 0); now = name })
 
 -- an object, whose members have commas between them, and a line feed
 abbrev pub json_line : List Member → List ℕ

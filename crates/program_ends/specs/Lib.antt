@@ -1,5 +1,6 @@
 pub mod Appended
 pub mod Ends
 pub mod Json
+pub mod JsonStrings
 pub mod Names
 pub mod Stops

@@ -1,15 +1,34 @@
 //! Records as JSON (RFC 8259), an object on a line, for other programs to read.
 
+ghost use Rattle.std.specs.Prelude.{◌≡◌, ◌+◌, ◌<◌, ◌^◌, IfSome, List, OnOk, false, length, ℕ};
 ghost use Rattle.std.specs.Fmt.{digit_glyph};
-ghost use Rattle.std.specs.Prelude.{false, ◌≡◌, ◌++◌, ◌<◌, ◌+◌, ◌^◌, IfSome, OnOk, codes, length};
 ghost use Rattle.std.specs.Io.KnownBytes.{Appends};
 ghost use Rattle.std.specs.List.{flat_map, position_from};
 ghost use Rattle.std.specs.Str.{is_utf8};
 ghost use Rattle.program_ends.specs.Json.{hex_byte, is_escaped, json_line, json_member};
 ghost use Rattle.program_ends.specs.Json.{json_string, json_value, key_end, quoted, string_byte};
+ghost use Rattle.program_ends.specs.JsonStrings.{Spells};
 
+use std::convert::AsStr;
 use std::io::Write;
 use std::{io, str};
+
+/// How a program writes its records.
+#[derive(Clone, Copy, Debug)]
+pub enum Form {
+    /// As text.
+    Text,
+    /// As JSON, an object on a line.
+    Json,
+}
+
+/// The form that the first argument asks for, which is `--json` for JSON, and the arguments after it.
+pub fn form_asked<S: AsStr>(arguments: &[S]) -> (Form, &[S]) {
+    match arguments.split_first() {
+        Some((first, others)) if first.as_str() == "--json" => (Form::Json, others),
+        _ => (Form::Text, arguments),
+    }
+}
 
 /// A value of a member of a JSON object.
 #[derive(Clone, Copy, Debug)]
@@ -87,6 +106,11 @@ fn write_value<W: Write>(value: &Value<'_>, out: &mut W) -> io::Result<()>
         Value::Name(name) => write_hex(name, out),
     }
 }
+
+/// The law of strings: what is between the quotation marks spells the text, by the grammar of RFC 8259.
+pub fn spelling_law()
+    ensures { (text : List ℕ) → Spells (flat_map string_byte text) text }
+{}
 
 // Whether bytes are UTF-8.
 fn is_text(bytes: &[u8]) -> bool
