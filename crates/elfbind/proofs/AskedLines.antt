@@ -27,16 +27,21 @@ use Rattle.elf_linking.specs.declared.scope.asking.Asked.TheVariants.{Look, Own}
 use Rattle.elf_linking.proofs.lemmas.CheckedParts.{asked_by_parts, fields_by_parts}
 use Rattle.elfbind.specs.Bindings.{IsErrorIn, IsErrorOf, IsItemOf, is_missing, is_weak, line_by, line_of, line_text, path_in, shown_text, target_of, version_text}
 use Rattle.elfbind.specs.Checks.{ArePassed}
+use Rattle.elfbind.specs.declared.bindings.Style.{Style}
 use Rattle.linking_programs.specs.Files.{IsOfInput}
 use Rattle.linking_programs.specs.declared.Input.{Input}
 use Rattle.linking_programs.specs.declared.Failed as reasons
 use Rattle.program_ends.specs.Appended.{AppendsSome}
+use Rattle.program_ends.specs.declared.json.Form.{Form}
+use Rattle.program_ends.specs.declared.json.Form.TheVariants.{Json, Text}
 use Rattle.xmas_elf.specs.Symbol.{SymbolFields}
 
-version_alone : (wanted : Wanted) → version_text (wanted_parts wanted) ≡ version_text wanted
-version_alone (Version name hash hidden) = refl
-version_alone Unversioned = refl
-version_alone Newest = refl
+-- of a version the bytes alone are in a line
+line_alone : (form : Form) (file name : List ℕ) (wanted : Wanted) (weak : Bool) (target : Option (Bor (List ℕ) × ℕ)) → line_text form file name (wanted_parts wanted) weak target ≡ line_text form file name wanted weak target
+line_alone Text file name (Version version hash hidden) weak target = refl
+line_alone Json file name (Version version hash hidden) weak target = refl
+line_alone form file name Unversioned weak target = refl
+line_alone form file name Newest weak target = refl
 
 module _ {E : Type 0} {r : _} (fields : E → SymbolFields) (objects : List (DynamicObject E r)) where
   abbrev parts : List ObjectParts
@@ -55,7 +60,7 @@ module _ {E : Type 0} {r : _} (fields : E → SymbolFields) (objects : List (Dyn
   pub item_within : (from : ℕ) (found : Option (Reference × Option (Bound SymbolFields))) → IsItemOf parts (from, found) → from < length objects
   item_within from found is = let (object, at, none) = item_object from found is in slice_get_within objects from object at
 
-  module _ (inputs : List Input) (only_missing : Bool) (from : ℕ) (object : DynamicObject E r) (at : slice_get objects from ≡ Some object) (passed : ArePassed fields objects) where
+  module _ (inputs : List Input) (style : Style) (from : ℕ) (object : DynamicObject E r) (at : slice_get objects from ≡ Some object) (passed : ArePassed fields objects) where
     checked : AreChecked (object_dynamic_symbols fields object) (Ok tt)
     checked = passed from (object_dynamic_symbols fields object) (ap (option_map (object_dynamic_symbols fields)) at)
 
@@ -65,14 +70,14 @@ module _ {E : Type 0} {r : _} (fields : E → SymbolFields) (objects : List (Dyn
     module _ (reference : Reference) (bound : Option (Bound SymbolFields)) where
       -- the line of a reference that asks for this
       pub line_asked : (asked : Asked E) → result_map asked_parts (Ok asked) ≡ asked_of fields object reference
-          → line_of inputs parts only_missing (from, Some (reference, bound))
-          ≡ Some (line_by inputs only_missing from (is_weak (option_map fields (slice_get (object_symbols fields object).items reference.symbol))) bound (asked_fields fields asked))
+          → line_of inputs parts style (from, Some (reference, bound))
+          ≡ Some (line_by inputs style from (is_weak (option_map fields (slice_get (object_symbols fields object).items reference.symbol))) bound (asked_fields fields asked))
       line_asked asked is =
           let asks : Some (asked_fields fields asked) ≡ asked_in (object_parts fields object) reference = asked_by_parts fields object checked reference (Ok asked) is in
           rw (part_at, sym asks, fields_by_parts fields object reference.symbol) refl
 
 -- the line of an item that is a reference, or why it has none, by what the object says that the reference asks for
-module _ {E : Type 0} {r : _} (fields : E → SymbolFields) (inputs : List Input) (objects : List (DynamicObject E r)) (only_missing : Bool)
+module _ {E : Type 0} {r : _} (fields : E → SymbolFields) (inputs : List Input) (objects : List (DynamicObject E r)) (style : Style)
     (item : Result (CheckedBinding E) ℕ) (binding : CheckedBinding E) (item_is : item ≡ Ok binding) (is : IsItemOf (map (object_parts fields) objects) (item_parts fields item)) where
   abbrev found : Option (Bound SymbolFields)
   found = bound_fields fields binding.bound
@@ -85,27 +90,30 @@ module _ {E : Type 0} {r : _} (fields : E → SymbolFields) (inputs : List Input
     at = slice_get_read objects (length objects) binding.from object refl from_within object_is
 
     line_by_asked : ArePassed fields objects → (asked : Asked E) → answer ≡ Ok asked
-        → line_of inputs (map (object_parts fields) objects) only_missing (item_parts fields item)
-        ≡ Some (line_by inputs only_missing binding.from (is_weak (option_map fields (slice_get (object_symbols fields object).items binding.reference.symbol))) found (asked_fields fields asked))
+        → line_of inputs (map (object_parts fields) objects) style (item_parts fields item)
+        ≡ Some (line_by inputs style binding.from (is_weak (option_map fields (slice_get (object_symbols fields object).items binding.reference.symbol))) found (asked_fields fields asked))
     line_by_asked passed asked answer_is =
-        ap (λ one. line_of inputs (map (object_parts fields) objects) only_missing (item_parts fields one)) item_is
-        ∙ line_asked fields objects inputs only_missing binding.from object at passed binding.reference found asked (ap (result_map asked_parts) (sym answer_is) ∙ asks)
+        ap (λ one. line_of inputs (map (object_parts fields) objects) style (item_parts fields one)) item_is
+        ∙ line_asked fields objects inputs style binding.from object at passed binding.reference found asked (ap (result_map asked_parts) (sym answer_is) ∙ asks)
 
     -- a reference that gets its own symbol has an empty line
     pub own_line : ArePassed fields objects → (symbol : E) → answer ≡ Ok (Own symbol) → (old : Option (List ℕ))
-        → AppendsSome (λ text. line_of inputs (map (object_parts fields) objects) only_missing (item_parts fields item) ≡ Some (false, text)) old old
+        → AppendsSome (λ text. line_of inputs (map (object_parts fields) objects) style (item_parts fields item) ≡ Some (false, text)) old old
     own_line passed symbol answer_is old = ([], line_by_asked passed (Own symbol) answer_is, Appends-nil old)
 
     -- a reference that is looked up has a line
     pub look_line : ArePassed fields objects → (name : Bor (List ℕ)) (wanted : Wanted) (purpose : uses.Use) (own : Option E) → answer ≡ Ok (Look name wanted purpose own)
         → (weak missing : Bool) → weak ≡ is_weak (option_map fields (slice_get (object_symbols fields object).items binding.reference.symbol)) → missing ≡ is_missing weak found
-        → (text : List ℕ) → text ≡ shown_text (not (only_missing && not missing)) (line_text (path_in (slice_get inputs binding.from)) name.now wanted weak (target_of inputs found))
-        → line_of inputs (map (object_parts fields) objects) only_missing (item_parts fields item) ≡ Some (missing, text)
+        → (text : List ℕ) → text ≡ shown_text (not (style.only_missing && not missing)) (line_text style.form (path_in (slice_get inputs binding.from)) name.now wanted weak (target_of inputs found))
+        → line_of inputs (map (object_parts fields) objects) style (item_parts fields item) ≡ Some (missing, text)
     look_line passed name wanted purpose own answer_is weak missing weak_is missing_is text text_is =
-        line_by_asked passed (Look name wanted purpose own) answer_is ∙ rw (version_alone wanted, text_is, missing_is, weak_is) refl
+        let path = path_in (slice_get inputs binding.from) in
+        let weakness = is_weak (option_map fields (slice_get (object_symbols fields object).items binding.reference.symbol)) in
+        line_by_asked passed (Look name wanted purpose own) answer_is
+        ∙ rw (line_alone style.form path name.now wanted weakness (target_of inputs found), text_is, missing_is, weak_is) refl
 
     -- there is a line, whichever it is
-    pub has_line : ArePassed fields objects → (asked : Asked E) → answer ≡ Ok asked → IsSome (line_of inputs (map (object_parts fields) objects) only_missing (item_parts fields item))
+    pub has_line : ArePassed fields objects → (asked : Asked E) → answer ≡ Ok asked → IsSome (line_of inputs (map (object_parts fields) objects) style (item_parts fields item))
     has_line passed asked answer_is = subst IsSome (sym (line_by_asked passed asked answer_is)) refl
 
     -- why a reference has no line

@@ -8,6 +8,7 @@ use Rattle.elf_linking.specs.declared.error.LinkError.{LinkError}
 use Rattle.elf_linking.specs.declared.object.DynamicObject.{DynamicObject}
 use Rattle.elf_linking.specs.declared.references.Reference.{Reference}
 use Rattle.elf_linking.specs.declared.scope.Bound.{Bound}
+use Rattle.elfbind.specs.declared.bindings.Style.{Style}
 use Rattle.elfbind.specs.Bindings.{AreBindingsBegun, AreBindingsFailed, AreBindingsWritten, IsAtItem, IsErrorOf, IsItemOf, IsLine, line_of}
 use Rattle.elfbind.specs.Files.{AreWritten}
 use Rattle.linking_programs.specs.declared.Input.{Input}
@@ -59,30 +60,30 @@ module _ (objects : List ObjectParts) where
   pub all_items : AreItems (all_bindings objects)
   all_items = from_items objects 0 (λ i object at. subst (λ k. slice_get objects k ≡ Some object) (omega arith) at)
 
-module _ (inputs : List Input) (objects : List ObjectParts) (only_missing : Bool) where
+module _ (inputs : List Input) (objects : List ObjectParts) (style : Style) where
   -- with `left` still left of the items, the lines of those before them are written
   pub record AreLinesSoFar (left : List Item) (missing : Bool) (old new : Option (List ℕ)) : Type 0 where
     pub items : AreItems objects left
-    pub lines : AppendsSome (AreWrittenSoFar (IsLine inputs objects only_missing) (all_bindings objects) left missing) old new
+    pub lines : AppendsSome (AreWrittenSoFar (IsLine inputs objects style) (all_bindings objects) left missing) old new
 
   pub lines_begin : (left : List Item) (old : Option (List ℕ)) → left ≡ all_bindings objects → AreLinesSoFar left false old old
   lines_begin left old is = record {
     items = subst (AreItems objects) (sym is) (all_items objects);
-    lines = none_so_far (IsLine inputs objects only_missing) (all_bindings objects) left old is;
+    lines = none_so_far (IsLine inputs objects style) (all_bindings objects) left old is;
   }
 
   module _ (left later : List Item) (item : Item) (missing : Bool) (old before : Option (List ℕ)) (so_far : AreLinesSoFar left missing old before) (first : left ≡ item ∷ later) where
     pub item_is : IsItemOf objects item
     item_is = (subst (AreItems objects) first so_far.items).0
 
-    pub lines_more : (own : Bool) (after : Option (List ℕ)) → AppendsSome (λ text. line_of inputs objects only_missing item ≡ Some (own, text)) before after
+    pub lines_more : (own : Bool) (after : Option (List ℕ)) → AppendsSome (λ text. line_of inputs objects style item ≡ Some (own, text)) before after
         → AreLinesSoFar later (missing || own) old after
     lines_more own after line = record {
       items = (subst (AreItems objects) first so_far.items).1;
-      lines = next_more (IsLine inputs objects only_missing) (all_bindings objects) left later item missing own old before after first so_far.lines (λ index. line);
+      lines = next_more (IsLine inputs objects style) (all_bindings objects) left later item missing own old before after first so_far.lines (λ index. line);
     }
 
-    pub at_item : (P : Item → Type 0) → P item → IsAtItem inputs objects only_missing P
+    pub at_item : (P : Item → Type 0) → P item → IsAtItem inputs objects style P
     at_item P holds =
         let (text, earlier, grown) = so_far.lines in
         record {
@@ -96,18 +97,18 @@ module _ (inputs : List Input) (objects : List ObjectParts) (only_missing : Bool
           here = holds;
         }
 
-  pub lines_end : (left : List Item) (missing : Bool) (old new : Option (List ℕ)) → left ≡ [] → AreLinesSoFar left missing old new → AppendsSome (AreBindingsWritten inputs objects only_missing missing) old new
+  pub lines_end : (left : List Item) (missing : Bool) (old new : Option (List ℕ)) → left ≡ [] → AreLinesSoFar left missing old new → AppendsSome (AreBindingsWritten inputs objects style missing) old new
   lines_end left missing old new end so_far =
       let (text, earlier, grown) = so_far.lines in
       let all : earlier.earlier ≡ all_bindings objects = sym (append-nil earlier.earlier) ∙ ap (λ rest. earlier.earlier ++ rest) (sym end) ∙ earlier.split in
-      (text, subst (λ (items : List Item). AreWritten (IsLine inputs objects only_missing) items missing text) all earlier.so_far, grown)
+      (text, subst (λ (items : List Item). AreWritten (IsLine inputs objects style) items missing text) all earlier.so_far, grown)
 
-module _ {E : Type 0} {r : _} (fields : E → SymbolFields) (inputs : List Input) (objects : List (DynamicObject E r)) (only_missing : Bool) where
+module _ {E : Type 0} {r : _} (fields : E → SymbolFields) (inputs : List Input) (objects : List (DynamicObject E r)) (style : Style) where
   -- why an item stops the lines
-  pub lines_stop : (left later : List Item) (item : Item) (missing : Bool) (old before : Option (List ℕ)) → AreLinesSoFar inputs (map (object_parts fields) objects) only_missing left missing old before → left ≡ item ∷ later
-      → (stop : Stop (reasons.Failed LinkError)) → IsStop (IsErrorOf fields inputs objects item) (IsSome (line_of inputs (map (object_parts fields) objects) only_missing item)) ⊥ stop
-      → IsStop (AreBindingsFailed fields inputs objects only_missing) (AreBindingsBegun inputs (map (object_parts fields) objects) only_missing) ⊥ stop
+  pub lines_stop : (left later : List Item) (item : Item) (missing : Bool) (old before : Option (List ℕ)) → AreLinesSoFar inputs (map (object_parts fields) objects) style left missing old before → left ≡ item ∷ later
+      → (stop : Stop (reasons.Failed LinkError)) → IsStop (IsErrorOf fields inputs objects item) (IsSome (line_of inputs (map (object_parts fields) objects) style item)) ⊥ stop
+      → IsStop (AreBindingsFailed fields inputs objects style) (AreBindingsBegun inputs (map (object_parts fields) objects) style) ⊥ stop
   lines_stop left later item missing old before so_far first stop why =
-      let here = at_item inputs (map (object_parts fields) objects) only_missing left later item missing old before so_far first in
+      let here = at_item inputs (map (object_parts fields) objects) style left later item missing old before so_far first in
       stop_so _ _ _ _ _ _ stop (λ failed error. here (λ one. IsErrorOf fields inputs objects one failed) error)
-      (λ some. here (λ one. IsSome (line_of inputs (map (object_parts fields) objects) only_missing one)) some) (λ never. never) why
+      (λ some. here (λ one. IsSome (line_of inputs (map (object_parts fields) objects) style one)) some) (λ never. never) why

@@ -7,6 +7,7 @@ use Rattle.elfbind.specs.Bindings.{AreBindingsBegun, AreBindingsFailed, AreBindi
 use Rattle.elfbind.specs.Checks.{ArePassed, IsCheckLine, IsCheckFailed}
 use Rattle.elfbind.specs.Files.{AreWritten}
 use Rattle.linking_programs.specs.Files.{AreObjectsOf, IsInputError, is_first_narrow, failed_fault_of}
+use Rattle.elfbind.specs.declared.bindings.Style.{Style}
 use Rattle.elfbind.specs.declared.Question as questions
 use Rattle.program_ends.specs.declared.TheConstants.{CLOSED}
 use Rattle.elfbind.specs.declared.Question.TheVariants.{Bindings, Checks}
@@ -16,6 +17,7 @@ use Rattle.program_ends.specs.Appended.{AppendsSome}
 use Rattle.program_ends.specs.Stops.{HasBegun, IsStop}
 use Rattle.program_ends.specs.declared.Fault.{Fault}
 use Rattle.program_ends.specs.declared.Fault.TheVariants as faults
+use Rattle.program_ends.specs.declared.json.Form.{Form}
 use Rattle.program_ends.specs.declared.Stop as stops
 use Rattle.xmas_elf.specs.Symbol.{SymbolFields, dyn_entry_32_fields, dyn_entry_64_fields}
 use Rattle.xmas_elf.specs.Types.{DynEntry32, DynEntry64}
@@ -23,26 +25,26 @@ use Rattle.xmas_elf.specs.Types.{DynEntry32, DynEntry64}
 -- what is written of objects: the lines of their bindings, or of those that are missing their symbols, if the checks
 -- of all pass; or the lines of their checks. What is wrong is that a reference is missing its symbol, or that a check fails.
 pub data IsAnswer {E : Type 0} {r : _} (fields : E → SymbolFields) (inputs : List Input) (objects : List (DynamicObject E r)) (question : questions.Question) (wrong : Bool) (text : List ℕ) : Type 0 where
-  bindings : (only_missing : Bool) → question ≡ Bindings only_missing → ArePassed fields objects
-      → AreBindingsWritten inputs (map (object_parts fields) objects) only_missing wrong text
+  bindings : (style : Style) → question ≡ Bindings style → ArePassed fields objects
+      → AreBindingsWritten inputs (map (object_parts fields) objects) style wrong text
       → IsAnswer fields inputs objects question wrong text
-  checks : question ≡ Checks → AreWritten (IsCheckLine fields inputs) objects wrong text
+  checks : (form : Form) → question ≡ Checks form → AreWritten (IsCheckLine form fields inputs) objects wrong text
       → IsAnswer fields inputs objects question wrong text
 
 -- why there is no output: a check fails, or an error of a reference; the lines of checks always have one
 pub data IsAnswerError {E : Type 0} {r : _} (fields : E → SymbolFields) (inputs : List Input) (objects : List (DynamicObject E r)) (question : questions.Question) (failed : Failed LinkError) : Type 0 where
-  by_check : (only_missing : Bool) → question ≡ Bindings only_missing → IsCheckFailed fields inputs objects failed
+  by_check : (style : Style) → question ≡ Bindings style → IsCheckFailed fields inputs objects failed
       → IsAnswerError fields inputs objects question failed
-  by_binding : (only_missing : Bool) → question ≡ Bindings only_missing → ArePassed fields objects
-      → AreBindingsFailed fields inputs objects only_missing failed
+  by_binding : (style : Style) → question ≡ Bindings style → ArePassed fields objects
+      → AreBindingsFailed fields inputs objects style failed
       → IsAnswerError fields inputs objects question failed
 
 -- how far the program has come when the first line is written
 pub data IsAnswerBegun {E : Type 0} {r : _} (fields : E → SymbolFields) (inputs : List Input) (objects : List (DynamicObject E r)) (question : questions.Question) : Type 0 where
-  bindings_begun : (only_missing : Bool) → question ≡ Bindings only_missing → ArePassed fields objects
-      → AreBindingsBegun inputs (map (object_parts fields) objects) only_missing
+  bindings_begun : (style : Style) → question ≡ Bindings style → ArePassed fields objects
+      → AreBindingsBegun inputs (map (object_parts fields) objects) style
       → IsAnswerBegun fields inputs objects question
-  checks_begun : question ≡ Checks → IsAnswerBegun fields inputs objects question
+  checks_begun : (form : Form) → question ≡ Checks form → IsAnswerBegun fields inputs objects question
 
 -- the same, or the output was written whole before the flush failed
 abbrev pub IsAnswerWritten : {E : Type 0} → {r : _} → (E → SymbolFields) → List Input → List (DynamicObject E r) → questions.Question → Type 0

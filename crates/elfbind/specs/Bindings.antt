@@ -19,9 +19,16 @@ use Rattle.elf_linking.specs.declared.scope.Bound.{Bound}
 use Rattle.elf_linking.specs.declared.scope.asking.Asked.{Asked}
 use Rattle.elf_linking.specs.declared.scope.asking.Asked.TheVariants.{Look, Own}
 use Rattle.elfbind.specs.Files.{AreWritten}
+use Rattle.elfbind.specs.declared.bindings.Style.{Style}
 use Rattle.linking_programs.specs.Files.{IsOfInput}
 use Rattle.linking_programs.specs.declared.Input.{Input}
 use Rattle.linking_programs.specs.declared.Failed.{Failed}
+use Rattle.program_ends.specs.Json.{json_line, member, text_value}
+use Rattle.program_ends.specs.declared.json.Form.{Form}
+use Rattle.program_ends.specs.declared.json.Form.TheVariants.{Json, Text}
+use Rattle.program_ends.specs.declared.json.Member.{Member}
+use Rattle.program_ends.specs.declared.json.Value.{Value}
+use Rattle.program_ends.specs.declared.json.Value.TheVariants as values
 use Rattle.xmas_elf.specs.Symbol.{SymbolFields}
 
 -- The text of a line.
@@ -37,9 +44,24 @@ abbrev pub target_text : Bool → Option (Bor (List ℕ) × ℕ) → List ℕ
 target_text weak (Some target) = target.0.now ++ (codes " 0x" ++ digits 16 false target.1)
 target_text weak None = if weak then codes "unresolved (weak)" else codes "unresolved"
 
--- the line of a reference: its file, the name and the version, and what it gets
-abbrev pub line_text : List ℕ → List ℕ → Wanted → Bool → Option (Bor (List ℕ) × ℕ) → List ℕ
-line_text file name wanted weak target =
+-- the version as a value, or null
+abbrev pub version_value : Wanted → Value
+version_value (Version name _ _) = text_value name.now
+version_value Unversioned = values.Null
+version_value Newest = values.Null
+
+-- the members of a file and a value, or null for both
+abbrev pub target_members : Option (Bor (List ℕ) × ℕ) → List Member
+target_members (Some target) = member (codes "file") (text_value target.0.now) ∷ member (codes "value") (values.Number target.1) ∷ []
+target_members None = member (codes "file") values.Null ∷ member (codes "value") values.Null ∷ []
+
+-- the line of a reference: its file, the name and the version, and what it gets; or these as members, with whether it is
+-- weak
+abbrev pub line_text : Form → List ℕ → List ℕ → Wanted → Bool → Option (Bor (List ℕ) × ℕ) → List ℕ
+line_text Json file name wanted weak target = json_line (member (codes "from") (text_value file)
+    ∷ member (codes "name") (text_value name) ∷ member (codes "version") (version_value wanted)
+    ∷ member (codes "weak") (values.Bool weak) ∷ target_members target)
+line_text Text file name wanted weak target =
     file ++ (codes " " ++ (name ++ (version_text wanted ++ (codes " -> " ++ (target_text weak target ++ codes "\n")))))
 
 -- a line, if it is asked for
@@ -72,21 +94,21 @@ is_missing weak (Some bound) = false
 -- of a reference of the object at index `from`, which may be weak, by what it gets and what it asks for: whether it is
 -- missing its symbol, and its line. The line is empty if the reference gets the symbol that it names without a look-up,
 -- or if it isn't missing its symbol and only those that are, are asked for
-abbrev pub line_by : List Input → Bool → ℕ → Bool → Option (Bound SymbolFields) → Asked SymbolFields → Bool × List ℕ
-line_by inputs only_missing from weak bound (Own own) = (false, [])
-line_by inputs only_missing from weak bound (Look name wanted purpose own) = (
+abbrev pub line_by : List Input → Style → ℕ → Bool → Option (Bound SymbolFields) → Asked SymbolFields → Bool × List ℕ
+line_by inputs style from weak bound (Own own) = (false, [])
+line_by inputs style from weak bound (Look name wanted purpose own) = (
   is_missing weak bound,
-  shown_text (not (only_missing && not (is_missing weak bound)))
-      (line_text (path_in (slice_get inputs from)) name.now wanted weak (target_of inputs bound)),
+  shown_text (not (style.only_missing && not (is_missing weak bound)))
+      (line_text style.form (path_in (slice_get inputs from)) name.now wanted weak (target_of inputs bound)),
 )
 
 -- whether the reference of an item is missing its symbol, and its line; None if the relocations of the object, or what
 -- the reference asks for, can't be read
-abbrev pub line_of : List Input → List ObjectParts → Bool → ℕ × Option (Reference × Option (Bound SymbolFields)) → Option (Bool × List ℕ)
-line_of inputs objects only_missing item =
+abbrev pub line_of : List Input → List ObjectParts → Style → ℕ × Option (Reference × Option (Bound SymbolFields)) → Option (Bool × List ℕ)
+line_of inputs objects style item =
     option_and_then (λ binding. option_and_then (λ object.
     let weak = is_weak (option_map (λ symbol. symbol.fields) (slice_get object.symbols binding.0.symbol)) in
-    option_map (line_by inputs only_missing item.0 weak binding.1) (asked_in object binding.0)) (slice_get objects item.0)) item.1
+    option_map (line_by inputs style item.0 weak binding.1) (asked_in object binding.0)) (slice_get objects item.0)) item.1
 
 -- why an item of an object has no line: the error of its relocations, or of what the reference asks for
 abbrev pub IsErrorIn : {E : Type 0} → {r : _} → (E → SymbolFields) → DynamicObject E r → Option (Reference × Option (Bound SymbolFields)) → LinkError → Type 0
@@ -105,30 +127,30 @@ IsItemOf objects item = IsSomeAnd (slice_get objects item.0) (λ object. item.1 
 -- The lines of all items.
 
 -- an item has a line
-abbrev pub IsLine : List Input → List ObjectParts → Bool → ℕ → ℕ × Option (Reference × Option (Bound SymbolFields)) → Bool → List ℕ → Type 0
-IsLine inputs objects only_missing _ item missing line = line_of inputs objects only_missing item ≡ Some (missing, line)
+abbrev pub IsLine : List Input → List ObjectParts → Style → ℕ → ℕ × Option (Reference × Option (Bound SymbolFields)) → Bool → List ℕ → Type 0
+IsLine inputs objects style _ item missing line = line_of inputs objects style item ≡ Some (missing, line)
 
 -- what is written of all objects: the lines of the items, in order
-abbrev pub AreBindingsWritten : List Input → List ObjectParts → Bool → Bool → List ℕ → Type 0
-AreBindingsWritten inputs objects only_missing = AreWritten (IsLine inputs objects only_missing) (all_bindings objects)
+abbrev pub AreBindingsWritten : List Input → List ObjectParts → Style → Bool → List ℕ → Type 0
+AreBindingsWritten inputs objects style = AreWritten (IsLine inputs objects style) (all_bindings objects)
 
 -- an item has a property, and those before it have their lines
-pub record IsAtItem (inputs : List Input) (objects : List ObjectParts) (only_missing : Bool) (P : ℕ × Option (Reference × Option (Bound SymbolFields)) → Type 0) : Type 0 where
+pub record IsAtItem (inputs : List Input) (objects : List ObjectParts) (style : Style) (P : ℕ × Option (Reference × Option (Bound SymbolFields)) → Type 0) : Type 0 where
   pub earlier : List (ℕ × Option (Reference × Option (Bound SymbolFields)))
   pub item : ℕ × Option (Reference × Option (Bound SymbolFields))
   pub later : List (ℕ × Option (Reference × Option (Bound SymbolFields)))
   pub items_are : all_bindings objects ≡ earlier ++ (item ∷ later)
   pub missing : Bool
   pub text : List ℕ
-  pub lines : AreWritten (IsLine inputs objects only_missing) earlier missing text
+  pub lines : AreWritten (IsLine inputs objects style) earlier missing text
   pub here : P item
 
 -- why the lines end before the last: the first item that has an error
-abbrev pub AreBindingsFailed : {E : Type 0} → {r : _} → (E → SymbolFields) → List Input → List (DynamicObject E r) → Bool → Failed LinkError → Type 0
-AreBindingsFailed fields inputs objects only_missing failed =
-    IsAtItem inputs (map (object_parts fields) objects) only_missing (λ item. IsErrorOf fields inputs objects item failed)
+abbrev pub AreBindingsFailed : {E : Type 0} → {r : _} → (E → SymbolFields) → List Input → List (DynamicObject E r) → Style → Failed LinkError → Type 0
+AreBindingsFailed fields inputs objects style failed =
+    IsAtItem inputs (map (object_parts fields) objects) style (λ item. IsErrorOf fields inputs objects item failed)
 
 -- an item has its line, as those before it have
-abbrev pub AreBindingsBegun : List Input → List ObjectParts → Bool → Type 0
-AreBindingsBegun inputs objects only_missing =
-    IsAtItem inputs objects only_missing (λ item. IsSome (line_of inputs objects only_missing item))
+abbrev pub AreBindingsBegun : List Input → List ObjectParts → Style → Type 0
+AreBindingsBegun inputs objects style =
+    IsAtItem inputs objects style (λ item. IsSome (line_of inputs objects style item))

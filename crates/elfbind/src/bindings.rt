@@ -2,7 +2,8 @@
 //! the value that it gets.
 
 ghost use Rattle.std.specs.Prelude.{◌≡◌, ◌<◌, ◌&&◌, Bool, Err, IfOk, IsSome, MatchResult, None};
-ghost use Rattle.std.specs.Prelude.{Option, Some, length, map, not, option_map, slice_get};
+ghost use Rattle.std.specs.Prelude.{OnOk, Option, Some, length, map, not, option_map, slice_get};
+ghost use Rattle.std.specs.Io.KnownBytes.{Appends};
 ghost use Rattle.elf_linking.specs.CheckedBindings.{item_parts};
 ghost use Rattle.elf_linking.specs.CheckedScope.{bound_fields};
 ghost use Rattle.elf_linking.specs.DynamicObject.{object_file, object_view};
@@ -16,6 +17,7 @@ ghost use Rattle.elfbind.specs.Bindings.{version_text};
 ghost use Rattle.elfbind.specs.Checks.{ArePassed};
 ghost use Rattle.program_ends.specs.Appended.{AppendsSome};
 ghost use Rattle.program_ends.specs.Stops.{IsStop};
+ghost use Rattle.program_ends.specs.declared.json.Form.TheVariants.{Json, Text};
 
 use crate::files::either;
 use elf_linking::checked::{CheckedBinding, CheckedScope};
@@ -25,10 +27,20 @@ use elf_linking::view::LinkedSymbol;
 use elf_linking::{CheckedObject, DynamicObject, LinkError};
 use linking_programs::{Failed, Input, failure_at};
 use program_ends::Stop;
+use program_ends::json::{Form, Member, Value, write_json};
 use std::fmt::Display;
 use std::io::Write;
 use std::{fmt, io};
 use xmas_elf::symbol_table::Entry;
+
+/// Which references have a line, and how it is written.
+#[derive(Clone, Copy, Debug)]
+pub struct Style {
+    /// Only those that are missing their symbols.
+    pub only_missing: bool,
+    /// As text or JSON.
+    pub form: Form,
+}
 
 // A line for each reference of all files that is looked up, or, if only these are asked for, for each
 // that is missing its symbol; and whether one is. `checked` are the objects after their checks.
@@ -36,21 +48,21 @@ pub(crate) fn write_bindings<'s, E: LinkedSymbol, W: Write>(
     inputs: &'s [Input<'_>],
     objects: &[DynamicObject<'_, E>],
     checked: &[CheckedObject<'_, E>],
-    only_missing: bool,
+    style: Style,
     out: &mut W,
 ) -> Result<bool, Stop<Failed<'s, LinkError>>>
     requires same { length objects.now ≡ length inputs.now }
     requires passed { ArePassed E.fields objects.now }
     requires checked { checked.now ≡ map (object_parts E.fields) objects.now }
     ensures { MatchResult result (λ missing. AppendsSome
-        (AreBindingsWritten inputs.now (map (object_parts E.fields) objects.now) only_missing missing)
+        (AreBindingsWritten inputs.now (map (object_parts E.fields) objects.now) style missing)
         (W.contents out.old) (W.contents out.new))
-        (IsStop (AreBindingsFailed E.fields inputs.now objects.now only_missing)
-        (AreBindingsBegun inputs.now (map (object_parts E.fields) objects.now) only_missing) ⊥) }
+        (IsStop (AreBindingsFailed E.fields inputs.now objects.now style)
+        (AreBindingsBegun inputs.now (map (object_parts E.fields) objects.now) style) ⊥) }
 {
     let mut missing = false;
     for item in CheckedScope::new(checked).bindings() {
-        match write_item(inputs, objects, item, only_missing, out) {
+        match write_item(inputs, objects, item, style, out) {
             Ok(own) => missing = either(missing, own),
             Err(stop) => return Err(stop),
         }
@@ -63,17 +75,17 @@ fn write_item<'s, E: LinkedSymbol, W: Write>(
     inputs: &'s [Input<'_>],
     objects: &[DynamicObject<'_, E>],
     item: Result<CheckedBinding<E>, usize>,
-    only_missing: bool,
+    style: Style,
     out: &mut W,
 ) -> Result<bool, Stop<Failed<'s, LinkError>>>
     requires same { length objects.now ≡ length inputs.now }
     requires passed { ArePassed E.fields objects.now }
     requires item { IsItemOf (map (object_parts E.fields) objects.now) (item_parts E.fields item) }
     ensures { MatchResult result (λ missing. AppendsSome (λ text. line_of inputs.now
-        (map (object_parts E.fields) objects.now) only_missing (item_parts E.fields item)
+        (map (object_parts E.fields) objects.now) style (item_parts E.fields item)
         ≡ Some (missing, text)) (W.contents out.old) (W.contents out.new))
         (IsStop (IsErrorOf E.fields inputs.now objects.now (item_parts E.fields item))
-        (IsSome (line_of inputs.now (map (object_parts E.fields) objects.now) only_missing
+        (IsSome (line_of inputs.now (map (object_parts E.fields) objects.now) style
         (item_parts E.fields item))) ⊥) }
 {
     let binding = match item {
@@ -95,7 +107,7 @@ fn write_item<'s, E: LinkedSymbol, W: Write>(
     let missing = is_missing(weak, &bound);
     let found = target_of(inputs, &bound);
     let line = line_at(inputs, from, name, wanted, Target { found, weak });
-    match write_if(line, is_shown(only_missing, missing), out) {
+    match write_if(line, is_shown(style.only_missing, missing), style.form, out) {
         Ok(()) => Ok(missing),
         Err(_) => Err(Stop::Write),
     }
@@ -121,16 +133,71 @@ fn is_shown(only_missing: bool, missing: bool) -> bool
 }
 
 // A line, if it is asked for.
-fn write_if<W: Write>(line: Line<'_, '_>, shown: bool, out: &mut W) -> io::Result<()>
+fn write_if<W: Write>(line: Line<'_, '_>, shown: bool, form: Form, out: &mut W) -> io::Result<()>
     ensures { IfOk result (λ _. AppendsSome
-        (λ text. text ≡ shown_text shown (line_text line.entry.file.now line.entry.name.now
+        (λ text. text ≡ shown_text shown (line_text form line.entry.file.now line.entry.name.now
         line.entry.version.0 line.entry.target.weak line.entry.target.found))
         (W.contents out.old) (W.contents out.new)) }
 {
     if shown {
-        write!(out, "{}", line)?;
+        write_line(line, form, out)?;
     }
     Ok(())
+}
+
+// A line.
+fn write_line<'s, W: Write>(line: Line<'s, 's>, form: Form, out: &mut W) -> io::Result<()>
+    ensures { OnOk result (Appends (W.contents out.old) (W.contents out.new)
+        (line_text form line.entry.file.now line.entry.name.now line.entry.version.0
+        line.entry.target.weak line.entry.target.found)) }
+{
+    match form {
+        Form::Text => write!(out, "{}", line),
+        Form::Json => write_object(line, out),
+    }
+}
+
+// A line as JSON.
+fn write_object<'s, W: Write>(line: Line<'s, 's>, out: &mut W) -> io::Result<()>
+    ensures { OnOk result (Appends (W.contents out.old) (W.contents out.new)
+        (line_text Json line.entry.file.now line.entry.name.now line.entry.version.0
+        line.entry.target.weak line.entry.target.found)) }
+{
+    let (file, value) = match line.target.found {
+        Some((file, value)) => (Value::Text(file), Value::Number(value)),
+        None => (Value::Null, Value::Null),
+    };
+    let version = match line.version.0 {
+        Wanted::Version { name, .. } => Value::Text(name),
+        Wanted::Unversioned | Wanted::Newest => Value::Null,
+    };
+    let members = [
+        Member {
+            key: "from",
+            value: Value::Text(line.file),
+        },
+        Member {
+            key: "name",
+            value: Value::Text(line.name),
+        },
+        Member {
+            key: "version",
+            value: version,
+        },
+        Member {
+            key: "weak",
+            value: Value::Bool(line.target.weak),
+        },
+        Member {
+            key: "file",
+            value: file,
+        },
+        Member {
+            key: "value",
+            value,
+        },
+    ];
+    write_json(&members, out)
 }
 
 // The path of the file that has a symbol, and the symbol's value.
@@ -196,7 +263,7 @@ impl Display for Target<'_> {
     }
 }
 
-// The line of a reference: its file, the name and the version, and what it gets.
+// The line of a reference, as text: its file, the name and the version, and what it gets.
 #[derive(Clone, Copy)]
 struct Line<'i, 'n> {
     file: &'i str,
@@ -206,7 +273,7 @@ struct Line<'i, 'n> {
 }
 
 impl Display for Line<'_, '_> {
-    ghost output = { λ line. Some (line_text line.file.now line.name.now line.version.0
+    ghost output = { λ line. Some (line_text Text line.file.now line.name.now line.version.0
         line.target.weak line.target.found) };
 
     fn fmt<W: fmt::Write>(&self, f: &mut fmt::Formatter<W>) -> fmt::Result {

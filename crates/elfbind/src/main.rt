@@ -6,7 +6,8 @@
 //! NAME@VERSION -> unresolved`, of a weak reference `unresolved (weak)`; a name without a version is
 //! written without `@VERSION`. `elfbind --unresolved FILE..` writes only the lines of references that
 //! are missing their symbols: those that get none and aren't weak. `elfbind --check FILE..` writes a
-//! line for each file, whether its hash table and its versions pass their checks.
+//! line for each file, whether its hash table and its versions pass their checks. With `--json` before
+//! all of these each line is a JSON object.
 #![tactic(auto)]
 
 ghost use Rattle.std.specs.Prelude.{◌≡◌, ◌≢◌, ◌≤◌, [], Bool, Err, IfErr, IfOk, List, MatchResult, Ok};
@@ -26,7 +27,7 @@ ghost use Rattle.program_ends.specs.declared.Fault.{Fault};
 ghost use Rattle.program_ends.specs.declared.TheConstants.{CLOSED};
 ghost use Rattle.program_libraries.specs.Complete.{IsComplete};
 
-use crate::bindings::write_bindings;
+use crate::bindings::{Style, write_bindings};
 use crate::checks::write_checks;
 use crate::files::checked_objects;
 use elf_base::bytes::Record;
@@ -35,6 +36,7 @@ use elf_linking::{DynamicObject, LinkError};
 use linking_programs::{
     Failed, Input, failed_fault_of, is_first_narrow, read_inputs, read_objects,
 };
+use program_ends::json::{Form, form_asked};
 use program_ends::{CLOSED, Fault, Stop, Watched, arguments, exit_code, say, write_about};
 use program_libraries::{
     Finder, Given, Settings, StoredFile, Tree, given_files, listed_inputs, say_error, say_missing,
@@ -53,11 +55,12 @@ mod files;
 const NAME: &str = "elfbind";
 
 const USAGE: &str =
-    "elfbind [--unresolved | --check] [--alone | [--root DIR] [--library-path LIST] [--cache FILE | --no-cache]] <binary_path>..";
+    "elfbind [--json] [--unresolved | --check] [--alone | [--root DIR] [--library-path LIST] [--cache FILE | --no-cache]] <binary_path>..";
 
 const HELP: &str =
     "Prints the symbol that each reference of a program and its libraries gets, and its file. The libraries
 of one file are found; several files are in the order in which names are looked up.
+--json               each line as a JSON object
 --unresolved         only the references that are missing their symbols
 --check              whether the hash table and the versions of each file pass their checks instead
 --alone              the file without its libraries
@@ -69,10 +72,10 @@ of one file are found; several files are in the order in which names are looked 
 /// What is asked of the files.
 #[derive(Clone, Copy, Drop)]
 pub enum Question {
-    /// What each reference gets, or, if `only_missing`, which references are missing their symbols.
-    Bindings { only_missing: bool },
-    /// Whether the checks of each file pass.
-    Checks,
+    /// What each reference gets, or which references are missing their symbols.
+    Bindings(Style),
+    /// Whether the checks of each file pass, in lines of this form.
+    Checks(Form),
 }
 
 /// Writes what is asked of the files to `out`, or the reason why it can't to `err`, and returns the
@@ -260,11 +263,11 @@ fn write_answer<'s, E: LinkedSymbol, W: Write>(
         (IsAnswerBegun E.fields inputs.now objects.now question) ⊤) }
 {
     match question {
-        Question::Bindings { only_missing } => match checked_objects(alloc, inputs, objects) {
-            Ok(checked) => write_bindings(inputs, objects, &checked, only_missing, out),
+        Question::Bindings(style) => match checked_objects(alloc, inputs, objects) {
+            Ok(checked) => write_bindings(inputs, objects, &checked, style, out),
             Err(stop) => Err(stop),
         },
-        Question::Checks => write_checks(inputs, objects, out),
+        Question::Checks(form) => write_checks(inputs, objects, form, out),
     }
 }
 
@@ -325,16 +328,13 @@ fn run_on_files<W: Write, E: Write>(
 
 // What the arguments ask, and of which files, if they are as they should be.
 fn asked(arguments: &[String]) -> Option<(Question, Given<'_>)> {
+    let (form, arguments) = form_asked(arguments);
     let (first, others) = arguments.split_first()?;
-    let (question, rest) = match first.as_str() {
-        "--check" => (Question::Checks, others),
-        "--unresolved" => (Question::Bindings { only_missing: true }, others),
-        _ => {
-            let question = Question::Bindings {
-                only_missing: false,
-            };
-            (question, arguments)
-        }
-    };
+    let only_missing = first.as_str() == "--unresolved";
+    if first.as_str() == "--check" {
+        return Some((Question::Checks(form), given_files(others)?));
+    }
+    let question = Question::Bindings(Style { only_missing, form });
+    let rest = if only_missing { others } else { arguments };
     Some((question, given_files(rest)?))
 }

@@ -17,6 +17,7 @@ use Rattle.program_ends.specs.Appended.{AppendsSome}
 use Rattle.program_ends.specs.declared.Fault.{Fault}
 use Rattle.program_ends.specs.declared.Fault.TheVariants as faults
 use Rattle.program_ends.specs.Stops.{IsStop}
+use Rattle.program_ends.specs.declared.json.Form.{Form}
 use Rattle.program_ends.specs.declared.Stop.{Stop}
 use Rattle.program_ends.specs.declared.Stop.TheVariants.{Memory, Failed, Write}
 use Rattle.xmas_elf.specs.Symbol.{SymbolFields}
@@ -55,13 +56,13 @@ lines_fault r fields class size inputs objects Written Write are begun = by_writ
 lines_fault r fields class size inputs objects Written Memory are short = by_memory
 
 -- the end for files of one class, by how their lines end
-pub end_written : {E S : Type 0} (r : _) (fields : E → SymbolFields) (class size : ℕ) (text_of : S → List ℕ) (inputs items : List Input) (references : List S) (old new : Option (List ℕ)) → inputs ≡ items
-    → (objects : List ObjectParts) × AreScopeObjects r fields class size inputs objects × AppendsSome (AreScopeLines text_of inputs objects references) old new
-    → IsScopeEndOf r fields class size text_of items references (Ok tt)
-end_written r fields class size text_of inputs items references old new same (objects, are, appended) =
-    subst (λ (xs : List Input). IsScopeEndOf r fields class size text_of xs references (Ok tt)) same (written objects appended.0 are appended.1)
+pub end_written : {E S : Type 0} (r : _) (fields : E → SymbolFields) (class size : ℕ) (form : Form) (text_of : S → List ℕ) (inputs items : List Input) (references : List S) (old new : Option (List ℕ)) → inputs ≡ items
+    → (objects : List ObjectParts) × AreScopeObjects r fields class size inputs objects × AppendsSome (AreScopeLines form text_of inputs objects references) old new
+    → IsScopeEndOf r fields class size form text_of items references (Ok tt)
+end_written r fields class size form text_of inputs items references old new same (objects, are, appended) =
+    subst (λ (xs : List Input). IsScopeEndOf r fields class size form text_of xs references (Ok tt)) same (written objects appended.0 are appended.1)
 
-pub end_stopped : {E S : Type 0} (r : _) (fields : E → SymbolFields) (class size : ℕ) (text_of : S → List ℕ) (inputs items : List Input) (references : List S) (fault : Fault LinkError) → inputs ≡ items
-    → IsScopeFault r fields class size inputs fault → IsScopeEndOf r fields class size text_of items references (Err fault)
-end_stopped r fields class size text_of inputs items references fault same why =
-    subst (λ (xs : List Input). IsScopeEndOf r fields class size text_of xs references (Err fault)) same (stopped fault why)
+pub end_stopped : {E S : Type 0} (r : _) (fields : E → SymbolFields) (class size : ℕ) (form : Form) (text_of : S → List ℕ) (inputs items : List Input) (references : List S) (fault : Fault LinkError) → inputs ≡ items
+    → IsScopeFault r fields class size inputs fault → IsScopeEndOf r fields class size form text_of items references (Err fault)
+end_stopped r fields class size form text_of inputs items references fault same why =
+    subst (λ (xs : List Input). IsScopeEndOf r fields class size form text_of xs references (Err fault)) same (stopped fault why)

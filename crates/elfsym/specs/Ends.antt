@@ -10,23 +10,24 @@ use Rattle.program_ends.specs.Appended.{AppendsSome}
 use Rattle.program_ends.specs.Ends as ends
 use Rattle.program_ends.specs.Stops.{HasBegun}
 use Rattle.program_ends.specs.declared.Fault.{Fault}
+use Rattle.program_ends.specs.declared.json.Form.{Form}
 
 -- by the question: what is written of an input, its error, and how far the program has come when the first line is
 -- written
-abbrev pub IsAnswer : {S : Type 0} → (S → List ℕ) → questions.Question S → Bor (List ℕ) → List ℕ → Type 0
-IsAnswer text_of Needed input text = AreInputLibraries input text
-IsAnswer text_of (Symbols references) input text = AreInputLines text_of input references.now text
+abbrev pub IsAnswer : {S : Type 0} → Form → (S → List ℕ) → questions.Question S → Bor (List ℕ) → List ℕ → Type 0
+IsAnswer form text_of Needed input text = AreInputLibraries form input text
+IsAnswer form text_of (Symbols references) input text = AreInputLines form text_of input references.now text
 
-abbrev pub IsFailed : {S : Type 0} → (S → List ℕ) → questions.Question S → Bor (List ℕ) → LinkError → Type 0
-IsFailed text_of Needed input error = AreInputLibrariesFailed input error
-IsFailed text_of (Symbols references) input error = AreInputLinesFailed text_of input references.now error
+abbrev pub IsFailed : {S : Type 0} → Form → (S → List ℕ) → questions.Question S → Bor (List ℕ) → LinkError → Type 0
+IsFailed form text_of Needed input error = AreInputLibrariesFailed form input error
+IsFailed form text_of (Symbols references) input error = AreInputLinesFailed form text_of input references.now error
 
-abbrev pub IsBegun : {S : Type 0} → (S → List ℕ) → questions.Question S → Bor (List ℕ) → Type 0
-IsBegun text_of Needed input = HasBegun (AreInputLibrariesBegun input) (AppendsSome (AreInputLibraries input))
-IsBegun text_of (Symbols references) input = HasBegun (AreInputLinesBegun text_of input references.now)
-    (AppendsSome (AreInputLines text_of input references.now))
+abbrev pub IsBegun : {S : Type 0} → Form → (S → List ℕ) → questions.Question S → Bor (List ℕ) → Type 0
+IsBegun form text_of Needed input = HasBegun (AreInputLibrariesBegun input) (AppendsSome (AreInputLibraries form input))
+IsBegun form text_of (Symbols references) input = HasBegun (AreInputLinesBegun form text_of input references.now)
+    (AppendsSome (AreInputLines form text_of input references.now))
 
 -- how a question about the file at a path ends: there is a text for it, or the fault
-abbrev pub IsEnd : {S R : Type 0} → (S → List ℕ) → Bor (List ℕ) → questions.Question S → (R → Option (List ℕ)) → Option R → Result (Unit {0}) (Fault LinkError) → Type 0
-IsEnd text_of path question remaining file =
-    ends.IsEnd path remaining file (IsAnswer text_of question) (IsFailed text_of question) (IsBegun text_of question)
+abbrev pub IsEnd : {S R : Type 0} → Form → (S → List ℕ) → Bor (List ℕ) → questions.Question S → (R → Option (List ℕ)) → Option R → Result (Unit {0}) (Fault LinkError) → Type 0
+IsEnd form text_of path question remaining file =
+    ends.IsEnd path remaining file (IsAnswer form text_of question) (IsFailed form text_of question) (IsBegun form text_of question)

@@ -1,6 +1,6 @@
 -- What the program writes of names that are looked up in a program and its libraries (this project's own): a line for
 -- each, with the value and the size of its symbol and the path of the file that has it.
-use Rattle.std.specs.Prelude.{◌≡◌, ℕ, ◌++◌, Bool, true, false, List, Option, None, Some, Result, Ok, Err, codes, option_map, slice_get, take}
+use Rattle.std.specs.Prelude.{◌≡◌, ℕ, ◌++◌, ◌∷◌, [], Bool, true, false, List, Option, None, Some, Result, Ok, Err, codes, option_map, slice_get, take}
 use Rattle.std.specs.Borrow.{Bor}
 use Rattle.std.specs.Fmt.{digits}
 use Rattle.std.specs.List.{AllZip, concat}
@@ -17,8 +17,13 @@ use Rattle.elfsym.specs.Lines.{Asks}
 use Rattle.elfsym.specs.declared.scope.Target.{Target}
 use Rattle.linking_programs.specs.Files.{IsObjectOfBytes, IsObjectErrorOf, is_first_narrow}
 use Rattle.linking_programs.specs.declared.Input.{Input}
+use Rattle.program_ends.specs.Json.{json_line, member, text_value}
 use Rattle.program_ends.specs.declared.Fault.{Fault}
 use Rattle.program_ends.specs.declared.Fault.TheVariants as faults
+use Rattle.program_ends.specs.declared.json.Form.{Form}
+use Rattle.program_ends.specs.declared.json.Form.TheVariants.{Json, Text}
+use Rattle.program_ends.specs.declared.json.Member.{Member}
+use Rattle.program_ends.specs.declared.json.Value.TheVariants.{Null, Number}
 use Rattle.program_libraries.specs.Listed.{AreListed}
 use Rattle.program_libraries.specs.declared.store.StoredFile.{StoredFile}
 use Rattle.program_libraries.specs.declared.trees.Tree.{Tree}
@@ -27,12 +32,22 @@ use Rattle.xmas_elf.specs.Types.{DynEntry32, DynEntry64}
 
 -- The lines.
 
+-- the members of the line of a reference: as it was asked for, and the value and the size of its symbol and the path of
+-- the file, or null for all three
+abbrev pub target_members : List ℕ → Option Target → List Member
+target_members reference (Some target) = member (codes "name") (text_value reference)
+    ∷ member (codes "value") (Number target.value) ∷ member (codes "size") (Number target.size)
+    ∷ member (codes "file") (text_value target.path.now) ∷ []
+target_members reference None = member (codes "name") (text_value reference)
+    ∷ member (codes "value") Null ∷ member (codes "size") Null ∷ member (codes "file") Null ∷ []
+
 -- the line of a reference: the value and the size of its symbol in hexadecimal, and the path of the file, or that there
--- is none
-abbrev pub scope_text : List ℕ → Option Target → List ℕ
-scope_text reference (Some target) =
+-- is none; or these members
+abbrev pub scope_text : Form → List ℕ → Option Target → List ℕ
+scope_text Json reference target = json_line (target_members reference target)
+scope_text Text reference (Some target) =
     reference ++ (codes " 0x" ++ (digits 16 false target.value ++ (codes " 0x" ++ (digits 16 false target.size ++ (codes " " ++ (target.path.now ++ codes "\n"))))))
-scope_text reference None = reference ++ codes ": none\n"
+scope_text Text reference None = reference ++ codes ": none\n"
 
 -- what the line says of a symbol: its value, its size, and the path of the file that has it
 abbrev pub target_of : List Input → Option (Bound SymbolFields) → Option Target
@@ -47,14 +62,14 @@ IsScopeBound objects reference bound = (name : List ℕ) × (wanted : Wanted) ×
     × (bound ≡ looked_up objects 0 name wanted Any)
 
 -- the line of a reference, by that symbol
-abbrev pub IsScopeLine : List Input → List ObjectParts → List ℕ → List ℕ → Type 0
-IsScopeLine inputs objects reference line = (bound : Option (Bound SymbolFields)) × IsScopeBound objects reference bound
-    × (line ≡ scope_text reference (target_of inputs bound))
+abbrev pub IsScopeLine : Form → List Input → List ObjectParts → List ℕ → List ℕ → Type 0
+IsScopeLine form inputs objects reference line = (bound : Option (Bound SymbolFields)) × IsScopeBound objects reference bound
+    × (line ≡ scope_text form reference (target_of inputs bound))
 
 -- the text is a line for each reference, in order
-pub record AreScopeLines {S : Type 0} (text_of : S → List ℕ) (inputs : List Input) (objects : List ObjectParts) (references : List S) (text : List ℕ) : Type 0 where
+pub record AreScopeLines {S : Type 0} (form : Form) (text_of : S → List ℕ) (inputs : List Input) (objects : List ObjectParts) (references : List S) (text : List ℕ) : Type 0 where
   pub lines : List (List ℕ)
-  pub each : AllZip (λ reference line. IsScopeLine inputs objects (text_of reference) line) references lines
+  pub each : AllZip (λ reference line. IsScopeLine form inputs objects (text_of reference) line) references lines
   pub text_is : text ≡ concat lines
 
 -- The objects.
@@ -100,20 +115,20 @@ pub data IsScopeFault {E : Type 0} (r : _) (fields : E → SymbolFields) (class 
 -- How the program ends.
 
 -- for files of one class: there is a text for their objects, or the fault
-pub data IsScopeEndOf {E S : Type 0} (r : _) (fields : E → SymbolFields) (class size : ℕ) (text_of : S → List ℕ) (inputs : List Input) (references : List S) : Result (Unit {0}) (Fault LinkError) → Type 0 where
+pub data IsScopeEndOf {E S : Type 0} (r : _) (fields : E → SymbolFields) (class size : ℕ) (form : Form) (text_of : S → List ℕ) (inputs : List Input) (references : List S) : Result (Unit {0}) (Fault LinkError) → Type 0 where
   written : (objects : List ObjectParts) (text : List ℕ) → AreScopeObjects r fields class size inputs objects
-      → AreScopeLines text_of inputs objects references text
-      → IsScopeEndOf r fields class size text_of inputs references (Ok tt)
+      → AreScopeLines form text_of inputs objects references text
+      → IsScopeEndOf r fields class size form text_of inputs references (Ok tt)
   stopped : (fault : Fault LinkError) → IsScopeFault r fields class size inputs fault
-      → IsScopeEndOf r fields class size text_of inputs references (Err fault)
+      → IsScopeEndOf r fields class size form text_of inputs references (Err fault)
 
 -- for the files of a program and its libraries, in the order in which names are looked up, and of the class of the first;
 -- or there is no memory for these. The first two arguments say how the record of a symbol of each class is read.
-pub data IsScopeEnd {S : Type 0} (narrow_record wide_record : _) (text_of : S → List ℕ) (files : List StoredFile) (tree : Tree) (references : List S) (end : Result (Unit {0}) (Fault LinkError)) : Type 0 where
+pub data IsScopeEnd {S : Type 0} (narrow_record wide_record : _) (form : Form) (text_of : S → List ℕ) (files : List StoredFile) (tree : Tree) (references : List S) (end : Result (Unit {0}) (Fault LinkError)) : Type 0 where
   narrow_scope : (inputs : List Input) → AreListed files tree inputs → is_first_narrow inputs ≡ true
-      → IsScopeEndOf {E = DynEntry32} narrow_record dyn_entry_32_fields 1 16 text_of inputs references end
-      → IsScopeEnd narrow_record wide_record text_of files tree references end
+      → IsScopeEndOf {E = DynEntry32} narrow_record dyn_entry_32_fields 1 16 form text_of inputs references end
+      → IsScopeEnd narrow_record wide_record form text_of files tree references end
   wide_scope : (inputs : List Input) → AreListed files tree inputs → is_first_narrow inputs ≡ false
-      → IsScopeEndOf {E = DynEntry64} wide_record dyn_entry_64_fields 2 24 text_of inputs references end
-      → IsScopeEnd narrow_record wide_record text_of files tree references end
-  short : end ≡ Err faults.Memory → IsScopeEnd narrow_record wide_record text_of files tree references end
+      → IsScopeEndOf {E = DynEntry64} wide_record dyn_entry_64_fields 2 24 form text_of inputs references end
+      → IsScopeEnd narrow_record wide_record form text_of files tree references end
+  short : end ≡ Err faults.Memory → IsScopeEnd narrow_record wide_record form text_of files tree references end

@@ -1,6 +1,7 @@
 //! A line for each reference: the value and the size of the symbol that it gets.
 
-ghost use Rattle.std.specs.Prelude.{◌≡◌, List, MatchResult, Some, ℕ};
+ghost use Rattle.std.specs.Prelude.{◌≡◌, List, MatchResult, OnOk, Some, ℕ};
+ghost use Rattle.std.specs.Io.KnownBytes.{Appends};
 ghost use Rattle.elf_linking.specs.AnyTable.{IsGoodBy};
 ghost use Rattle.elf_linking.specs.DynamicObject.{object_dynamic_symbols, object_symbols};
 ghost use Rattle.elf_linking.specs.DynamicObject.{object_table};
@@ -12,16 +13,18 @@ ghost use Rattle.elfsym.specs.Lines.{numbers_if_serving};
 ghost use Rattle.program_ends.proofs.Flushed.{appended_flushed};
 ghost use Rattle.program_ends.specs.Appended.{AppendsSome};
 ghost use Rattle.program_ends.specs.Stops.{IsStop};
+ghost use Rattle.program_ends.specs.declared.json.Form.TheVariants.{Text};
 
 use elf_base::header::Class;
 use elf_linking::find::{Use, Wanted};
 use elf_linking::view::LinkedSymbol;
 use elf_linking::{DynamicObject, LinkError, serves_others};
+use program_ends::json::{Form, Member, Value, write_json};
 use program_ends::{Output, Stop};
 use std::convert::AsStr;
-use std::fmt;
 use std::fmt::Display;
 use std::io::Write;
+use std::{fmt, io};
 use xmas_elf::ElfFile;
 use xmas_elf::symbol_table::{DynEntry32, DynEntry64};
 
@@ -30,24 +33,27 @@ use xmas_elf::symbol_table::{DynEntry32, DynEntry64};
 pub(crate) struct Lines<'a, S> {
     pub(crate) input: &'a [u8],
     pub(crate) references: &'a [S],
+    pub(crate) form: Form,
 }
 
 impl<S: AsStr> Output for Lines<'_, S> {
-    ghost Writes = { λ lines. AppendsSome (AreInputLines S.text lines.input lines.references.now) };
+    ghost Writes = { λ lines. AppendsSome (AreInputLines lines.form S.text lines.input
+        lines.references.now) };
 
-    ghost flushed = { λ lines. appended_flushed (AreInputLines S.text lines.input
+    ghost flushed = { λ lines. appended_flushed (AreInputLines lines.form S.text lines.input
         lines.references.now) };
 
     type Error = LinkError;
 
-    ghost Fails = { λ lines error. AreInputLinesFailed S.text lines.input lines.references.now
-        error };
+    ghost Fails = { λ lines error. AreInputLinesFailed lines.form S.text lines.input
+        lines.references.now error };
 
-    ghost Begins = { λ lines. AreInputLinesBegun S.text lines.input lines.references.now };
+    ghost Begins = { λ lines. AreInputLinesBegun lines.form S.text lines.input
+        lines.references.now };
 
     fn write_to<W: Write>(&self, out: &mut W) -> Result<(), Stop<LinkError>> {
         match ElfFile::new(self.input) {
-            Ok(file) => write_lines(&file, self.references, out),
+            Ok(file) => write_lines(&file, self.references, self.form, out),
             Err(error) => Err(Stop::Failed(LinkError::Elf(error))),
         }
     }
@@ -57,22 +63,23 @@ impl<S: AsStr> Output for Lines<'_, S> {
 fn write_lines<S: AsStr, W: Write>(
     file: &ElfFile<'_>,
     references: &[S],
+    form: Form,
     out: &mut W,
 ) -> Result<(), Stop<LinkError>>
     ensures { MatchResult result
-        (λ _. AppendsSome (AreFileLines S.text file.now references.now)
+        (λ _. AppendsSome (AreFileLines form S.text file.now references.now)
         (W.contents out.old) (W.contents out.new))
-        (IsStop (AreFileLinesFailed S.text file.now references.now)
-        (AreFileLinesBegun S.text file.now references.now) ⊥) }
+        (IsStop (AreFileLinesFailed form S.text file.now references.now)
+        (AreFileLinesBegun form S.text file.now references.now) ⊥) }
 {
     match file.header.pt1.class() {
         Class::ThirtyTwo => match DynamicObject::<DynEntry32>::read(file) {
-            Ok(object) => write_checked(&object, references, out),
+            Ok(object) => write_checked(&object, references, form, out),
             Err(error) => Err(Stop::Failed(error)),
         },
         // An object has one of these two classes.
         _ => match DynamicObject::<DynEntry64>::read(file) {
-            Ok(object) => write_checked(&object, references, out),
+            Ok(object) => write_checked(&object, references, form, out),
             Err(error) => Err(Stop::Failed(error)),
         },
     }
@@ -82,16 +89,17 @@ fn write_lines<S: AsStr, W: Write>(
 fn write_checked<E: LinkedSymbol, S: AsStr, W: Write>(
     object: &DynamicObject<'_, E>,
     references: &[S],
+    form: Form,
     out: &mut W,
 ) -> Result<(), Stop<LinkError>>
     ensures { let file = object_dynamic_symbols E.fields object.now in MatchResult result
-        (λ _. AppendsSome (AreLines S.text file references.now)
+        (λ _. AppendsSome (AreLines form S.text file references.now)
         (W.contents out.old) (W.contents out.new))
-        (IsStop (AreSymbolsFailed S.text file references.now)
-        (AreLinesBegun S.text file references.now) ⊥) }
+        (IsStop (AreSymbolsFailed form S.text file references.now)
+        (AreLinesBegun form S.text file references.now) ⊥) }
 {
     match object.check() {
-        Ok(()) => write_each(object, references, out),
+        Ok(()) => write_each(object, references, form, out),
         Err(error) => Err(Stop::Failed(error)),
     }
 }
@@ -100,18 +108,19 @@ fn write_checked<E: LinkedSymbol, S: AsStr, W: Write>(
 fn write_each<E: LinkedSymbol, S: AsStr, W: Write>(
     object: &DynamicObject<'_, E>,
     references: &[S],
+    form: Form,
     out: &mut W,
 ) -> Result<(), Stop<LinkError>>
     requires good { IsGoodBy (object_table object.now)
         (object_symbols E.fields object.now) }
     ensures { let file = object_dynamic_symbols E.fields object.now in MatchResult result
-        (λ _. AppendsSome (AreLines S.text file references.now)
+        (λ _. AppendsSome (AreLines form S.text file references.now)
         (W.contents out.old) (W.contents out.new))
-        (IsStop (IsSearchFailed S.text file references.now)
-        (HasFirstLine S.text file references.now) ⊥) }
+        (IsStop (IsSearchFailed form S.text file references.now)
+        (HasFirstLine form S.text file references.now) ⊥) }
 {
     for reference in references {
-        match write_line(object, reference.as_str(), out) {
+        match write_line(object, reference.as_str(), form, out) {
             Ok(()) => {}
             Err(stop) => return Err(stop),
         }
@@ -123,19 +132,54 @@ fn write_each<E: LinkedSymbol, S: AsStr, W: Write>(
 fn write_line<E: LinkedSymbol, W: Write>(
     object: &DynamicObject<'_, E>,
     reference: &str,
+    form: Form,
     out: &mut W,
 ) -> Result<(), Stop<LinkError>>
     requires good { IsGoodBy (object_table object.now)
         (object_symbols E.fields object.now) }
     ensures { let file = object_dynamic_symbols E.fields object.now in MatchResult result
-        (λ _. AppendsSome (IsLine file reference.now) (W.contents out.old) (W.contents out.new))
+        (λ _. AppendsSome (IsLine form file reference.now) (W.contents out.old) (W.contents out.new))
         (IsStop (IsSearchError file reference.now)
-        ((line : List ℕ) × IsLine file reference.now line) ⊥) }
+        ((line : List ℕ) × IsLine form file reference.now line) ⊥) }
 {
     match numbers_of(object, reference) {
-        Ok(numbers) => Ok(write!(out, "{}", Line { reference, numbers })?),
+        Ok(numbers) => Ok(write_numbers(reference, numbers, form, out)?),
         Err(error) => Err(Stop::Failed(error)),
     }
+}
+
+// The line of a reference, by the value and the size of its symbol.
+fn write_numbers<W: Write>(
+    reference: &str,
+    numbers: Option<(u64, u64)>,
+    form: Form,
+    out: &mut W,
+) -> io::Result<()>
+    ensures { OnOk result (Appends (W.contents out.old) (W.contents out.new)
+        (line_text form reference.now numbers)) }
+{
+    if let Form::Text = form {
+        return write!(out, "{}", Line { reference, numbers });
+    }
+    let (value, size) = match numbers {
+        Some((value, size)) => (Value::Number(value), Value::Number(size)),
+        None => (Value::Null, Value::Null),
+    };
+    let members = [
+        Member {
+            key: "name",
+            value: Value::Text(reference),
+        },
+        Member {
+            key: "value",
+            value: value,
+        },
+        Member {
+            key: "size",
+            value: size,
+        },
+    ];
+    write_json(&members, out)
 }
 
 // The value and the size of the symbol that a reference gets, if it serves other files than its own.
@@ -177,7 +221,7 @@ pub(crate) fn asked(reference: &str) -> (&str, Wanted<'_>)
     }
 }
 
-// The line of a reference: the value and the size of its symbol, or that there is none.
+// The line of a reference as text: the value and the size of its symbol, or that there is none.
 #[derive(Clone, Copy)]
 struct Line<'a> {
     reference: &'a str,
@@ -185,7 +229,7 @@ struct Line<'a> {
 }
 
 impl Display for Line<'_> {
-    ghost output = { λ line. Some (line_text line.reference.now line.numbers) };
+    ghost output = { λ line. Some (line_text Text line.reference.now line.numbers) };
 
     fn fmt<W: fmt::Write>(&self, f: &mut fmt::Formatter<W>) -> fmt::Result {
         match self.numbers {

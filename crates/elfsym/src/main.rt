@@ -6,7 +6,8 @@
 //! `dlvsym` finds by that name and version: `ab@V1 0x1016 0xb`. `elfsym --needed PATH` writes the
 //! names of the libraries that the file needs, a line for each: their bytes, with control characters
 //! escaped. `elfsym --scope PROGRAM NAME..` looks each name up in the program and the libraries that its
-//! loader finds, and writes the path of the file that has it after its value and size.
+//! loader finds, and writes the path of the file that has it after its value and size. With `--json`
+//! before all of these each line is a JSON object.
 #![tactic(auto)]
 
 ghost use Rattle.std.specs.Prelude.{◌≡◌, ◌≢◌, ◌≤◌, IfErr, IfOk, IfSome, IsOk, IsSomeAnd, OnOk};
@@ -27,6 +28,7 @@ use crate::libraries::Libraries;
 use crate::lines::Lines;
 use crate::scope::run_on_program;
 use elf_linking::LinkError;
+use program_ends::json::{Form, form_asked};
 use program_ends::{
     CLOSED, Fault, Watched, arguments, exit_code, fault_of, quiet_status_of, read_whole, say,
     write_about, write_buffered,
@@ -45,11 +47,12 @@ mod scope;
 const NAME: &str = "elfsym";
 
 const USAGE: &str =
-    "elfsym <binary_path> <name>[@<version>].. | elfsym --needed <binary_path> | elfsym --scope [--root DIR] [--library-path LIST] [--cache FILE | --no-cache] <binary_path> <name>[@<version>]..";
+    "elfsym [--json] <binary_path> <name>[@<version>].. | elfsym [--json] --needed <binary_path> | elfsym [--json] --scope [--root DIR] [--library-path LIST] [--cache FILE | --no-cache] <binary_path> <name>[@<version>]..";
 
 const HELP: &str =
     "Prints the value and the size of the symbol that dlsym finds by each name in the dynamic segment of
 a file, and by a name and a version what dlvsym finds.
+--json               each line as a JSON object
 --needed             the names of the libraries that the file needs instead
 --scope              looks the names up in a program and its libraries, which are found, and prints the file of
                      each symbol after its size
@@ -78,6 +81,7 @@ pub enum Question<'a, S> {
 pub fn run<S: AsStr, R: Read + Drop, W: Write, E: Write>(
     alloc: Global,
     path: &str,
+    form: Form,
     question: Question<'_, S>,
     file: Option<R>,
     out: &mut Watched<W>,
@@ -87,9 +91,9 @@ pub fn run<S: AsStr, R: Read + Drop, W: Write, E: Write>(
     ensures accepted { result ≡ 0 → IsSomeAnd file (λ reader.
         IfSome (R.remaining reader) (λ bytes. IsOk (header_of bytes))) }
     ensures ends { (end : Result (Unit {0}) (Fault LinkError))
-        × IsEnd S.text path.entry question.entry R.remaining file end × (result ≡ quiet_status_of end out.new.closed) }
+        × IsEnd form S.text path.entry question.entry R.remaining file end × (result ≡ quiet_status_of end out.new.closed) }
 {
-    let ended = answer(alloc, path, question, file, &mut *out);
+    let ended = answer(alloc, path, form, question, file, &mut *out);
     quiet_status_of(NAME, ended, out.is_closed(), err)
 }
 
@@ -97,21 +101,22 @@ pub fn run<S: AsStr, R: Read + Drop, W: Write, E: Write>(
 fn answer<'a, S: AsStr, R: Read + Drop, W: Write>(
     alloc: Global,
     path: &'a str,
+    form: Form,
     question: Question<'_, S>,
     file: Option<R>,
     out: &mut W,
 ) -> Result<(), Fault<'a, LinkError>>
     ensures accepted { OnOk result (IsSomeAnd file (λ reader.
         IfSome (R.remaining reader) (λ bytes. IsOk (header_of bytes)))) }
-    ensures end { IsEnd S.text path.entry question.entry R.remaining file result }
+    ensures end { IsEnd form S.text path.entry question.entry R.remaining file result }
 {
     match question {
-        Question::Needed => match print_libraries(alloc, path, file, &mut *out) {
+        Question::Needed => match print_libraries(alloc, path, form, file, &mut *out) {
             Ok(_) => Ok(()),
             Err(fault) => Err(fault),
         },
         Question::Symbols(references) => {
-            match print_lines(alloc, path, references, file, &mut *out) {
+            match print_lines(alloc, path, form, references, file, &mut *out) {
                 Ok(_) => Ok(()),
                 Err(fault) => Err(fault),
             }
@@ -124,20 +129,25 @@ fn answer<'a, S: AsStr, R: Read + Drop, W: Write>(
 fn print_libraries<'a, R: Read + Drop, W: Write + Drop>(
     alloc: Global,
     path: &'a str,
+    form: Form,
     file: Option<R>,
     out: W,
 ) -> Result<W, Fault<'a, LinkError>>
     ensures written { IfOk result (λ back. OfFile R.remaining file (λ input.
-        AppendsSome (AreInputLibraries input) (W.contents out) (W.contents back))) }
+        AppendsSome (AreInputLibraries form input) (W.contents out) (W.contents back))) }
     ensures fault { IfErr result (IsFault path.entry
-        (λ error. OfFile R.remaining file (λ input. AreInputLibrariesFailed input error))
+        (λ error. OfFile R.remaining file (λ input. AreInputLibrariesFailed form input error))
         (OfFile R.remaining file (λ input. HasBegun (AreInputLibrariesBegun input)
-        (AppendsSome (AreInputLibraries input))))) }
+        (AppendsSome (AreInputLibraries form input))))) }
 {
     let Some(input) = read_whole(alloc, file) else {
         return Err(Fault::Read { path });
     };
-    match write_buffered(alloc, &Libraries(&input), out) {
+    let libraries = Libraries {
+        input: &input,
+        form,
+    };
+    match write_buffered(alloc, &libraries, out) {
         Ok(out) => Ok(out),
         Err(stop) => Err(fault_of(stop, path)),
     }
@@ -148,19 +158,20 @@ fn print_libraries<'a, R: Read + Drop, W: Write + Drop>(
 fn print_lines<'a, S: AsStr, R: Read + Drop, W: Write + Drop>(
     alloc: Global,
     path: &'a str,
+    form: Form,
     references: &[S],
     file: Option<R>,
     out: W,
 ) -> Result<W, Fault<'a, LinkError>>
     ensures written { IfOk result (λ back. OfFile R.remaining file (λ input.
-        AppendsSome (AreInputLines S.text input references.now)
+        AppendsSome (AreInputLines form S.text input references.now)
         (W.contents out) (W.contents back))) }
     ensures fault { IfErr result (IsFault path.entry
         (λ error. OfFile R.remaining file (λ input.
-        AreInputLinesFailed S.text input references.now error))
+        AreInputLinesFailed form S.text input references.now error))
         (OfFile R.remaining file (λ input.
-        HasBegun (AreInputLinesBegun S.text input references.now)
-        (AppendsSome (AreInputLines S.text input references.now))))) }
+        HasBegun (AreInputLinesBegun form S.text input references.now)
+        (AppendsSome (AreInputLines form S.text input references.now))))) }
 {
     let Some(input) = read_whole(alloc, file) else {
         return Err(Fault::Read { path });
@@ -168,6 +179,7 @@ fn print_lines<'a, S: AsStr, R: Read + Drop, W: Write + Drop>(
     let lines = Lines {
         input: &input,
         references,
+        form,
     };
     match write_buffered(alloc, &lines, out) {
         Ok(out) => Ok(out),
@@ -186,11 +198,12 @@ fn run_on_arguments(rt: &HostRuntime) -> io::Result<u8> {
     if let Some(status) = write_about(NAME, USAGE, HELP, &words, &mut out, &mut err) {
         return Ok(status);
     }
-    let status = match words.split_first() {
+    let (form, rest) = form_asked(&words);
+    let status = match rest.split_first() {
         Some((first, others)) if first.as_str() == "--scope" => {
-            run_on_program(rt, others, &mut out, &mut err)
+            run_on_program(rt, form, others, &mut out, &mut err)
         }
-        _ => run_on_file(rt, &words, &mut out, &mut err),
+        _ => run_on_file(rt, form, rest, &mut out, &mut err),
     };
     match status {
         Some(status) => Ok(status),
@@ -201,13 +214,14 @@ fn run_on_arguments(rt: &HostRuntime) -> io::Result<u8> {
 // The status after what the arguments ask of a file; `None` if they are not as they should be.
 fn run_on_file<W: Write, E: Write>(
     rt: &HostRuntime,
+    form: Form,
     arguments: &[String],
     out: &mut Watched<W>,
     err: &mut E,
 ) -> Option<u8> {
     let (path, question) = asked(arguments)?;
     let file = File::open(rt, path).ok();
-    Some(run(rt.alloc(), path, question, file, out, err))
+    Some(run(rt.alloc(), path, form, question, file, out, err))
 }
 
 // What the arguments ask, and of which file, if they are as they should be.

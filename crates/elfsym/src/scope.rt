@@ -2,7 +2,8 @@
 //! line for each name, with the value and the size of its symbol and the path of the file that has it.
 
 ghost use Rattle.std.specs.Prelude.{◌≡◌, ◌≢◌, ◌≤◌, Bool, IfErr, IfOk, IsFalse, List, MatchResult};
-ghost use Rattle.std.specs.Prelude.{Result, Some, ⊤};
+ghost use Rattle.std.specs.Prelude.{OnOk, Result, Some, ⊤};
+ghost use Rattle.std.specs.Io.KnownBytes.{Appends};
 ghost use Rattle.elf_linking.specs.CheckedScope.{bound_fields};
 ghost use Rattle.elf_linking.specs.Exports.{ObjectParts};
 ghost use Rattle.elf_linking.specs.declared.error.LinkError.{LinkError};
@@ -15,6 +16,7 @@ ghost use Rattle.program_ends.specs.Appended.{AppendsSome};
 ghost use Rattle.program_ends.specs.Ends.{quiet_status_of};
 ghost use Rattle.program_ends.specs.declared.Fault.{Fault};
 ghost use Rattle.program_ends.specs.declared.TheConstants.{CLOSED};
+ghost use Rattle.program_ends.specs.declared.json.Form.TheVariants.{Text};
 ghost use Rattle.program_libraries.specs.Complete.{IsComplete};
 
 use crate::NAME;
@@ -26,6 +28,7 @@ use elf_linking::scope::Bound;
 use elf_linking::view::LinkedSymbol;
 use elf_linking::{CheckedObject, DynamicObject, LinkError};
 use linking_programs::{Failed, Input, failed_fault_of, is_first_narrow};
+use program_ends::json::{Form, Member, Value, write_json};
 use program_ends::{CLOSED, Fault, Output, Stop, Watched, quiet_status_of, write_buffered};
 use program_libraries::{
     Finder, Settings, StoredFile, Tree, listed_inputs, own_settings, say_error, say_missing,
@@ -47,6 +50,7 @@ use xmas_elf::symbol_table::{DynEntry32, DynEntry64, Entry};
 /// it is 0 only if each name that the files ask for, other than by an auxiliary entry, found an object.
 pub fn run_scope<S: AsStr, W: Write, E: Write>(
     alloc: Global,
+    form: Form,
     references: &[S],
     files: &[StoredFile],
     tree: &Tree,
@@ -57,37 +61,38 @@ pub fn run_scope<S: AsStr, W: Write, E: Write>(
     ensures complete { result ≡ 0 → IsComplete files.now tree.now.objects.items }
     ensures ends { (missing : Bool) × (end : Result (Unit {0}) (Fault LinkError))
         × (IsFalse missing → IsComplete files.now tree.now.objects.items)
-        × IsScopeEnd ⟦<DynEntry32 as Record>⟧ ⟦<DynEntry64 as Record>⟧ S.text files.now tree.now
+        × IsScopeEnd ⟦<DynEntry32 as Record>⟧ ⟦<DynEntry64 as Record>⟧ form S.text files.now tree.now
         references.now end
         × (result ≡ with_missing missing (quiet_status_of end out.new.closed)) }
 {
     let missing = say_missing(alloc, NAME, files, tree, &mut *err);
-    let ended = print_found(alloc, references, files, tree, &mut *out);
+    let ended = print_found(alloc, form, references, files, tree, &mut *out);
     with_missing(missing, quiet_status_of(NAME, ended, out.is_closed(), err))
 }
 
 // Writes the lines by the files of the program and its libraries, which are of the class of the first.
 fn print_found<'t, S: AsStr, W: Write>(
     alloc: Global,
+    form: Form,
     references: &[S],
     files: &[StoredFile],
     tree: &'t Tree,
     out: &mut W,
 ) -> Result<(), Fault<'t, LinkError>>
-    ensures { IsScopeEnd ⟦<DynEntry32 as Record>⟧ ⟦<DynEntry64 as Record>⟧ S.text files.now
+    ensures { IsScopeEnd ⟦<DynEntry32 as Record>⟧ ⟦<DynEntry64 as Record>⟧ form S.text files.now
         tree.now references.now result }
 {
     let Some(inputs) = listed_inputs(alloc, files, tree) else {
         return Err(Fault::Memory);
     };
     if is_first_narrow(&inputs) {
-        match print_scope::<DynEntry32, _, _>(alloc, references, &inputs, &mut *out) {
+        match print_scope::<DynEntry32, _, _>(alloc, form, references, &inputs, &mut *out) {
             Ok(_) => Ok(()),
             Err(fault) => Err(fault),
         }
     } else {
         // A file of another class than 64 has an error there.
-        match print_scope::<DynEntry64, _, _>(alloc, references, &inputs, &mut *out) {
+        match print_scope::<DynEntry64, _, _>(alloc, form, references, &inputs, &mut *out) {
             Ok(_) => Ok(()),
             Err(fault) => Err(fault),
         }
@@ -97,13 +102,14 @@ fn print_found<'t, S: AsStr, W: Write>(
 // Writes the lines by files of a class, and gives the writer back.
 fn print_scope<'i, E: LinkedSymbol, S: AsStr, W: Write + Drop>(
     alloc: Global,
+    form: Form,
     references: &[S],
     inputs: &[Input<'i>],
     out: W,
 ) -> Result<W, Fault<'i, LinkError>>
     ensures written { IfOk result (λ back. (objects : List ObjectParts)
         × AreScopeObjects E.Record E.fields E.CLASS E.SIZE inputs.now objects
-        × AppendsSome (AreScopeLines S.text inputs.now objects references.now)
+        × AppendsSome (AreScopeLines form S.text inputs.now objects references.now)
         (W.contents out) (W.contents back)) }
     ensures fault { IfErr result (IsScopeFault E.Record E.fields E.CLASS E.SIZE inputs.now) }
 {
@@ -115,6 +121,7 @@ fn print_scope<'i, E: LinkedSymbol, S: AsStr, W: Write + Drop>(
         inputs,
         objects: &objects,
         references,
+        form,
     };
     match write_buffered(alloc, &lines, out) {
         Ok(out) => Ok(out),
@@ -172,13 +179,14 @@ struct ScopeLines<'s, 'i, 'a, E: LinkedSymbol, S> {
     inputs: &'s [Input<'i>],
     objects: &'s [CheckedObject<'a, E>],
     references: &'s [S],
+    form: Form,
 }
 
 impl<'i, E: LinkedSymbol, S: AsStr> Output for ScopeLines<'_, 'i, '_, E, S> {
-    ghost Writes = { λ lines. AppendsSome (AreScopeLines S.text lines.inputs.now lines.objects.now
+    ghost Writes = { λ lines. AppendsSome (AreScopeLines lines.form S.text lines.inputs.now lines.objects.now
         lines.references.now) };
 
-    ghost flushed = { λ lines. appended_flushed (AreScopeLines S.text lines.inputs.now
+    ghost flushed = { λ lines. appended_flushed (AreScopeLines lines.form S.text lines.inputs.now
         lines.objects.now lines.references.now) };
 
     type Error = Failed<'i, LinkError>;
@@ -189,7 +197,13 @@ impl<'i, E: LinkedSymbol, S: AsStr> Output for ScopeLines<'_, 'i, '_, E, S> {
 
     fn write_to<W: Write>(&self, out: &mut W) -> Result<(), Stop<Failed<'i, LinkError>>> {
         for reference in self.references {
-            match write_line(self.inputs, self.objects, reference.as_str(), out) {
+            match write_line(
+                self.inputs,
+                self.objects,
+                reference.as_str(),
+                self.form,
+                out,
+            ) {
                 Ok(()) => {}
                 Err(_) => return Err(Stop::Write),
             }
@@ -203,13 +217,54 @@ fn write_line<E: LinkedSymbol, W: Write>(
     inputs: &[Input<'_>],
     objects: &[CheckedObject<'_, E>],
     reference: &str,
+    form: Form,
     out: &mut W,
 ) -> io::Result<()>
-    ensures { IfOk result (λ _. AppendsSome (IsScopeLine inputs.now objects.now reference.now)
+    ensures { IfOk result (λ _. AppendsSome (IsScopeLine form inputs.now objects.now reference.now)
         (W.contents out.old) (W.contents out.new)) }
 {
     let target = target_of(inputs, &bound_of(objects, reference));
-    write!(out, "{}", ScopeLine { reference, target })
+    write_target(reference, target, form, out)
+}
+
+// The line of a reference, by what it says of its symbol.
+fn write_target<'s, W: Write>(
+    reference: &'s str,
+    target: Option<Target<'s>>,
+    form: Form,
+    out: &mut W,
+) -> io::Result<()>
+    ensures { OnOk result (Appends (W.contents out.old) (W.contents out.new)
+        (scope_text form reference.now target.entry)) }
+{
+    if let Form::Text = form {
+        return write!(out, "{}", ScopeLine { reference, target });
+    }
+    let (value, size, path) = match target {
+        Some(Target { value, size, path }) => {
+            (Value::Number(value), Value::Number(size), Value::Text(path))
+        }
+        None => (Value::Null, Value::Null, Value::Null),
+    };
+    let members = [
+        Member {
+            key: "name",
+            value: Value::Text(reference),
+        },
+        Member {
+            key: "value",
+            value,
+        },
+        Member {
+            key: "size",
+            value: size,
+        },
+        Member {
+            key: "file",
+            value: path,
+        },
+    ];
+    write_json(&members, out)
 }
 
 // The symbol that the program gets for a reference.
@@ -241,7 +296,7 @@ fn target_of<'i, E: Entry>(inputs: &[Input<'i>], bound: &Option<Bound<E>>) -> Op
     })
 }
 
-// The line of a reference: its symbol, or that there is none.
+// The line of a reference as text: its symbol, or that there is none.
 #[derive(Clone, Copy)]
 struct ScopeLine<'r, 's> {
     reference: &'r str,
@@ -249,7 +304,7 @@ struct ScopeLine<'r, 's> {
 }
 
 impl Display for ScopeLine<'_, '_> {
-    ghost output = { λ line. Some (scope_text line.reference.now line.target) };
+    ghost output = { λ line. Some (scope_text Text line.reference.now line.target) };
 
     fn fmt<W: fmt::Write>(&self, f: &mut fmt::Formatter<W>) -> fmt::Result {
         match self.target {
@@ -265,6 +320,7 @@ impl Display for ScopeLine<'_, '_> {
 // found; `None` if the arguments are not as they should be.
 pub(crate) fn run_on_program<W: Write, E: Write>(
     rt: &HostRuntime,
+    form: Form,
     arguments: &[String],
     out: &mut Watched<W>,
     err: &mut E,
@@ -277,7 +333,7 @@ pub(crate) fn run_on_program<W: Write, E: Write>(
     match finder.find(rt, path) {
         Ok(tree) => {
             let files = finder.files();
-            Some(run_scope(rt.alloc(), references, files, &tree, out, err))
+            Some(run_scope(rt.alloc(), form, references, files, &tree, out, err))
         }
         Err(error) => Some(say_error(NAME, &error, err)),
     }

@@ -7,5 +7,5 @@ use Rattle.elfbind.proofs.checks.write_checks.Given as goal
 -- the lines of the objects so far
 abbrev pub invariant-loop-index : goal.invariant-loop-index
 invariant-loop-index g l = AppendsSome
-    (AreWritten (IsCheckLine g.E.Entry.fields l.fn.inputs) (take l.index l.fn.objects) l.failing)
+    (AreWritten (IsCheckLine l.fn.form g.E.Entry.fields l.fn.inputs) (take l.index l.fn.objects) l.failing)
     (g.W.Write.contents l.fn.out) (g.W.Write.contents l.out)

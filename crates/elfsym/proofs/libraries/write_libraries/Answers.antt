@@ -12,9 +12,9 @@ returns-in-Ok g c =
     (λ done text lines. record {
       entries = entries;
       entries_are = c.in-Ok.ensures.exact.0;
-      lines = subst (λ strings. AreLibraryLines (needed_bytes_in strings entries) text) strings_are lines;
+      lines = subst (λ strings. AreLibraryLines c.args.form (needed_bytes_in strings entries) text) strings_are lines;
     })
-    (λ error why. by_name entries c.in-Ok.ensures.exact.0 (subst (λ strings. IsNameError (needed_bytes_in strings entries) error) strings_are why))
+    (λ error why. by_name entries c.in-Ok.ensures.exact.0 (subst (λ strings. IsNameError c.args.form (needed_bytes_in strings entries) error) strings_are why))
     (λ begun. record {
       entries = entries;
       entries_are = c.in-Ok.ensures.exact.0;

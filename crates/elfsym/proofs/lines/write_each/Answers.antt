@@ -24,10 +24,10 @@ loop-reference-preserved g c =
     let below : index < length references = omega (arith, c.loop-reference-test.true) in
     let longer : take (index + 1) references ≡ take index references ++ (item ∷ []) =
     take_more references index item below ∙ ap (λ x. take index references ++ (x ∷ [])) (sym c.reference-item.is) in
-    let own : IsLine file (g.S.AsStr.text item) line = subst (λ (t : List ℕ). IsLine file t line) c.as_str.ensures is_line in (
+    let own : IsLine c.args.form file (g.S.AsStr.text item) line = subst (λ (t : List ℕ). IsLine c.args.form file t line) c.as_str.ensures is_line in (
       lines ++ (line ∷ []),
-      subst (λ xs. AllZip (λ reference one. IsLine file (g.S.AsStr.text reference) one) xs (lines ++ (line ∷ []))) (sym longer)
-          (zip_one_more (λ reference one. IsLine file (g.S.AsStr.text reference) one) (take index references) lines item line each own),
+      subst (λ xs. AllZip (λ reference one. IsLine c.args.form file (g.S.AsStr.text reference) one) xs (lines ++ (line ∷ []))) (sym longer)
+          (zip_one_more (λ reference one. IsLine c.args.form file (g.S.AsStr.text reference) one) (take index references) lines item line each own),
       subst (λ (t : List ℕ). Appends (g.W.Write.contents c.args.out.now) (g.W.Write.contents c.write_line.new.out) t) (sym (concat_one_more lines line))
           (Appends-trans _ _ _ _ _ grown more),
     )
@@ -41,5 +41,5 @@ returns-in-Err g c =
     let stop = c.in-Err.stop in
     let (lines, each, grown) = c.loop-reference.invariant in
     let below : index < length references = omega (arith, c.loop-reference-test.true) in
-    let why = subst (λ (t : List ℕ). IsStop (IsSearchError file t) ((line : List ℕ) × IsLine file t line) ⊥ stop) c.as_str.ensures c.in-Err.ensures in
-    stop_at g.S.AsStr.text file references index item lines stop below c.reference-item.is each why
+    let why = subst (λ (t : List ℕ). IsStop (IsSearchError file t) ((line : List ℕ) × IsLine c.args.form file t line) ⊥ stop) c.as_str.ensures c.in-Err.ensures in
+    stop_at c.args.form g.S.AsStr.text file references index item lines stop below c.reference-item.is each why

@@ -8,5 +8,5 @@ use Rattle.elfsym.proofs.lines.write_each.Given as goal
 -- a line for each reference so far
 abbrev pub invariant-loop-reference : goal.invariant-loop-reference
 invariant-loop-reference g l = let file = object_dynamic_symbols g.E.Entry.fields l.object in (lines : List (List ℕ))
-    × AllZip (λ reference line. IsLine file (g.S.AsStr.text reference) line) (take l.reference-index l.references) lines
+    × AllZip (λ reference line. IsLine l.fn.form file (g.S.AsStr.text reference) line) (take l.reference-index l.references) lines
     × Appends (g.W.Write.contents l.fn.out) (g.W.Write.contents l.out) (concat lines)

@@ -9,7 +9,7 @@ pub returns-in-Ok-write_buffered-clause-written : goal.returns-in-Ok-write_buffe
 returns-in-Ok-write_buffered-clause-written g c = (
   c.in-Ok.objects.items,
   c.in-Ok.ensures,
-  subst (λ (objects : List ObjectParts). AppendsSome (AreScopeLines g.S.AsStr.text c.args.inputs.now objects c.args.references.now) (g.W.Write.contents c.args.out) (g.W.Write.contents c.in-Ok-write_buffered.out)) c.deref.ensures.value c.in-Ok-write_buffered.ensures,
+  subst (λ (objects : List ObjectParts). AppendsSome (AreScopeLines c.args.form g.S.AsStr.text c.args.inputs.now objects c.args.references.now) (g.W.Write.contents c.args.out) (g.W.Write.contents c.in-Ok-write_buffered.out)) c.deref.ensures.value c.in-Ok-write_buffered.ensures,
 )
 
 pub returns-clause-fault : goal.returns-clause-fault

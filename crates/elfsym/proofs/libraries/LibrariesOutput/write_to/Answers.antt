@@ -6,11 +6,11 @@ use Rattle.program_ends.proofs.Ends.{ends_so}
 
 pub returns-in-Ok : goal.returns-in-Ok
 returns-in-Ok g c =
-    let input = c.args.self.now.0 in
+    let input = c.args.self.now.input in
     let file = c.in-Ok.file in
     ends_so _ _ _ _ _ _ _ c.write_libraries.result _ _
-    (λ done text are. for_library_input input file text c.in-Ok.ensures.input c.in-Ok.ensures.header are)
-    (λ error why. no_lines file.header error c.in-Ok.ensures.header (of_input (λ f. AreFileLibrariesFailed f error) input file c.in-Ok.ensures.input why))
+    (λ done text are. for_library_input c.args.self.now.form input file text c.in-Ok.ensures.input c.in-Ok.ensures.header are)
+    (λ error why. no_lines file.header error c.in-Ok.ensures.header (of_input (λ f. AreFileLibrariesFailed c.args.self.now.form f error) input file c.in-Ok.ensures.input why))
     (λ begun. ok_of_input AreFileLibrariesBegun input file c.in-Ok.ensures.input c.in-Ok.ensures.header begun) c.write_libraries.ensures
 
 pub returns-in-Err : goal.returns-in-Err

@@ -14,7 +14,7 @@ pub loop-reference-preserved : goal.loop-reference-preserved
 loop-reference-preserved g c =
     let all = c.args.self.now in
     let references = all.references.now in
-    let Is = IsScopeLine all.inputs.now all.objects.now in
+    let Is = IsScopeLine all.form all.inputs.now all.objects.now in
     let index = c.loop-reference.reference-index in
     let item = c.reference-item.result in
     let (lines, each, grown) = c.loop-reference.invariant in
