@@ -10,6 +10,7 @@ use Rattle.std.specs.Prelude.{slice_range, unwrap_or}
 use Rattle.elfaddr.specs.declared.Source.TheVariants.{Symtab}
 use Rattle.elfaddr.specs.declared.stack.Place.{Place}
 use Rattle.program_ends.specs.Appended.{AppendsSome}
+use Rattle.program_ends.specs.declared.json.Form.TheVariants.{Text}
 
 -- the bytes from an index on
 pub rest_is : (bytes : List ℕ) (from : ℕ) → take (length bytes - from) (drop from bytes) ≡ drop from bytes
@@ -37,7 +38,7 @@ pub line_kept : (input : Bor (List ℕ)) (line : List ℕ) (old new : Option (Li
 line_kept input line old new grown = (line, kept, grown)
 
 -- a line with a name in place of an address
-pub line_replaced : (input : Bor (List ℕ)) (line : List ℕ) (place : Place) (found : List ℕ) (old new : Option (List ℕ)) → IsPlace line place → AreInputLines Symtab (place.address ∷ []) input found
+pub line_replaced : (input : Bor (List ℕ)) (line : List ℕ) (place : Place) (found : List ℕ) (old new : Option (List ℕ)) → IsPlace line place → AreInputLines Text Symtab (place.address ∷ []) input found
     → Appends old new (take place.begin line ++ (take (length found - 1) found ++ drop place.end line)) → AppendsSome (IsStackLine input line) old new
 line_replaced input line place found old new is are grown =
     (take place.begin line ++ (take (length found - 1) found ++ drop place.end line), replaced place found is are, grown)

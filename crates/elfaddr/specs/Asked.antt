@@ -24,6 +24,7 @@ use Rattle.elfaddr.specs.Lines.{AreLines, name_in}
 use Rattle.elfaddr.specs.Tables.{IsDladdrError, IsReach, IsTableCount}
 use Rattle.elfaddr.specs.declared.Source.{Source}
 use Rattle.elfaddr.specs.declared.Source.TheVariants.{Dladdr, Dynamic, Symtab}
+use Rattle.program_ends.specs.declared.json.Form.{Form}
 use Rattle.xmas_elf.specs.First.{FindsFirstAt}
 use Rattle.xmas_elf.specs.SectionHeader.{section_list}
 use Rattle.xmas_elf.specs.Symbol.{SymbolFields, dyn_entry_32, dyn_entry_32_fields, dyn_entry_64, dyn_entry_64_fields}
@@ -154,11 +155,11 @@ pub record AreThere (Asked : (ℕ → Option Claim) → (ℕ → List ℕ) → T
   pub asked : Asked claim_of name_of
 
 -- the text is a line for each address by such symbols
-pub record AreLinesBy (Asked : (ℕ → Option Claim) → (ℕ → List ℕ) → Type 0) (file : ElfFile) (addresses : List ℕ) (text : List ℕ) : Type 0 where
+pub record AreLinesBy (form : Form) (Asked : (ℕ → Option Claim) → (ℕ → List ℕ) → Type 0) (file : ElfFile) (addresses : List ℕ) (text : List ℕ) : Type 0 where
   pub claim_of : ℕ → Option Claim
   pub name_of : ℕ → List ℕ
   pub asked : Asked claim_of name_of
-  pub lines : AreLines claim_of name_of file addresses text
+  pub lines : AreLines form claim_of name_of file addresses text
 
 -- Why there are no such symbols.
 

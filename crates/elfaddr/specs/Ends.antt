@@ -11,11 +11,12 @@ use Rattle.elfaddr.specs.declared.Source.{Source}
 use Rattle.linking_programs.specs.Files.{OfHeader}
 use Rattle.program_ends.specs.Ends as ends
 use Rattle.program_ends.specs.declared.Fault.{Fault}
+use Rattle.program_ends.specs.declared.json.Form.{Form}
 use Rattle.xmas_elf.specs.Types.{ElfError}
 
 -- a line for each address, by the symbols of an input that are asked for
-abbrev pub AreInputLines : Source → List ℕ → Bor (List ℕ) → List ℕ → Type 0
-AreInputLines source addresses input text = OfHeader input (λ file. AreLinesBy (AreOfFile file source) file addresses text)
+abbrev pub AreInputLines : Form → Source → List ℕ → Bor (List ℕ) → List ℕ → Type 0
+AreInputLines form source addresses input text = OfHeader input (λ file. AreLinesBy form (AreOfFile file source) file addresses text)
 
 -- there are such symbols
 abbrev pub AreInputThere : Source → Bor (List ℕ) → Type 0
@@ -29,7 +30,7 @@ pub data AreInputFailed (source : Source) (input : Bor (List ℕ)) : LinkError �
 
 -- the same by the bytes that name the addresses of an input
 abbrev pub AreNamedLines : Options → List ℕ → Bor (List ℕ) → List ℕ → Type 0
-AreNamedLines options addresses input text = ByNaming options input (λ bytes. AreInputLines options.source addresses bytes text)
+AreNamedLines options addresses input text = ByNaming options input (λ bytes. AreInputLines options.form options.source addresses bytes text)
 
 abbrev pub AreNamedThere : Options → Bor (List ℕ) → Type 0
 AreNamedThere options input = ByNaming options input (AreInputThere options.source)

@@ -8,6 +8,7 @@ use Rattle.std.specs.Str.Parse.{IsNumeral, digits_value, without_leading_plus}
 use Rattle.elfaddr.specs.Ends.{AreInputLines}
 use Rattle.elfaddr.specs.declared.Source.TheVariants.{Symtab}
 use Rattle.elfaddr.specs.declared.stack.Place.{Place}
+use Rattle.program_ends.specs.declared.json.Form.TheVariants.{Text}
 
 -- the digits of a number in hexadecimal after `+0x`, `0x` or a plus sign
 abbrev pub digits_of : List ℕ → Option (List ℕ)
@@ -44,5 +45,5 @@ pub record IsPlace (line : List ℕ) (place : Place) : Type 0 where
 pub data IsStackLine (input : Bor (List ℕ)) (line : List ℕ) : List ℕ → Type 0 where
   kept : IsStackLine input line line
   replaced : (place : Place) (found : List ℕ) → IsPlace line place
-      → AreInputLines Symtab (place.address ∷ []) input found
+      → AreInputLines Text Symtab (place.address ∷ []) input found
       → IsStackLine input line (take place.begin line ++ (take (length found - 1) found ++ drop place.end line))

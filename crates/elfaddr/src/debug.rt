@@ -1,40 +1,12 @@
 //! The separate debug file of a file without a symbol table, whose symbols name the addresses of the file.
 
-ghost use Rattle.std.specs.Prelude.{◌≡◌, IfOk, IfSome, OnOk};
-ghost use Rattle.elfaddr.specs.Debug.{Agrees, HasSymtab, IsAskedDebug, IsDebugFileOf, IsWanted};
+ghost use Rattle.std.specs.Prelude.{IfOk, IfSome};
+ghost use Rattle.elfaddr.specs.Debug.{IsAskedDebug};
 
-use crate::{NAME, Options, Source, is_file};
-use elf_addresses::{AnyAddressSymbols, symtab_index};
-use elf_debug::{DebugHow, DebugMismatch, DebugPath, DebugPathBytes, DebugWanted};
-use elf_linking::LinkError;
-use program_ends::{Fault, read_whole, say};
-use std::alloc::{AllocError, Global};
-use std::fmt::Display;
-use std::fs::File;
+use crate::{NAME, Options, Source};
+use program_debug::{Seeker, find_debug_file};
+use std::alloc::AllocError;
 use std::io::Write;
-use std::{fmt, fs};
-use xmas_elf::ElfFile;
-
-// Why a file is not taken.
-#[derive(Clone, Copy, Debug, Drop)]
-enum NotTaken {
-    // It is the debug file of another file.
-    Mismatch(DebugMismatch),
-    // It has no section of type `SHT_SYMTAB`.
-    NoSymtab,
-    // It is no ELF file, or its symbols can't be read.
-    Unread(LinkError),
-}
-
-impl Display for NotTaken {
-    fn fmt<W: fmt::Write>(&self, f: &mut fmt::Formatter<W>) -> fmt::Result {
-        match self {
-            NotTaken::Mismatch(mismatch) => write!(f, "not the debug file: {}", mismatch.message()),
-            NotTaken::NoSymtab => write!(f, "debug file without a symbol table"),
-            NotTaken::Unread(error) => write!(f, "{error}"),
-        }
-    }
-}
 
 /// The bytes of the debug file of a file with these bytes, if the options ask for `.symtab`, the file
 /// has none, and debug files are looked for.
@@ -51,128 +23,9 @@ pub fn debug_bytes<E: Write>(
     let (Source::Symtab, Some(directory)) = (options.source, options.debug) else {
         return Ok(None);
     };
-    let Ok(file) = ElfFile::new(input) else {
-        return Ok(None);
+    let seeker = Seeker {
+        name: NAME,
+        directory,
     };
-    match symtab_index(&file) {
-        Some(_) => Ok(None),
-        None => find_debug_file(rt, &file, path, directory, err),
-    }
-}
-
-/// The bytes of the debug file of the file at a path: of the first candidate that is the debug file and
-/// has symbols. Of any other regular file at a candidate path `err` is told why it is not taken.
-///
-/// By the contract the bytes pass the check. It doesn't say at which path they are, that no earlier
-/// candidate passes the check, or that none does where the result is `None`.
-pub fn find_debug_file<E: Write>(
-    rt: &HostRuntime,
-    file: &ElfFile<'_>,
-    path: &str,
-    directory: &str,
-    err: &mut E,
-) -> Result<Option<Vec<u8>>, AllocError>
-    ensures { IfOk result (λ found. IfSome found (λ bytes. IsDebugFileOf file.now bytes.items)) }
-{
-    let wanted = DebugWanted::of(file);
-    let path = real_path(rt, path)?;
-    for candidate in wanted.paths(path.as_bytes(), directory.as_bytes()) {
-        if let Some(bytes) = attempt(rt, &wanted, candidate, &mut *err)? {
-            return Ok(Some(bytes));
-        }
-    }
-    Ok(None)
-}
-
-// A path without symbolic links that begins with a slash; the path itself if there is none.
-fn real_path(rt: &HostRuntime, path: &str) -> Result<String, AllocError> {
-    match fs::canonicalize(rt, path) {
-        Ok(real) => Ok(real.into_string()),
-        Err(_) => String::from_str(rt.alloc(), path),
-    }
-}
-
-// The bytes of the file at a candidate path if it is the debug file. Of another regular file a message
-// says why it is not taken.
-fn attempt<E: Write>(
-    rt: &HostRuntime,
-    wanted: &DebugWanted<'_>,
-    candidate: DebugPath<'_>,
-    err: &mut E,
-) -> Result<Option<Vec<u8>>, AllocError>
-    ensures { IfOk result (λ found. IfSome found (λ bytes. IsWanted wanted.now bytes.items)) }
-{
-    // A path that is not UTF-8 can't be opened.
-    let Ok(path) = String::from_utf8(path_bytes(rt.alloc(), candidate.path)?) else {
-        return Ok(None);
-    };
-    if !is_file(rt, path.as_str()) {
-        return Ok(None);
-    }
-    match read_wanted(rt, wanted, candidate.how, path.as_str()) {
-        Ok(bytes) => Ok(Some(bytes)),
-        Err(fault) => {
-            let _status = say(NAME, &fault, err);
-            Ok(None)
-        }
-    }
-}
-
-fn path_bytes(alloc: Global, path: DebugPathBytes<'_>) -> Result<Vec<u8>, AllocError> {
-    let mut bytes = Vec::new(alloc);
-    for byte in path {
-        bytes.push(byte)?;
-    }
-    Ok(bytes)
-}
-
-// The bytes of the file at a path if it is the debug file, or why it is not taken.
-fn read_wanted<'p>(
-    rt: &HostRuntime,
-    wanted: &DebugWanted<'_>,
-    how: DebugHow,
-    path: &'p str,
-) -> Result<Vec<u8>, Fault<'p, NotTaken>>
-    ensures { IfOk result (λ bytes. IsWanted wanted.now bytes.items) }
-{
-    let Some(bytes) = read_whole(rt.alloc(), File::open(rt, path).ok()) else {
-        return Err(Fault::Read { path });
-    };
-    match check(wanted, how, &bytes) {
-        Ok(()) => Ok(bytes),
-        Err(error) => Err(Fault::Failed { path, error }),
-    }
-}
-
-// Whether bytes that were found in a way are the debug file.
-fn check(wanted: &DebugWanted<'_>, how: DebugHow, bytes: &[u8]) -> Result<(), NotTaken>
-    ensures { OnOk result (IsWanted wanted.now bytes.now) }
-{
-    match ElfFile::new(bytes) {
-        Ok(debug) => check_file(wanted, how, &debug),
-        Err(error) => Err(NotTaken::Unread(LinkError::Elf(error))),
-    }
-}
-
-// Whether a file that was found in a way is the debug file, and has a symbol table.
-fn check_file(wanted: &DebugWanted<'_>, how: DebugHow, debug: &ElfFile<'_>) -> Result<(), NotTaken>
-    ensures { OnOk result (Agrees wanted.now debug.now) }
-{
-    match wanted.check(how, debug) {
-        Ok(()) => check_symbols(debug),
-        Err(mismatch) => Err(NotTaken::Mismatch(mismatch)),
-    }
-}
-
-// Whether a file has a symbol table that can be read.
-fn check_symbols(file: &ElfFile<'_>) -> Result<(), NotTaken>
-    ensures { OnOk result (HasSymtab file.now) }
-{
-    let Some(_index) = symtab_index(file) else {
-        return Err(NotTaken::NoSymtab);
-    };
-    match AnyAddressSymbols::of(file) {
-        Ok(_) => Ok(()),
-        Err(error) => Err(NotTaken::Unread(error)),
-    }
+    find_debug_file(rt.alloc(), rt, seeker, path, input, err)
 }

@@ -4,13 +4,16 @@ ghost use Rattle.std.specs.Prelude.{◌≡◌, ◌-◌, ⊤, OnOk, Some, false, 
 ghost use Rattle.std.specs.Io.KnownBytes.{Appends};
 ghost use Rattle.elf_addresses.specs.Claims.{IsInnermost};
 ghost use Rattle.elf_addresses.specs.Index.{IsBuilt, IsWellBuilt, listed};
-ghost use Rattle.elfaddr.specs.Lines.{AreLines, IsLine, IsSectionLine, offset_text, place_text};
+ghost use Rattle.elfaddr.specs.Lines.{AreLines, IsLine, IsSectionLine, nowhere_line, offset_text};
+ghost use Rattle.elfaddr.specs.Lines.{place_line, place_record, place_text};
 ghost use Rattle.program_ends.proofs.Flushed.{appended_flushed};
 ghost use Rattle.program_ends.specs.Appended.{AppendsSome};
+ghost use Rattle.program_ends.specs.declared.json.Form.TheVariants.{Json};
 
 use crate::names::{Named, or_mark};
 use elf_addresses::{Claim, ClaimIndex, IndexSize, build_index, index_size, innermost, section_at};
 use elf_linking::LinkError;
+use program_ends::json::{Form, Member, Value, write_json};
 use program_ends::{Output, Stop, write_name};
 use std::alloc::Global;
 use std::fmt::Display;
@@ -22,16 +25,17 @@ use xmas_elf::ElfFile;
 #[derive(Clone, Copy)]
 pub(crate) struct Lines<'f, 'a, C> {
     pub(crate) alloc: Global,
+    pub(crate) form: Form,
     pub(crate) file: &'f ElfFile<'a>,
     pub(crate) claims: &'f C,
     pub(crate) addresses: &'f [u64],
 }
 
 impl<C: Named> Output for Lines<'_, '_, C> {
-    ghost Writes = { λ lines. AppendsSome (AreLines (C.claim_of lines.claims.now)
+    ghost Writes = { λ lines. AppendsSome (AreLines lines.form (C.claim_of lines.claims.now)
         (C.name_of lines.claims.now) lines.file.now lines.addresses.now) };
 
-    ghost flushed = { λ lines. appended_flushed (AreLines (C.claim_of lines.claims.now)
+    ghost flushed = { λ lines. appended_flushed (AreLines lines.form (C.claim_of lines.claims.now)
         (C.name_of lines.claims.now) lines.file.now lines.addresses.now) };
 
     type Error = LinkError;
@@ -85,7 +89,7 @@ fn write_indexed<C: Named, W: Write>(
         (C.count lines.now.claims.now)) }
     requires open { size.open ≡ length (listed (C.claim_of lines.now.claims.now) true
         (C.count lines.now.claims.now)) }
-    ensures { OnOk result (AppendsSome (AreLines (C.claim_of lines.now.claims.now)
+    ensures { OnOk result (AppendsSome (AreLines lines.now.form (C.claim_of lines.now.claims.now)
         (C.name_of lines.now.claims.now) lines.now.file.now lines.now.addresses.now)
         (W.contents out.old) (W.contents out.new)) }
 {
@@ -103,7 +107,7 @@ fn write_each<C: Named, W: Write>(
     requires built { IsWellBuilt (C.claim_of index.now.claims.now)
         (C.range_of index.now.claims.now) index.now.sized.now index.now.begins.now
         index.now.sizes.now index.now.lasting.now index.now.starts.now }
-    ensures { OnOk result (AppendsSome (AreLines (C.claim_of lines.now.claims.now)
+    ensures { OnOk result (AppendsSome (AreLines lines.now.form (C.claim_of lines.now.claims.now)
         (C.name_of lines.now.claims.now) lines.now.file.now lines.now.addresses.now)
         (W.contents out.old) (W.contents out.new)) }
 {
@@ -116,7 +120,7 @@ fn write_each<C: Named, W: Write>(
 
 // A line for each address, by a pass over the symbols for each.
 fn write_slowly<C: Named, W: Write>(lines: &Lines<'_, '_, C>, out: &mut W) -> io::Result<()>
-    ensures { OnOk result (AppendsSome (AreLines (C.claim_of lines.now.claims.now)
+    ensures { OnOk result (AppendsSome (AreLines lines.now.form (C.claim_of lines.now.claims.now)
         (C.name_of lines.now.claims.now) lines.now.file.now lines.now.addresses.now)
         (W.contents out.old) (W.contents out.new)) }
 {
@@ -135,7 +139,7 @@ fn write_line<C: Named, W: Write>(
     out: &mut W,
 ) -> io::Result<()>
     requires { IsInnermost (C.claim_of lines.now.claims.now) address found }
-    ensures { OnOk result (AppendsSome (IsLine (C.claim_of lines.now.claims.now)
+    ensures { OnOk result (AppendsSome (IsLine lines.now.form (C.claim_of lines.now.claims.now)
         (C.name_of lines.now.claims.now) lines.now.file.now address)
         (W.contents out.old) (W.contents out.new)) }
 {
@@ -143,24 +147,29 @@ fn write_line<C: Named, W: Write>(
         Some(claim) => {
             let name = lines.claims.name(claim.index);
             let offset = offset_from(address, claim.begin);
-            write_place(name, offset, out)
+            write_place(lines.form, address, "symbol", name, offset, out)
         }
-        None => write_section(lines.file, address, out),
+        None => write_section(lines.form, lines.file, address, out),
     }
 }
 
 // The line of an address in no symbol.
-fn write_section<W: Write>(file: &ElfFile<'_>, address: u64, out: &mut W) -> io::Result<()>
-    ensures { OnOk result (AppendsSome (IsSectionLine file.now address)
+fn write_section<W: Write>(
+    form: Form,
+    file: &ElfFile<'_>,
+    address: u64,
+    out: &mut W,
+) -> io::Result<()>
+    ensures { OnOk result (AppendsSome (IsSectionLine form file.now address)
         (W.contents out.old) (W.contents out.new)) }
 {
     match section_at(file, address) {
         Some((_index, section)) => {
             let name = or_mark(file.section_name(&section));
             let offset = offset_from(address, section.address());
-            write_place(name, offset, out)
+            write_place(form, address, "section", name, offset, out)
         }
-        None => out.write_all(b"?\n"),
+        None => write_nowhere(form, address, out),
     }
 }
 
@@ -172,13 +181,92 @@ fn offset_from(address: u64, first: u64) -> u64
     address.saturating_sub(first)
 }
 
-// A name and an offset, as a line.
-fn write_place<W: Write>(name: &[u8], offset: u64, out: &mut W) -> io::Result<()>
+// The line of an address in a symbol or a section, by its name and the offset there.
+fn write_place<W: Write>(
+    form: Form,
+    address: u64,
+    key: &str,
+    name: &[u8],
+    offset: u64,
+    out: &mut W,
+) -> io::Result<()>
+    ensures { OnOk result (Appends (W.contents out.old) (W.contents out.new)
+        (place_line form address key.now name.now offset)) }
+{
+    match form {
+        Form::Text => write_text(name, offset, out),
+        Form::Json => write_record(address, key, name, offset, out),
+    }
+}
+
+// The line of an address that is in none.
+fn write_nowhere<W: Write>(form: Form, address: u64, out: &mut W) -> io::Result<()>
+    ensures { OnOk result (Appends (W.contents out.old) (W.contents out.new)
+        (nowhere_line form address)) }
+{
+    match form {
+        Form::Text => out.write_all(b"?\n"),
+        Form::Json => write_null(address, out),
+    }
+}
+
+// A name and an offset, as a line of text.
+fn write_text<W: Write>(name: &[u8], offset: u64, out: &mut W) -> io::Result<()>
     ensures { OnOk result (Appends (W.contents out.old) (W.contents out.new)
         (place_text name.now offset)) }
 {
     write_name(name, out)?;
     write!(out, "{}", Offset(offset))
+}
+
+// An address, a name and an offset, as JSON.
+fn write_record<'x, W: Write>(
+    address: u64,
+    key: &'x str,
+    name: &'x [u8],
+    offset: u64,
+    out: &mut W,
+) -> io::Result<()>
+    ensures { OnOk result (Appends (W.contents out.old) (W.contents out.new)
+        (place_record address key.now name.now offset)) }
+{
+    let members = [
+        Member {
+            key: "address",
+            value: Value::Number(address),
+        },
+        Member {
+            key,
+            value: Value::Name(name),
+        },
+        Member {
+            key: "offset",
+            value: Value::Number(offset),
+        },
+    ];
+    write_json(&members, out)
+}
+
+// An address that is in no symbol and no section, as JSON.
+fn write_null<W: Write>(address: u64, out: &mut W) -> io::Result<()>
+    ensures { OnOk result (Appends (W.contents out.old) (W.contents out.new)
+        (nowhere_line Json address)) }
+{
+    let members = [
+        Member {
+            key: "address",
+            value: Value::Number(address),
+        },
+        Member {
+            key: "symbol",
+            value: Value::Null,
+        },
+        Member {
+            key: "section",
+            value: Value::Null,
+        },
+    ];
+    write_json(&members, out)
 }
 
 // An offset in hexadecimal, and the end of its line.

@@ -5,7 +5,7 @@
 //! either. `elfaddr PATH -` reads the addresses from standard input, one on a line. The symbols are
 //! those of `.symtab` if the file has it, otherwise those of its separate debug file, if there is one,
 //! otherwise those of the dynamic segment. `--debug DIR` before the path is the folder of debug files,
-//! and `--no-debug` looks for none. `--dynamic` asks for the symbols of the dynamic segment, and
+//! and `--no-debug` looks for none. `--json` writes each line as a JSON object. `--dynamic` asks for the symbols of the dynamic segment, and
 //! `--dladdr` for those that `dladdr` finds. `elfaddr --stack` copies standard input, with such a name
 //! in place of the address in each line that glibc's `backtrace_symbols` wrote.
 #![tactic(auto)]
@@ -25,15 +25,17 @@ use crate::debug::debug_bytes;
 use crate::print::print_file;
 use crate::stack::{path_of, write_stack_line};
 use elf_linking::LinkError;
+use program_debug::{DEBUG_FOLDER, is_file};
+use program_ends::json::Form;
 use program_ends::{
     CLOSED, Fault, Watched, arguments, exit_code, quiet_status_of, read_whole, say, write_about,
 };
 use std::alloc::Global;
 use std::convert::AsStr;
 use std::fs::File;
+use std::io;
 use std::io::{BufRead, BufReader, Read, Write};
 use std::process::ExitCode;
-use std::{fs, io};
 use xmas_elf::ElfFile;
 
 mod debug;
@@ -45,16 +47,14 @@ mod stack;
 const NAME: &str = "elfaddr";
 
 const USAGE: &str =
-    "elfaddr [--debug DIR | --no-debug] (--stack | [--dynamic | --dladdr] <binary_path> (<address>.. | -))";
-
-// The folder of debug files where no option names another.
-const DEBUG_FOLDER: &str = "/usr/lib/debug";
+    "elfaddr [--debug DIR | --no-debug] (--stack | [--json] [--dynamic | --dladdr] <binary_path> (<address>.. | -))";
 
 const HELP: &str =
     "Prints the symbol that each address of a file is in, and the offset there; otherwise the section.
 Addresses are in hexadecimal; - reads them from standard input, one on a line.
 A file without a symbol table has the symbols of its separate debug file, if there is one. Symbols in
 .gnu_debugdata and on servers (debuginfod) are left out.
+--json       a JSON object for each address, on a line of its own
 --dynamic    by the dynamic symbols, also if the file has a symbol table
 --dladdr     by the symbols that dladdr finds
 --debug DIR  the folder of debug files, /usr/lib/debug without it
@@ -77,6 +77,8 @@ pub enum Source {
 pub struct Options<'a> {
     /// The symbols that name addresses.
     pub source: Source,
+    /// How lines are written.
+    pub form: Form,
     /// The folder of debug files; `None` if no debug file is looked for.
     pub debug: Option<&'a str>,
 }
@@ -174,9 +176,10 @@ fn print_named<'a, W: Write + Drop, E: Write>(
         (IsFault path.entry (IsNamedError options.entry input.entry)
         (AreNamedThere options.entry input.entry)) }
 {
+    let (form, source) = (options.form, options.source);
     match debug_bytes(rt, path, options, input, err) {
-        Ok(Some(debug)) => print_input(rt.alloc(), path, &debug, options.source, addresses, out),
-        Ok(None) => print_input(rt.alloc(), path, input, options.source, addresses, out),
+        Ok(Some(debug)) => print_input(rt.alloc(), path, &debug, form, source, addresses, out),
+        Ok(None) => print_input(rt.alloc(), path, input, form, source, addresses, out),
         Err(_) => Err(Fault::Memory),
     }
 }
@@ -186,18 +189,19 @@ fn print_input<'a, W: Write + Drop>(
     alloc: Global,
     path: &'a str,
     input: &[u8],
+    form: Form,
     source: Source,
     addresses: &[u64],
     out: W,
 ) -> Result<W, Fault<'a, LinkError>>
     ensures { MatchResult result
-        (λ back. AppendsSome (AreInputLines source addresses.now input.entry)
+        (λ back. AppendsSome (AreInputLines form source addresses.now input.entry)
         (W.contents out) (W.contents back))
         (IsFault path.entry (AreInputFailed source input.entry)
         (AreInputThere source input.entry)) }
 {
     match ElfFile::new(input) {
-        Ok(file) => print_file(alloc, path, &file, source, addresses, out),
+        Ok(file) => print_file(alloc, path, &file, form, source, addresses, out),
         Err(error) => Err(Fault::Failed {
             path,
             error: LinkError::Elf(error),
@@ -225,7 +229,10 @@ fn run_on_arguments(rt: &HostRuntime) -> io::Result<u8> {
     }
     let (options, words) = options_of(&words);
     match words.split_first() {
-        Some((word, [])) if word.as_str() == "--stack" => run_on_stack(rt, options),
+        Some((word, [])) if word.as_str() == "--stack" => match options.form {
+            Form::Text => run_on_stack(rt, options),
+            Form::Json => Ok(say("usage", &USAGE, &mut rt.stdout())),
+        },
         Some((path, [word])) if word.as_str() == "-" => {
             let text = io::read_to_string(rt.alloc(), rt.stdin())?;
             run_on_lines(rt, path.as_str(), options, &text)
@@ -320,14 +327,6 @@ fn input_at<'o>(
     })
 }
 
-// Whether there is a regular file at a path.
-pub(crate) fn is_file(rt: &HostRuntime, path: &str) -> bool {
-    match fs::metadata(rt, path) {
-        Ok(known) => known.is_file(),
-        Err(_) => false,
-    }
-}
-
 // The status for the addresses on the lines of a text.
 fn run_on_lines(rt: &HostRuntime, path: &str, options: Options<'_>, text: &str) -> io::Result<u8> {
     let mut addresses = Vec::new(rt.alloc());
@@ -351,6 +350,7 @@ fn run_on_file(rt: &HostRuntime, path: &str, options: Options<'_>, addresses: &[
 fn options_of<S: AsStr>(words: &[S]) -> (Options<'_>, &[S]) {
     let mut options = Options {
         source: Source::Symtab,
+        form: Form::Text,
         debug: Some(DEBUG_FOLDER),
     };
     let mut rest = words;
@@ -374,6 +374,7 @@ fn with_option<'w, S: AsStr>(
     match first.as_str() {
         "--dynamic" => options.source = Source::Dynamic,
         "--dladdr" => options.source = Source::Dladdr,
+        "--json" => options.form = Form::Json,
         "--no-debug" => options.debug = None,
         "--debug" => {
             let (folder, after) = rest.split_first()?;

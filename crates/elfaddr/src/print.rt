@@ -21,6 +21,7 @@ use elf_addresses::dladdr::{DladdrSymbols, Reach, fill_reached};
 use elf_addresses::{AddressSymbols, SymbolClaims};
 use elf_linking::view::{DynamicView, LinkedSymbol, strings};
 use elf_linking::{AnyTable, DynamicObject, LinkError};
+use program_ends::json::Form;
 use program_ends::{Fault, fault_of, write_buffered};
 use std::alloc::Global;
 use std::io::Write;
@@ -33,20 +34,21 @@ pub(crate) fn print_file<'a, W: Write + Drop>(
     alloc: Global,
     path: &'a str,
     file: &ElfFile<'_>,
+    form: Form,
     source: Source,
     addresses: &[u64],
     out: W,
 ) -> Result<W, Fault<'a, LinkError>>
     ensures { let asked = AreOfFile file.now source in
-        MatchResult result (λ back. AppendsSome (AreLinesBy asked file.now addresses.now)
+        MatchResult result (λ back. AppendsSome (AreLinesBy form asked file.now addresses.now)
         (W.contents out) (W.contents back))
         (IsFault path.entry (AreFailedOfFile file.now source) (AreThere asked)) }
 {
     if file.header.pt1.class.raw() == 1 {
-        return print_by::<DynEntry32, W>(alloc, path, file, source, addresses, out);
+        return print_by::<DynEntry32, W>(alloc, path, file, form, source, addresses, out);
     }
     // A file is of class 32 or 64.
-    print_by::<DynEntry64, W>(alloc, path, file, source, addresses, out)
+    print_by::<DynEntry64, W>(alloc, path, file, form, source, addresses, out)
 }
 
 // The lines by symbols of this type.
@@ -54,19 +56,20 @@ fn print_by<'a, D: LinkedSymbol, W: Write + Drop>(
     alloc: Global,
     path: &'a str,
     file: &ElfFile<'_>,
+    form: Form,
     source: Source,
     addresses: &[u64],
     out: W,
 ) -> Result<W, Fault<'a, LinkError>>
     ensures { let asked = AreAsked D.CLASS (kind D.SIZE D.value D.fields) file.now source in
-        MatchResult result (λ back. AppendsSome (AreLinesBy asked file.now addresses.now)
+        MatchResult result (λ back. AppendsSome (AreLinesBy form asked file.now addresses.now)
         (W.contents out) (W.contents back))
         (IsFault path.entry (AreFailed D.CLASS D.SIZE file.now source) (AreThere asked)) }
 {
     match source {
-        Source::Symtab => print_symtab::<D, W>(alloc, path, file, addresses, out),
-        Source::Dynamic => print_dynamic::<D, W>(alloc, path, file, addresses, out),
-        Source::Dladdr => print_dladdr::<D, W>(alloc, path, file, addresses, out),
+        Source::Symtab => print_symtab::<D, W>(alloc, path, file, form, addresses, out),
+        Source::Dynamic => print_dynamic::<D, W>(alloc, path, file, form, addresses, out),
+        Source::Dladdr => print_dladdr::<D, W>(alloc, path, file, form, addresses, out),
     }
 }
 
@@ -75,16 +78,17 @@ fn print_symtab<'a, D: LinkedSymbol, W: Write + Drop>(
     alloc: Global,
     path: &'a str,
     file: &ElfFile<'_>,
+    form: Form,
     addresses: &[u64],
     out: W,
 ) -> Result<W, Fault<'a, LinkError>>
     ensures { let asked = FromFile D.CLASS (kind D.SIZE D.value D.fields) file.now in
-        MatchResult result (λ back. AppendsSome (AreLinesBy asked file.now addresses.now)
+        MatchResult result (λ back. AppendsSome (AreLinesBy form asked file.now addresses.now)
         (W.contents out) (W.contents back))
         (IsFault path.entry (HasNoSymbols D.CLASS D.SIZE file.now) (AreThere asked)) }
 {
     match AddressSymbols::<D>::of_file(file) {
-        Ok(symbols) => print_symbols(alloc, path, file, &symbols, addresses, out),
+        Ok(symbols) => print_symbols(alloc, path, file, &symbols, form, addresses, out),
         Err(error) => Err(Fault::Failed { path, error }),
     }
 }
@@ -94,16 +98,17 @@ fn print_dynamic<'a, D: LinkedSymbol, W: Write + Drop>(
     alloc: Global,
     path: &'a str,
     file: &ElfFile<'_>,
+    form: Form,
     addresses: &[u64],
     out: W,
 ) -> Result<W, Fault<'a, LinkError>>
     ensures { let asked = FromDynamic D.CLASS (kind D.SIZE D.value D.fields) file.now in
-        MatchResult result (λ back. AppendsSome (AreLinesBy asked file.now addresses.now)
+        MatchResult result (λ back. AppendsSome (AreLinesBy form asked file.now addresses.now)
         (W.contents out) (W.contents back))
         (IsFault path.entry (IsObjectError D.CLASS D.SIZE file.now) (AreThere asked)) }
 {
     match AddressSymbols::<D>::of_dynamic(file) {
-        Ok(symbols) => print_symbols(alloc, path, file, &symbols, addresses, out),
+        Ok(symbols) => print_symbols(alloc, path, file, &symbols, form, addresses, out),
         Err(error) => Err(Fault::Failed { path, error }),
     }
 }
@@ -114,11 +119,12 @@ fn print_symbols<'a, E: Entry + Record, W: Write + Drop>(
     path: &'a str,
     file: &ElfFile<'_>,
     symbols: &AddressSymbols<'_, E>,
+    form: Form,
     addresses: &[u64],
     out: W,
 ) -> Result<W, Fault<'a, LinkError>>
     ensures { MatchResult result
-        (λ back. AppendsSome (AreLines (claims_of E.fields (parts_in symbols.now))
+        (λ back. AppendsSome (AreLines form (claims_of E.fields (parts_in symbols.now))
         (name_in E.fields (symbol_items symbols.now) symbols.now.strings.now) file.now
         addresses.now) (W.contents out) (W.contents back))
         (IsFault path.entry (λ error. ⊥) ⊤) }
@@ -127,7 +133,7 @@ fn print_symbols<'a, E: Entry + Record, W: Write + Drop>(
         symbols,
         within: None,
     };
-    print_lines(alloc, path, file, &claims, addresses, out)
+    print_lines(alloc, path, file, &claims, form, addresses, out)
 }
 
 // The lines by the symbols that `dladdr` finds.
@@ -135,17 +141,18 @@ fn print_dladdr<'a, D: LinkedSymbol, W: Write + Drop>(
     alloc: Global,
     path: &'a str,
     file: &ElfFile<'_>,
+    form: Form,
     addresses: &[u64],
     out: W,
 ) -> Result<W, Fault<'a, LinkError>>
     ensures { let asked = FromDladdr D.CLASS (kind D.SIZE D.value D.fields) file.now in
-        MatchResult result (λ back. AppendsSome (AreLinesBy asked file.now addresses.now)
+        MatchResult result (λ back. AppendsSome (AreLinesBy form asked file.now addresses.now)
         (W.contents out) (W.contents back))
         (IsFault path.entry (IsDladdrError D.CLASS D.SIZE file.now) (AreThere asked)) }
 {
     match object_with_strings::<D>(file) {
         Ok((object, strings)) => {
-            print_reached(alloc, path, file, &object, strings, addresses, out)
+            print_reached(alloc, path, file, &object, strings, form, addresses, out)
         }
         Err(error) => Err(Fault::Failed { path, error }),
     }
@@ -189,13 +196,14 @@ fn print_reached<'a, 'f, D: LinkedSymbol, W: Write + Drop>(
     file: &ElfFile<'_>,
     object: &DynamicObject<'f, D>,
     strings: &'f [u8],
+    form: Form,
     addresses: &[u64],
     out: W,
 ) -> Result<W, Fault<'a, LinkError>>
     requires object { IsDladdrObject D.CLASS D.SIZE file.now object.now }
     requires strings { dynamic_strings_of file.now ≡ Ok strings.now }
     ensures { let asked = FromDladdr D.CLASS (kind D.SIZE D.value D.fields) file.now in
-        MatchResult result (λ back. AppendsSome (AreLinesBy asked file.now addresses.now)
+        MatchResult result (λ back. AppendsSome (AreLinesBy form asked file.now addresses.now)
         (W.contents out) (W.contents back))
         (IsFault path.entry (IsDladdrError D.CLASS D.SIZE file.now) (AreThere asked)) }
 {
@@ -211,7 +219,7 @@ fn print_reached<'a, 'f, D: LinkedSymbol, W: Write + Drop>(
         strings,
         reach,
     };
-    print_lines(alloc, path, file, &symbols, addresses, out)
+    print_lines(alloc, path, file, &symbols, form, addresses, out)
 }
 
 // The symbols that a hash table reaches, in words for GNU's.
@@ -233,16 +241,18 @@ fn print_lines<'a, C: Named, W: Write + Drop>(
     path: &'a str,
     file: &ElfFile<'_>,
     claims: &C,
+    form: Form,
     addresses: &[u64],
     out: W,
 ) -> Result<W, Fault<'a, LinkError>>
     ensures { MatchResult result
-        (λ back. AppendsSome (AreLines (C.claim_of claims.now) (C.name_of claims.now) file.now
+        (λ back. AppendsSome (AreLines form (C.claim_of claims.now) (C.name_of claims.now) file.now
         addresses.now) (W.contents out) (W.contents back))
         (IsFault path.entry (λ error. ⊥) ⊤) }
 {
     let lines = Lines {
         alloc,
+        form,
         file,
         claims,
         addresses,

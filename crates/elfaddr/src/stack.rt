@@ -7,9 +7,11 @@ ghost use Rattle.elfaddr.specs.Ends.{AreInputLines};
 ghost use Rattle.elfaddr.specs.Stack.{IsAddress, IsPlace, IsStackLine, digits_of};
 ghost use Rattle.elfaddr.specs.declared.Source.TheVariants.{Symtab};
 ghost use Rattle.program_ends.specs.Appended.{AppendsSome};
+ghost use Rattle.program_ends.specs.declared.json.Form.TheVariants.{Text};
 
 use crate::{Source, print_input};
 use memchr::{memchr, memrchr};
+use program_ends::json::Form;
 use std::alloc::Global;
 use std::io::Write;
 use std::{io, str};
@@ -133,10 +135,18 @@ pub fn write_stack_line<W: Write>(
 // The line of an address of a file; `None` if no section contains it, or there is no such line.
 #[tactic(auto, using(crate::proofs::Replaced::only_line))]
 fn text_at(alloc: Global, input: &[u8], address: u64) -> Option<Vec<u8>>
-    ensures { IfSome result (λ text. AreInputLines Symtab (address ∷ []) input.entry text.items) }
+    ensures { IfSome result (λ text. AreInputLines Text Symtab (address ∷ []) input.entry text.items) }
 {
     let lines = Vec::new(alloc);
-    match print_input(alloc, "", input, Source::Symtab, &[address], lines) {
+    match print_input(
+        alloc,
+        "",
+        input,
+        Form::Text,
+        Source::Symtab,
+        &[address],
+        lines,
+    ) {
         Ok(text) if !text.starts_with(b"?\n") => Some(text),
         _ => None,
     }

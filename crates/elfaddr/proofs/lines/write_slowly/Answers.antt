@@ -23,8 +23,8 @@ loop-address-preserved g c =
     let longer : take (index + 1) addresses ≡ take index addresses ++ (item ∷ []) =
     take_more addresses index 0 below in (
       lines ++ (line ∷ []),
-      subst (λ xs. AllZip (λ address text. IsLine (g.C.Claims.claim_of claims) (g.C.Named.name_of claims) file address text) xs (lines ++ (line ∷ []))) (sym longer)
-          (zip_one_more (λ address text. IsLine (g.C.Claims.claim_of claims) (g.C.Named.name_of claims) file address text) (take index addresses) lines item line each is_line),
+      subst (λ xs. AllZip (λ address text. IsLine c.args.lines.now.form (g.C.Claims.claim_of claims) (g.C.Named.name_of claims) file address text) xs (lines ++ (line ∷ []))) (sym longer)
+          (zip_one_more (λ address text. IsLine c.args.lines.now.form (g.C.Claims.claim_of claims) (g.C.Named.name_of claims) file address text) (take index addresses) lines item line each is_line),
       subst (λ (t : List ℕ). Appends (g.W.Write.contents c.args.out.now) (g.W.Write.contents c.write_line.new.out) t) (sym (concat_one_more lines line))
           (Appends-trans _ _ _ _ _ grown more),
     )

@@ -10,5 +10,5 @@ returns-in-Ok g c =
     let class = g.D.LinkedSymbol.CLASS in
     let symbols = c.in-Ok.symbols in
     let of_type = kind g.D.Record.SIZE g.D.Record.value g.D.Entry.fields in
-    printed_by g.W.Write.contents c.args.path c.args.addresses.now _ file (FromDynamic class of_type file) (IsObjectError class g.D.Record.SIZE file) _ _ c.print_symbols.result
+    printed_by g.W.Write.contents c.args.path c.args.form c.args.addresses.now _ file (FromDynamic class of_type file) (IsObjectError class g.D.Record.SIZE file) _ _ c.print_symbols.result
     (from_dynamic (parts_in symbols) (dynamic_parts class g.D.Entry.fields file symbols c.in-Ok.ensures)) c.print_symbols.ensures

@@ -18,7 +18,7 @@ returns g c =
     let is = c.requires.object in
     let table_is = c.table-table.ensures ∙ c.symbols.ensures.table in
     let counted : length c.deref_mut.result.now ≡ length (table_items c.table-table.result) = first_of (cc, grind (arith, common_steps), search rules) in
-    printed_by g.W.Write.contents c.args.path c.args.addresses.now _ file (FromDladdr class of_type file) (IsDladdrError class g.D.Record.SIZE file) _ _ c.print_lines.result
+    printed_by g.W.Write.contents c.args.path c.args.form c.args.addresses.now _ file (FromDladdr class of_type file) (IsDladdrError class g.D.Record.SIZE file) _ _ c.print_lines.result
     (from_dladdr (table_items c.table-table.result) c.args.strings.now c.reach_by-reach.result (record {
       entries = view_entries (object_view object);
       table = object_table object;

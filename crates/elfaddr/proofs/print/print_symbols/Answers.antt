@@ -11,5 +11,5 @@ pub returns : goal.returns
 returns g c =
     let symbols = c.args.symbols.now in
     let fields = g.E.Entry.fields in
-    subst (λ claim_of. MatchResult c.print_lines.result (λ back. AppendsSome (AreLines claim_of (name_in fields (symbol_items symbols) symbols.strings.now) c.args.file.now c.args.addresses.now) (g.W.Write.contents c.args.out) (g.W.Write.contents back)) (IsFault c.args.path (λ error. ⊥) ⊤))
+    subst (λ claim_of. MatchResult c.print_lines.result (λ back. AppendsSome (AreLines c.args.form claim_of (name_in fields (symbol_items symbols) symbols.strings.now) c.args.file.now c.args.addresses.now) (g.W.Write.contents c.args.out) (g.W.Write.contents back)) (IsFault c.args.path (λ error. ⊥) ⊤))
     (same_claims fields symbols) c.print_lines.ensures

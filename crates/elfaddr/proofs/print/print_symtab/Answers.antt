@@ -9,5 +9,5 @@ returns-in-Ok g c =
     let file = c.args.file.now in
     let class = g.D.LinkedSymbol.CLASS in
     let of_type = kind g.D.Record.SIZE g.D.Record.value g.D.Entry.fields in
-    printed_by g.W.Write.contents c.args.path c.args.addresses.now _ file (FromFile class of_type file) (HasNoSymbols class g.D.Record.SIZE file) _ _ c.print_symbols.result
+    printed_by g.W.Write.contents c.args.path c.args.form c.args.addresses.now _ file (FromFile class of_type file) (HasNoSymbols class g.D.Record.SIZE file) _ _ c.print_symbols.result
     (from_file class g.D.Entry.fields file c.in-Ok.symbols c.in-Ok.ensures) c.print_symbols.ensures
