@@ -8,7 +8,7 @@ use Rattle.std.proofs.lemmas.List.Sums.{sum_by_push}
 use Rattle.elfsize.specs.Ends.{AreEnds, IsEndAt, printed, printed_by_all, status_of_all, sums_after, sums_of_all}
 use Rattle.elfsize.specs.declared.lines.AnyError.{AnyError}
 use Rattle.elfsize.specs.declared.sums.Sums.{Sums}
-use Rattle.elfsize.specs.declared.view.View.{View}
+use Rattle.elfsize.specs.declared.view.Options.{Options}
 use Rattle.program_ends.specs.Ends.{status_of}
 use Rattle.program_ends.specs.declared.Fault.{Fault}
 use Rattle.program_ends.proofs.LineLists.{zip_one_more}
@@ -80,15 +80,15 @@ sums_push ends (Err fault) = same_sums _ _ _ _ _ _ _ _ _ _ _ _ _ _
     (none_more (λ (s : Sums). s.after) ends fault)
 
 -- one more file ends
-pub one_more_end : {R S : Type 0} (view : View) (remaining : R → Option (List ℕ)) (text : S → List ℕ) (paths : List S) (index : ℕ) (path : S) (status own more : ℕ) (old new : Sums) (end : Result Sums (Fault AnyError)) → index < length paths → path ≡ get_or paths index path → AreEnds view remaining text (take index paths) status old → IsEndAt view remaining (text path) end → own ≡ status_of end → more ≡ max own status → new ≡ sums_after old end → AreEnds view remaining text (take (index + 1) paths) more new
-one_more_end {R} {S} view remaining text paths index path status own more old new end below path_is so_far ended own_is more_is new_is =
-    subst (λ (l : List S). AreEnds view remaining text l more new) (sym (take_more paths index path below ∙ ap (λ x. take index paths ++ (x ∷ [])) (sym path_is))) (record {
+pub one_more_end : {R S : Type 0} (options : Options) (remaining : R → Option (List ℕ)) (text : S → List ℕ) (paths : List S) (index : ℕ) (path : S) (status own more : ℕ) (old new : Sums) (end : Result Sums (Fault AnyError)) → index < length paths → path ≡ get_or paths index path → AreEnds options remaining text (take index paths) status old → IsEndAt options remaining (text path) end → own ≡ status_of end → more ≡ max own status → new ≡ sums_after old end → AreEnds options remaining text (take (index + 1) paths) more new
+one_more_end {R} {S} options remaining text paths index path status own more old new end below path_is so_far ended own_is more_is new_is =
+    subst (λ (l : List S). AreEnds options remaining text l more new) (sym (take_more paths index path below ∙ ap (λ x. take index paths ++ (x ∷ [])) (sym path_is))) (record {
       ends = so_far.ends ++ (end ∷ []);
-      are = zip_one_more (λ one other. IsEndAt view remaining (text one) other) (take index paths) so_far.ends path end so_far.are ended;
+      are = zip_one_more (λ one other. IsEndAt options remaining (text one) other) (take index paths) so_far.ends path end so_far.are ended;
       status_is = more_is ∙ (ap (λ n. max n status) own_is ∙ (ap (λ n. max (status_of end) n) so_far.status_is ∙ sym (status_push so_far.ends end)));
       sums_are = new_is ∙ (ap (λ sums. sums_after sums end) so_far.sums_are ∙ sym (sums_push so_far.ends end));
     })
 
 -- no file has ended
-pub none_ended : {R S : Type 0} (view : View) (remaining : R → Option (List ℕ)) (text : S → List ℕ) (sums : Sums) → sums ≡ sums_of_all [] → AreEnds view remaining text [] 0 sums
-none_ended view remaining text sums none = record { ends = []; are = tt; status_is = refl; sums_are = none }
+pub none_ended : {R S : Type 0} (options : Options) (remaining : R → Option (List ℕ)) (text : S → List ℕ) (sums : Sums) → sums ≡ sums_of_all [] → AreEnds options remaining text [] 0 sums
+none_ended options remaining text sums none = record { ends = []; are = tt; status_is = refl; sums_are = none }

@@ -1,3 +1,4 @@
+pub mod Alike
 mod FileEnds
 mod NoSections
 mod Inputs

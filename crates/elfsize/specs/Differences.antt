@@ -1,6 +1,6 @@
 -- What the program writes of two files (this project's own): a line for each part whose size differs, and the bytes by
 -- kind of part.
-use Rattle.std.specs.Prelude.{◌≡◌, ℕ, ◌+◌, ◌-◌, ◌/◌, ◌%◌, ◌++◌, ◌==◌, ◌⊎◌, Bool, false, List, [], Option, None, Some, Result, Ok, Err, codes, decimal, if◌then◌else◌, length, nat_lt, ⊤}
+use Rattle.std.specs.Prelude.{◌≡◌, ℕ, ◌+◌, ◌-◌, ◌/◌, ◌%◌, ◌++◌, ◌==◌, ◌⊎◌, Bool, false, true, List, [], Option, None, Some, Result, Ok, Err, codes, decimal, if◌then◌else◌, length, nat_lt, ⊤}
 use Rattle.std.specs.Borrow.{Bor}
 use Rattle.std.specs.List.{AllZip, flat_map, sum_by}
 use Rattle.elf_addresses.specs.Differences.{AreDifferences, all_sizes, distance, growth, new_size, old_size, shown, shrinkage}
@@ -8,10 +8,11 @@ use Rattle.elf_addresses.specs.FileClaims.{byte_count}
 use Rattle.elf_addresses.specs.declared.difference.Change.{Change}
 use Rattle.elf_addresses.specs.declared.difference.Change.TheVariants.{Both, Gone, New}
 use Rattle.elf_addresses.specs.declared.difference.SizedPart.{SizedPart}
-use Rattle.elfsize.specs.Ends.{IsFault, OfFile}
-use Rattle.elfsize.specs.Lines.{AreFileSizes, IsInputError, OfHeader, other_text, part_name}
+use Rattle.elfsize.specs.Ends.{IsFault, IsFaultOf, OfFile}
+use Rattle.elfsize.specs.Json.{capped, change_record}
+use Rattle.elfsize.specs.Lines.{AreFileSizes, kind_word, name_of, other_text, part_name}
+use Rattle.elfsize.specs.Sides.{IsInputError, IsInputThere, IsSide}
 use Rattle.elfsize.specs.Sums.{AreSums}
-use Rattle.elfsize.specs.Symbols.{AreSymbols}
 use Rattle.elfsize.specs.declared.changes.Kinds.{Kinds}
 use Rattle.elfsize.specs.declared.difference.Comparison.{Comparison}
 use Rattle.elfsize.specs.declared.difference.Lengths.{Lengths}
@@ -20,6 +21,9 @@ use Rattle.elfsize.specs.declared.side.Side.{Side}
 use Rattle.elfsize.specs.declared.sums.Sums.{Sums}
 use Rattle.elfsize.specs.declared.symbols.Symbols.{Symbols}
 use Rattle.elfsize.specs.declared.totals.Run.{Run}
+use Rattle.program_ends.specs.declared.json.Form.{Form}
+use Rattle.program_ends.specs.declared.json.Form.TheVariants as forms
+use Rattle.elfsize.specs.declared.view.Options.{Options}
 use Rattle.elfsize.specs.declared.view.View.{View}
 use Rattle.program_ends.specs.Names.{escaped}
 use Rattle.program_ends.specs.declared.Fault.{Fault}
@@ -71,23 +75,35 @@ kind_text part =
 abbrev pub start_of : ℕ → ℕ → List ℕ → ℕ → List ℕ
 start_of old new mark part = step_text old new ++ (mark ++ kind_text part)
 
+-- the index of a part that has no name
+abbrev pub segment_index : ℕ → Option ℕ
+segment_index part = if part % 4 == 1 then Some (part / 4) else None
+
+-- whether a part came or went, in one word
+abbrev pub state_word : Change → Option (List ℕ)
+state_word (Gone old) = Some (codes "gone")
+state_word (New new) = Some (codes "new")
+state_word (Both old new) = None
+
 -- the line of a part
-abbrev pub different_text : Change → List ℕ
-different_text change =
+abbrev pub different_text : Form → Change → List ℕ
+different_text forms.Text change =
     start_of (old_size change) (new_size change) (mark_text change) (shown change).place
     ++ (escaped (shown change).name.now ++ codes "\n")
+different_text forms.Json change = change_record (kind_word (shown change).place) (segment_index (shown change).place)
+    (name_of (shown change).place (shown change).name.now) (state_word change) (old_size change) (new_size change) false
 
 -- none if its size is the same
-abbrev pub change_text : Change → List ℕ
-change_text change = if distance change == 0 then [] else different_text change
+abbrev pub change_text : Form → Change → List ℕ
+change_text form change = if distance change == 0 then [] else different_text form change
 
 -- the line of a kind
 unfoldable pub kind_line : ℕ → ℕ → List ℕ → List ℕ
 kind_line old new kind = step_text old new ++ (kind ++ codes "\n")
 
 -- the bytes by kind, and those of the files
-abbrev pub kinds_text : Sums → Sums → ℕ → ℕ → List ℕ
-kinds_text old new old_bytes new_bytes =
+abbrev pub kinds_lines : Sums → Sums → ℕ → ℕ → List ℕ
+kinds_lines old new old_bytes new_bytes =
     codes "all parts\n" ++ (kind_line old.sections new.sections (codes "sections")
     ++ (kind_line old.segments new.segments (codes "segments")
     ++ (kind_line old.elf_headers new.elf_headers (codes "ELF headers")
@@ -97,13 +113,32 @@ kinds_text old new old_bytes new_bytes =
     ++ (kind_line old.after new.after (codes "after all parts")
     ++ kind_line old_bytes new_bytes (codes "sum"))))))))
 
+-- the same as JSON
+unfoldable pub kind_record : ℕ → ℕ → List ℕ → List ℕ
+kind_record old new kind = change_record kind None None None (capped old) (capped new) true
+
+abbrev pub kinds_records : Sums → Sums → ℕ → ℕ → List ℕ
+kinds_records old new old_bytes new_bytes = kind_record old.sections new.sections (codes "sections")
+    ++ (kind_record old.segments new.segments (codes "segments")
+    ++ (kind_record old.elf_headers new.elf_headers (codes "ELF headers")
+    ++ (kind_record old.program_headers new.program_headers (codes "program headers")
+    ++ (kind_record old.section_headers new.section_headers (codes "section headers")
+    ++ (kind_record old.between new.between (codes "between parts")
+    ++ (kind_record old.after new.after (codes "after all parts")
+    ++ kind_record old_bytes new_bytes (codes "sum")))))))
+
+abbrev pub kinds_text : Form → Kinds → List ℕ
+kinds_text forms.Text kinds = kinds_lines kinds.old kinds.new kinds.old_bytes kinds.new_bytes
+kinds_text forms.Json kinds = kinds_records kinds.old kinds.new kinds.old_bytes kinds.new_bytes
+
 -- what is written of changes, and of the kinds
-abbrev pub found_text : List Change → Kinds → List ℕ
-found_text changes kinds = flat_map change_text changes ++ kinds_text kinds.old kinds.new kinds.old_bytes kinds.new_bytes
+abbrev pub found_text : Form → List Change → Kinds → List ℕ
+found_text form changes kinds = flat_map (change_text form) changes ++ kinds_text form kinds
 
 -- the same of the differences of two lists of parts
-abbrev pub IsChangesText : List SizedPart → List SizedPart → Kinds → List ℕ → Type 0
-IsChangesText old new kinds text = (changes : List Change) × AreDifferences old new changes × (text ≡ found_text changes kinds)
+abbrev pub IsChangesText : Form → List SizedPart → List SizedPart → Kinds → List ℕ → Type 0
+IsChangesText form old new kinds text =
+    (changes : List Change) × AreDifferences old new changes × (text ≡ found_text form changes kinds)
 
 -- the bytes of two files by kind, and their sizes
 pub record AreKinds (old new : ElfFile) (kinds : Kinds) : Type 0 where
@@ -114,7 +149,7 @@ pub record AreKinds (old new : ElfFile) (kinds : Kinds) : Type 0 where
 
 -- what is written of two files: each part of each file is in exactly one difference, and these sum to the difference of
 -- the sizes of the files
-pub record IsDifferenceText (old new : Side) (text : List ℕ) : Type 0 where
+pub record IsDifferenceText (form : Form) (old new : Side) (text : List ℕ) : Type 0 where
   pub old_parts : List SizedPart
   pub new_parts : List SizedPart
   pub changes : List Change
@@ -124,50 +159,41 @@ pub record IsDifferenceText (old new : Side) (text : List ℕ) : Type 0 where
   pub are_changes : AreDifferences old_parts new_parts changes
   pub difference : sum_by growth changes + byte_count old.file ≡ sum_by shrinkage changes + byte_count new.file
   pub are_kinds : AreKinds old.file new.file kinds
-  pub text_is : text ≡ found_text changes kinds
+  pub text_is : text ≡ found_text form changes kinds
 
 -- How the program ends.
 
--- a file of an input, with the symbols that a view asks for
-abbrev pub IsSide : View → Bor (List ℕ) → Side → Type 0
-IsSide view input side = OfHeader input (λ file. (side.file ≡ file) × AreSymbols view file side.symbols)
-
 -- a text of two inputs
-abbrev pub IsPairText : View → Bor (List ℕ) → Bor (List ℕ) → List ℕ → Type 0
-IsPairText view old new text =
-    (old_side : Side) × (new_side : Side) × IsSide view old old_side × IsSide view new new_side × IsDifferenceText old_side new_side text
+unfoldable pub IsPairText : Options → Bor (List ℕ) → Bor (List ℕ) → List ℕ → Type 0
+IsPairText options old new text = (old_side : Side) × (new_side : Side) × IsSide options old old_side × IsSide options new new_side
+    × IsDifferenceText options.form old_side new_side text
 
 -- the lengths of two inputs
 abbrev pub AreLengths : List ℕ → List ℕ → Lengths → Type 0
 AreLengths old new lengths = (lengths.old ≡ length old) × (lengths.new ≡ length new)
 
--- two inputs have the symbols that a view asks for
-abbrev pub AreSides : View → Bor (List ℕ) → Bor (List ℕ) → Type 0
-AreSides view old new = ((side : Side) × IsSide view old side) × ((side : Side) × IsSide view new side)
+-- two inputs have the symbols that are asked for
+abbrev pub AreSides : Options → Bor (List ℕ) → Bor (List ℕ) → Type 0
+AreSides options old new = IsInputThere options old × IsInputThere options new
 
 -- the fault of one of two inputs: an error of its header or of its symbols; a write that failed, if neither has one; or
 -- memory was short
 abbrev pub IsPairFault : Comparison → Bor (List ℕ) → Bor (List ℕ) → Fault AnyError → Type 0
-IsPairFault asked old new fault = IsFault asked.old (IsInputError asked.view old) (AreSides asked.view old new) fault
-    ⊎ IsFault asked.new (IsInputError asked.view new) (AreSides asked.view old new) fault
+IsPairFault asked old new fault = IsFault asked.old (IsInputError asked.options old) (AreSides asked.options old new) fault
+    ⊎ IsFault asked.new (IsInputError asked.options new) (AreSides asked.options old new) fault
 
 -- a property of a view of all bytes of two files
 abbrev pub OfFiles : {R : Type 0} → View → (R → Option (List ℕ)) → Option R → Option R → (Bor (List ℕ) → Bor (List ℕ) → Type 0) → Type 0
 OfFiles view remaining old new P = OfFile view remaining old (λ input. OfFile view remaining new (λ other. P input other))
 
--- the fault of the file at a path; a write failed only if this was so when it did
-abbrev pub IsFaultOf : {R : Type 0} → View → Bor (List ℕ) → (R → Option (List ℕ)) → Option R → Type 0 → Fault AnyError → Type 0
-IsFaultOf view path remaining file Written fault =
-    IsFault path (λ failure. OfFile view remaining file (λ input. IsInputError view input failure)) Written fault
-
 -- how the program ends for two files: there is a text of their difference, and these are their lengths; or the fault
 abbrev pub IsDifferenceEnd : {R : Type 0} → Comparison → (R → Option (List ℕ)) → Option R → Option R → Result Lengths (Fault AnyError) → Type 0
 IsDifferenceEnd asked remaining old new (Ok lengths) =
-    OfFiles asked.view remaining old new (λ input other.
-    ((text : List ℕ) × IsPairText asked.view input other text) × AreLengths input.now other.now lengths)
+    OfFiles asked.options.view remaining old new (λ input other.
+    ((text : List ℕ) × IsPairText asked.options input other text) × AreLengths input.now other.now lengths)
 IsDifferenceEnd asked remaining old new (Err fault) =
-    IsFaultOf asked.view asked.old remaining old (OfFiles asked.view remaining old new (AreSides asked.view)) fault
-    ⊎ IsFaultOf asked.view asked.new remaining new (OfFiles asked.view remaining old new (AreSides asked.view)) fault
+    IsFaultOf asked.options asked.old remaining old (OfFiles asked.options.view remaining old new (AreSides asked.options)) fault
+    ⊎ IsFaultOf asked.options asked.new remaining new (OfFiles asked.options.view remaining old new (AreSides asked.options)) fault
 
 -- the same of what is opened at two paths, or of nothing
 abbrev pub IsDifferenceEndAt : {R : Type 0} → Comparison → (R → Option (List ℕ)) → Result Lengths (Fault AnyError) → Type 0

@@ -3,16 +3,16 @@ use Rattle.std.specs.Prelude.{◌≡◌, ℕ, ◌-◌, ◌<◌, ◌≤◌, ◌^�
 use Rattle.std.specs.Borrow.{Bor}
 use Rattle.std.specs.Io.KnownBytes.{Appends}
 use Rattle.std.specs.List.{AllZip, list_any, sum_by}
-use Rattle.elfsize.specs.Lines.{IsInputError, IsInputText, IsInputThere}
+use Rattle.elfsize.specs.Lines.{IsInputText}
+use Rattle.elfsize.specs.Sides.{IsInputError, IsInputThere}
 use Rattle.elfsize.specs.Sums.{AreInputSums, sums_text, with_sums}
 use Rattle.elfsize.specs.View.{shown}
 use Rattle.elfsize.specs.declared.sums.Sums.{Sums}
 use Rattle.elfsize.specs.declared.lines.AnyError.{AnyError}
 use Rattle.elfsize.specs.declared.lines.AnyError.TheVariants as failures_are
+use Rattle.elfsize.specs.declared.view.Options.{Options}
 use Rattle.elfsize.specs.declared.view.View.{View}
-use Rattle.program_ends.specs.Appended.{AppendsSome}
 use Rattle.program_ends.specs.Ends as ends
-use Rattle.program_ends.specs.Stops.{HasBegun}
 use Rattle.program_ends.specs.declared.Fault.{Fault}
 use Rattle.program_ends.specs.declared.Fault.TheVariants as faults_are
 use Rattle.program_ends.specs.declared.Stop as stops
@@ -41,18 +41,17 @@ abbrev pub OfFile : {R : Type 0} → View → (R → Option (List ℕ)) → Opti
 OfFile view remaining file P = IsSomeAnd file (λ reader. (input : Bor (List ℕ))
     × IfSome (remaining reader) (λ bytes. input.now ≡ shown view bytes) × P input)
 
--- how far the program has come when a write fails
-abbrev pub IsBegun : View → Bor (List ℕ) → Bor (List ℕ) → Type 0
-IsBegun view path input = HasBegun (IsInputThere view input) (AppendsSome (IsInputText view path.now input))
+-- the fault of the file at a path; a write failed only if this was so when it did
+abbrev pub IsFaultOf : {R : Type 0} → Options → Bor (List ℕ) → (R → Option (List ℕ)) → Option R → Type 0 → Fault AnyError → Type 0
+IsFaultOf options path remaining file Written fault =
+    IsFault path (λ failure. OfFile options.view remaining file (λ input. IsInputError options input failure)) Written fault
 
--- how the program ends for a view of the file at a path: there is a text of its sizes, and these are its bytes by kind;
--- or the fault
-abbrev pub IsEnd : {R : Type 0} → View → Bor (List ℕ) → (R → Option (List ℕ)) → Option R → Result Sums (Fault AnyError) → Type 0
-IsEnd view path remaining file (Ok sums) = OfFile view remaining file (λ input.
-    ((text : List ℕ) × IsInputText view path.now input text) × AreInputSums input sums)
-IsEnd view path remaining file (Err fault) = IsFault path
-    (λ failure. OfFile view remaining file (λ input. IsInputError view input failure))
-    (OfFile view remaining file (λ input. IsBegun view path input)) fault
+-- how the program ends for the file at a path: there is a text of its sizes, and these are its bytes by kind; or the fault
+abbrev pub IsEnd : {R : Type 0} → Options → Bor (List ℕ) → (R → Option (List ℕ)) → Option R → Result Sums (Fault AnyError) → Type 0
+IsEnd options path remaining file (Ok sums) = OfFile options.view remaining file (λ input.
+    ((text : List ℕ) × IsInputText options path.now input text) × AreInputSums input sums)
+IsEnd options path remaining file (Err fault) =
+    IsFaultOf options path remaining file (OfFile options.view remaining file (IsInputThere options)) fault
 
 -- the sums after a file: with its bytes, if it was printed
 abbrev pub sums_after : Sums → Result Sums (Fault AnyError) → Sums
@@ -62,9 +61,9 @@ sums_after before (Err fault) = before
 -- All files.
 
 -- the file at a path with this text ends so: of what is opened there, or of nothing
-abbrev pub IsEndAt : {R : Type 0} → View → (R → Option (List ℕ)) → List ℕ → Result Sums (Fault AnyError) → Type 0
-IsEndAt {R} view remaining text end =
-    (path : Bor (List ℕ)) × (path.now ≡ text) × (file : Option R) × IsEnd view path remaining file end
+abbrev pub IsEndAt : {R : Type 0} → Options → (R → Option (List ℕ)) → List ℕ → Result Sums (Fault AnyError) → Type 0
+IsEndAt {R} options remaining text end =
+    (path : Bor (List ℕ)) × (path.now ≡ text) × (file : Option R) × IsEnd options path remaining file end
 
 -- the exit status of files that end so: 1 if one of them has a fault
 abbrev pub status_of_all : List (Result Sums (Fault AnyError)) → ℕ
@@ -92,18 +91,18 @@ sums_of_all ends = record {
 }
 
 -- the files at paths end so, with this exit status and these sums
-pub record AreEnds {R S : Type 0} (view : View) (remaining : R → Option (List ℕ)) (text : S → List ℕ) (paths : List S) (status : ℕ) (sums : Sums) : Type 0 where
+pub record AreEnds {R S : Type 0} (options : Options) (remaining : R → Option (List ℕ)) (text : S → List ℕ) (paths : List S) (status : ℕ) (sums : Sums) : Type 0 where
   pub ends : List (Result Sums (Fault AnyError))
-  pub are : AllZip (λ path end. IsEndAt view remaining (text path) end) paths ends
+  pub are : AllZip (λ path end. IsEndAt options remaining (text path) end) paths ends
   pub status_is : status ≡ status_of_all ends
   pub sums_are : sums ≡ sums_of_all ends
 
 -- the exit status of the program after files: 1 if one of them has a fault, otherwise 0, and after more than one their sums
 -- were appended to what the writer contained; or after more than one it is 1, and nothing is known of their sums
-pub data IsStatus {R S W : Type 0} (view : View) (remaining : R → Option (List ℕ)) (text : S → List ℕ) (contents : W → Option (List ℕ)) (paths : List S) (after : W) (status : ℕ) : Type 0 where
-  few : (sums : Sums) → length paths ≤ 1 → AreEnds view remaining text paths status sums
-      → IsStatus view remaining text contents paths after status
-  summed : (sums : Sums) (before : W) → 1 < length paths → AreEnds view remaining text paths status sums
-      → Appends (contents before) (contents after) (sums_text sums)
-      → IsStatus view remaining text contents paths after status
-  unwritten : 1 < length paths → status ≡ 1 → IsStatus view remaining text contents paths after status
+pub data IsStatus {R S W : Type 0} (options : Options) (remaining : R → Option (List ℕ)) (text : S → List ℕ) (contents : W → Option (List ℕ)) (paths : List S) (after : W) (status : ℕ) : Type 0 where
+  few : (sums : Sums) → length paths ≤ 1 → AreEnds options remaining text paths status sums
+      → IsStatus options remaining text contents paths after status
+  summed : (sums : Sums) (before : W) → 1 < length paths → AreEnds options remaining text paths status sums
+      → Appends (contents before) (contents after) (sums_text options.form sums)
+      → IsStatus options remaining text contents paths after status
+  unwritten : 1 < length paths → status ≡ 1 → IsStatus options remaining text contents paths after status

@@ -1,6 +1,8 @@
 pub mod Ends
+pub mod Json
 pub mod Lines
 pub mod Parts
+pub mod Sides
 pub mod Split
 pub mod Sums
 pub mod Symbols

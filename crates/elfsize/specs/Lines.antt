@@ -1,16 +1,20 @@
 -- What the program writes of a file (this project's own): a line for each part, with its size and its share.
-use Rattle.std.specs.Prelude.{◌≡◌, ℕ, ◌*◌, ◌/◌, ◌%◌, ◌++◌, ◌==◌, ◌⊎◌, List, [], codes, decimal, Result, Ok, Err, IsOkAnd, if◌then◌else◌, max, ⊤}
+use Rattle.std.specs.Prelude.{◌≡◌, ℕ, ◌*◌, ◌/◌, ◌%◌, ◌++◌, ◌==◌, ◌||◌, List, [], Option, None, Some, codes, decimal, Result, Ok, Err, if◌then◌else◌, max, ⊤}
 use Rattle.std.specs.Borrow.{Bor}
 use Rattle.std.specs.List.{flat_map}
 use Rattle.elf_addresses.specs.FileClaims.{byte_count}
-use Rattle.elf_base.specs.FileHeader.{header_of}
-use Rattle.elfsize.specs.Symbols.{AreRunsBy, AreSymbols, AreThere, IsSymbolsError, or_mark, symbol_name_in}
+use Rattle.elfsize.specs.Json.{capped, size_record}
+use Rattle.elfsize.specs.Sides.{IsSide}
+use Rattle.elfsize.specs.Symbols.{AreRunsBy, or_mark, symbol_name_in}
 use Rattle.elfsize.specs.Totals.{AreSizes, all_bytes}
 use Rattle.elfsize.specs.declared.lines.AnyError.{AnyError}
 use Rattle.elfsize.specs.declared.lines.AnyError.TheVariants.{Elf, Many, Memory}
+use Rattle.elfsize.specs.declared.side.Side.{Side}
 use Rattle.elfsize.specs.declared.symbols.Symbols.{Symbols}
 use Rattle.elfsize.specs.declared.totals.Run.{Run}
-use Rattle.elfsize.specs.declared.view.View.{View}
+use Rattle.program_ends.specs.declared.json.Form.{Form}
+use Rattle.program_ends.specs.declared.json.Form.TheVariants as forms
+use Rattle.elfsize.specs.declared.view.Options.{Options}
 use Rattle.program_ends.specs.Names.{escaped}
 use Rattle.xmas_elf.specs.NameTable.{shstr_bytes_of}
 use Rattle.xmas_elf.specs.SectionHeader.{section_fields, section_of}
@@ -57,23 +61,44 @@ amount_text n size = let share = share_of n size in
 abbrev pub start_text : ℕ → ℕ → ℕ → List ℕ
 start_text n size part = amount_text n size ++ label_text part
 
+-- what a part is, in one word or two
+abbrev pub kind_word : ℕ → List ℕ
+kind_word part =
+    if part % 4 == 0 then codes "section"
+    else (if part % 4 == 1 then codes "segment" else (if part % 4 == 2 then codes "symbol" else other_text (part / 4)))
+
+-- the index of a part, and the name, where it has one
+abbrev pub index_of : ℕ → Option ℕ
+index_of part = if part % 4 == 3 then None else Some (part / 4)
+
+abbrev pub name_of : ℕ → List ℕ → Option (List ℕ)
+name_of part name = if part % 4 == 0 || part % 4 == 2 then Some name else None
+
 -- the line of a part
-abbrev pub line_text : ElfFile → Symbols → Run → List ℕ
-line_text file symbols one =
+abbrev pub line_text : Form → List ℕ → ElfFile → Symbols → Run → List ℕ
+line_text forms.Text path file symbols one =
     start_text (byte_count file) one.size one.part ++ (escaped (part_name file symbols one.part) ++ codes "\n")
+line_text forms.Json path file symbols one =
+    size_record (Some path) (kind_word one.part) (index_of one.part) (name_of one.part (part_name file symbols one.part)) one.size
+    (Some (capped (share_of (byte_count file) one.size)))
 
--- the sum of the sizes
-abbrev pub sum_text : ℕ → List ℕ
-sum_text n = amount_text n n ++ codes "sum\n"
+-- the line of the sum of the sizes
+abbrev pub sum_line : ℕ → List ℕ
+sum_line n = amount_text n n ++ codes "sum\n"
 
--- the line of the path
-abbrev pub head_text : List ℕ → List ℕ
-head_text path = path ++ codes "\n"
+abbrev pub sum_text : Form → List ℕ → ℕ → List ℕ
+sum_text forms.Text path n = sum_line n
+sum_text forms.Json path n = size_record (Some path) (codes "sum") None None n (Some (capped (share_of n n)))
+
+-- the line of the path; as JSON, each line has the path
+abbrev pub head_text : Form → List ℕ → List ℕ
+head_text forms.Text path = path ++ codes "\n"
+head_text forms.Json path = []
 
 -- the text of a file at a path: the path, the lines, and the sum
-abbrev pub sizes_text : List ℕ → ElfFile → Symbols → List Run → List ℕ
-sizes_text path file symbols sizes =
-    head_text path ++ (flat_map (line_text file symbols) sizes ++ sum_text (byte_count file))
+abbrev pub sizes_text : Form → List ℕ → ElfFile → Symbols → List Run → List ℕ
+sizes_text form path file symbols sizes =
+    head_text form path ++ (flat_map (line_text form path file symbols) sizes ++ sum_text form path (byte_count file))
 
 -- the sizes of the parts of a file, with the bytes of sections by symbol if there are symbols; they sum to its size
 pub record AreFileSizes (file : ElfFile) (symbols : Symbols) (sizes : List Run) : Type 0 where
@@ -83,38 +108,15 @@ pub record AreFileSizes (file : ElfFile) (symbols : Symbols) (sizes : List Run) 
   pub sum : all_bytes sizes ≡ byte_count file
 
 -- the text is that of the sizes of the parts of a file
-abbrev pub IsTextBy : List ℕ → ElfFile → Symbols → List ℕ → Type 0
-IsTextBy path file symbols text =
-    (sizes : List Run) × AreFileSizes file symbols sizes × (text ≡ sizes_text path file symbols sizes)
+abbrev pub IsTextBy : Form → List ℕ → Side → List ℕ → Type 0
+IsTextBy form path side text = (sizes : List Run) × AreFileSizes side.file side.symbols sizes
+    × (text ≡ sizes_text form path side.file side.symbols sizes)
 
--- the same by the symbols that a view asks for
-abbrev pub IsFileText : View → List ℕ → ElfFile → List ℕ → Type 0
-IsFileText view path file text = (symbols : Symbols) × AreSymbols view file symbols × IsTextBy path file symbols text
+-- the same of an input, with the symbols that are asked for
+unfoldable pub IsInputText : Options → List ℕ → Bor (List ℕ) → List ℕ → Type 0
+IsInputText options path input text = (side : Side) × IsSide options input side × IsTextBy options.form path side text
 
--- an input is the file of its header, with a property
-abbrev pub OfHeader : Bor (List ℕ) → (ElfFile → Type 0) → Type 0
-OfHeader input P = IsOkAnd (header_of input.now) (λ header. P (record { input = input; header = header }))
-
-abbrev pub IsInputText : View → List ℕ → Bor (List ℕ) → List ℕ → Type 0
-IsInputText view path input text = OfHeader input (λ file. IsFileText view path file text)
-
--- the file of an input has the symbols that a view asks for
-abbrev pub IsInputThere : View → Bor (List ℕ) → Type 0
-IsInputThere view input = OfHeader input (AreThere view)
-
--- why a file has no text: an error of its symbols, or memory is short
-abbrev pub IsFileError : View → ElfFile → AnyError → Type 0
-IsFileError view file Memory = ⊤
-IsFileError view file (Elf error) = IsSymbolsError view file (Elf error)
-IsFileError view file Many = IsSymbolsError view file Many
-
--- why an input has no text: an error of its header, or why its file has none
-abbrev pub IsInputError : View → Bor (List ℕ) → AnyError → Type 0
-IsInputError view input Memory = ⊤
-IsInputError view input (Elf error) =
-    (header_of input.now ≡ Err error) ⊎ OfHeader input (λ file. IsSymbolsError view file (Elf error))
-IsInputError view input Many = OfHeader input (λ file. IsSymbolsError view file Many)
-
+-- the reason is that memory is short
 abbrev pub IsShort : AnyError → Type 0
 IsShort (Elf error) = ⊥
 IsShort Many = ⊥

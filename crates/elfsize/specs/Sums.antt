@@ -1,11 +1,14 @@
 -- The bytes of files by kind of part (this project's own).
-use Rattle.std.specs.Prelude.{◌≡◌, ℕ, ◌+◌, ◌-◌, ◌/◌, ◌%◌, ◌==◌, ◌++◌, ◌^◌, List, IfOk, codes, decimal, if◌then◌else◌, map, min, slice_index}
+use Rattle.std.specs.Prelude.{◌≡◌, ℕ, ◌+◌, ◌-◌, ◌/◌, ◌%◌, ◌==◌, ◌++◌, ◌^◌, List, None, IfOk, codes, decimal, if◌then◌else◌, map, min, slice_index}
 use Rattle.std.specs.Borrow.{Bor}
 use Rattle.elf_base.specs.FileHeader.{header_of}
+use Rattle.elfsize.specs.Json.{capped, size_record}
 use Rattle.elfsize.specs.Parts.{AreRuns}
 use Rattle.elfsize.specs.Totals.{AreTotals}
 use Rattle.elfsize.specs.declared.sums.Sums.{Sums}
 use Rattle.elfsize.specs.declared.totals.Run.{Run}
+use Rattle.program_ends.specs.declared.json.Form.{Form}
+use Rattle.program_ends.specs.declared.json.Form.TheVariants as forms
 use Rattle.xmas_elf.specs.Types.{ElfFile}
 
 -- the number of the kind of a part: sections, segments, and then those without an index
@@ -62,8 +65,8 @@ unfoldable pub sums_line : ℕ → List ℕ → List ℕ
 sums_line bytes kind = decimal bytes ++ (codes " " ++ (kind ++ codes "\n"))
 
 -- what is written of sums: a line for each kind, and one for the bytes of all kinds
-abbrev pub sums_text : Sums → List ℕ
-sums_text sums =
+abbrev pub lines_of : Sums → List ℕ
+lines_of sums =
     codes "all files\n" ++ (sums_line sums.sections (codes "sections")
     ++ (sums_line sums.segments (codes "segments")
     ++ (sums_line sums.elf_headers (codes "ELF headers")
@@ -72,3 +75,21 @@ sums_text sums =
     ++ (sums_line sums.between (codes "between parts")
     ++ (sums_line sums.after (codes "after all parts")
     ++ sums_line (all_of sums) (codes "sum"))))))))
+
+-- the same as JSON, where a sum is at most 2 to the 64 minus 1
+unfoldable pub sums_record : ℕ → List ℕ → List ℕ
+sums_record bytes kind = size_record None kind None None (capped bytes) None
+
+abbrev pub records_of : Sums → List ℕ
+records_of sums = sums_record sums.sections (codes "sections")
+    ++ (sums_record sums.segments (codes "segments")
+    ++ (sums_record sums.elf_headers (codes "ELF headers")
+    ++ (sums_record sums.program_headers (codes "program headers")
+    ++ (sums_record sums.section_headers (codes "section headers")
+    ++ (sums_record sums.between (codes "between parts")
+    ++ (sums_record sums.after (codes "after all parts")
+    ++ sums_record (all_of sums) (codes "sum")))))))
+
+abbrev pub sums_text : Form → Sums → List ℕ
+sums_text forms.Text sums = lines_of sums
+sums_text forms.Json sums = records_of sums

@@ -55,10 +55,6 @@ AreSymbols views.Whole file symbols = symbols ≡ are.None
 AreSymbols views.Segments file symbols = symbols ≡ are.None
 AreSymbols views.Symbols file symbols = AreSymtab file symbols
 
--- there are such symbols
-abbrev pub AreThere : View → ElfFile → Type 0
-AreThere view file = (symbols : Symbols) × AreSymbols view file symbols
-
 -- Why there are none.
 
 -- an error of the section at an index, by the class of the file

@@ -1,22 +1,27 @@
 //! The lines of the difference of two files.
 
-ghost use Rattle.std.specs.Prelude.{◌≡◌, ⊤, IfOk, MatchResult, OnOk, Some};
+ghost use Rattle.std.specs.Prelude.{◌≡◌, ⊤, IfOk, MatchResult, OnOk, Some, codes, option_map};
 ghost use Rattle.std.specs.Io.KnownBytes.{Appends};
 ghost use Rattle.std.specs.List.{flat_map};
 ghost use Rattle.elfsize.specs.Differences.{AreKinds, AreParts, IsChangesText, IsDifferenceText, IsPartOf};
 ghost use Rattle.elfsize.specs.Differences.{change_text, different_text, found_text, kind_line};
-ghost use Rattle.elfsize.specs.Differences.{kind_number, kind_text, kinds_text, mark_text, sign_of};
-ghost use Rattle.elfsize.specs.Differences.{start_of, step_text};
+ghost use Rattle.elfsize.specs.Differences.{kind_number, kind_record, kind_text, kinds_lines};
+ghost use Rattle.elfsize.specs.Differences.{kinds_records, kinds_text, mark_text, segment_index};
+ghost use Rattle.elfsize.specs.Differences.{sign_of, start_of, state_word, step_text};
 ghost use Rattle.elfsize.specs.Lines.{AreFileSizes, IsShort};
+ghost use Rattle.program_ends.specs.declared.json.Form.TheVariants as forms;
 ghost use Rattle.program_ends.proofs.Flushed.{appended_flushed};
 ghost use Rattle.program_ends.specs.Appended.{AppendsSome};
 ghost use Rattle.program_ends.specs.Stops.{IsStop};
 
-use crate::lines::{AnyError, file_sizes, other_text, part_name};
+use crate::lines::{AnyError, file_sizes, kind_word, name_of, other_text, part_name};
+use crate::records;
+use crate::records::{ChangeRecord, capped};
 use crate::side::Side;
 use crate::sums::{Sums, file_sums};
 use crate::totals::Run;
 use elf_addresses::{Change, SizedPart, differences};
+use program_ends::json::Form;
 use program_ends::{Output, Stop, write_name};
 use std::alloc::{AllocError, Global};
 use std::fmt::Display;
@@ -28,14 +33,16 @@ use xmas_elf::ElfFile;
 #[derive(Clone, Copy)]
 pub(crate) struct Difference<'a> {
     pub(crate) alloc: Global,
+    pub(crate) form: Form,
     pub(crate) old: &'a Side<'a>,
     pub(crate) new: &'a Side<'a>,
 }
 
 impl Output for Difference<'_> {
-    ghost Writes = { λ sides. AppendsSome (IsDifferenceText sides.old.now sides.new.now) };
+    ghost Writes = { λ sides. AppendsSome (IsDifferenceText sides.form sides.old.now sides.new.now) };
 
-    ghost flushed = { λ sides. appended_flushed (IsDifferenceText sides.old.now sides.new.now) };
+    ghost flushed = { λ sides.
+        appended_flushed (IsDifferenceText sides.form sides.old.now sides.new.now) };
 
     type Error = AnyError;
 
@@ -56,7 +63,8 @@ impl Output for Difference<'_> {
         let Ok(kinds) = kinds_of(self.alloc, &old.file, &new.file) else {
             return Err(Stop::Failed(AnyError::Memory));
         };
-        write_changes(self.alloc, &mut old_parts, &mut new_parts, &kinds, out)
+        let how = (self.alloc, self.form);
+        write_changes(how, &mut old_parts, &mut new_parts, &kinds, out)
     }
 }
 
@@ -127,17 +135,18 @@ fn kind_number(part: usize) -> usize
 // The lines of the differences of two lists of parts, and those of the kinds.
 #[tactic(auto, using(crate::proofs::Compared::changes_written))]
 fn write_changes<'a, W: Write>(
-    alloc: Global,
+    how: (Global, Form),
     old: &mut [SizedPart<'a>],
     new: &mut [SizedPart<'a>],
     kinds: &Kinds,
     out: &mut W,
 ) -> Result<(), Stop<AnyError>>
     ensures { MatchResult result
-        (λ _. AppendsSome (IsChangesText old.old new.old kinds.now)
+        (λ _. AppendsSome (IsChangesText how.1 old.old new.old kinds.now)
         (W.contents out.old) (W.contents out.new))
         (IsStop IsShort ⊤ ⊥) }
 {
+    let (alloc, form) = how;
     let count = old.len().saturating_add(new.len());
     let nothing = Change::New(SizedPart {
         kind: 0,
@@ -151,48 +160,98 @@ fn write_changes<'a, W: Write>(
     let Some(found) = differences(&mut *old, &mut *new, &mut changes) else {
         return Err(Stop::Failed(AnyError::Memory));
     };
-    match write_found(found, kinds, out) {
+    match write_found(form, found, kinds, out) {
         Ok(()) => Ok(()),
         Err(_) => Err(Stop::Write),
     }
 }
 
 // The lines of changes, and those of the kinds.
-fn write_found<W: Write>(changes: &[Change<'_>], kinds: &Kinds, out: &mut W) -> io::Result<()>
+fn write_found<W: Write>(
+    form: Form,
+    changes: &[Change<'_>],
+    kinds: &Kinds,
+    out: &mut W,
+) -> io::Result<()>
     ensures { OnOk result (Appends (W.contents out.old) (W.contents out.new)
-        (found_text changes.now kinds.now)) }
+        (found_text form changes.now kinds.now)) }
 {
-    write_lines(changes, &mut *out)?;
-    write!(out, "{}", *kinds)
+    write_lines(form, changes, &mut *out)?;
+    write_kinds(form, kinds, out)
 }
 
 // The lines of changes.
-fn write_lines<W: Write>(changes: &[Change<'_>], out: &mut W) -> io::Result<()>
+fn write_lines<W: Write>(form: Form, changes: &[Change<'_>], out: &mut W) -> io::Result<()>
     ensures { OnOk result (Appends (W.contents out.old) (W.contents out.new)
-        (flat_map change_text changes.now)) }
+        (flat_map (change_text form) changes.now)) }
 {
     for change in changes {
-        write_change(change, out)?;
+        write_change(form, change, out)?;
     }
     Ok(())
 }
 
 // The line of a change; none if the size is the same.
 #[tactic(auto, using(crate::proofs::Compared::nothing_added))]
-fn write_change<W: Write>(change: &Change<'_>, out: &mut W) -> io::Result<()>
+fn write_change<W: Write>(form: Form, change: &Change<'_>, out: &mut W) -> io::Result<()>
     ensures { OnOk result (Appends (W.contents out.old) (W.contents out.new)
-        (change_text change.now)) }
+        (change_text form change.now)) }
 {
     if change.distance() == 0 {
         return Ok(());
     }
-    write_different(change, out)
+    match form {
+        Form::Text => write_different(change, out),
+        Form::Json => write_record(change, out),
+    }
 }
 
-// The line of a change of a size.
+// The line of a change of a size, as JSON.
+fn write_record<W: Write>(change: &Change<'_>, out: &mut W) -> io::Result<()>
+    ensures { OnOk result (Appends (W.contents out.old) (W.contents out.new)
+        (different_text forms.Json change.now)) }
+{
+    let old = change.old_size();
+    let new = change.new_size();
+    let shown = change.part();
+    let record = ChangeRecord {
+        kind: kind_word(shown.place),
+        index: segment_index(shown.place),
+        name: name_of(shown.place, shown.name),
+        state: state_word(change),
+        old,
+        new,
+        total: false,
+    };
+    records::write_change(&record, out)
+}
+
+// The index of a part that has no name.
+fn segment_index(part: usize) -> Option<u64>
+    ensures { result ≡ segment_index part }
+{
+    if part % 4 == 1 {
+        Some((part / 4) as u64)
+    } else {
+        None
+    }
+}
+
+// Whether a part came or went, in one word.
+fn state_word(change: &Change<'_>) -> Option<&'static str>
+    ensures { option_map (λ word. word.now) result ≡ state_word change.now }
+{
+    match change {
+        Change::Gone(_) => Some("gone"),
+        Change::New(_) => Some("new"),
+        Change::Both(_, _) => None,
+    }
+}
+
+// The line of a change of a size, as text.
 fn write_different<W: Write>(change: &Change<'_>, out: &mut W) -> io::Result<()>
     ensures { OnOk result (Appends (W.contents out.old) (W.contents out.new)
-        (different_text change.now)) }
+        (different_text forms.Text change.now)) }
 {
     let old = change.old_size();
     let new = change.new_size();
@@ -308,7 +367,7 @@ pub struct Kinds {
 
 impl Display for Kinds {
     ghost output = { λ kinds.
-        Some (kinds_text kinds.old kinds.new kinds.old_bytes kinds.new_bytes) };
+        Some (kinds_lines kinds.old kinds.new kinds.old_bytes kinds.new_bytes) };
 
     fn fmt<W: fmt::Write>(&self, f: &mut fmt::Formatter<W>) -> fmt::Result {
         let (old, new) = (&self.old, &self.new);
@@ -346,4 +405,66 @@ impl Display for Line<'_> {
         };
         writeln!(f, "{}{}", step, self.2)
     }
+}
+
+// The lines of the kinds.
+fn write_kinds<W: Write>(form: Form, kinds: &Kinds, out: &mut W) -> io::Result<()>
+    ensures { OnOk result (Appends (W.contents out.old) (W.contents out.new) (kinds_text form kinds.now)) }
+{
+    match form {
+        Form::Text => write!(out, "{}", *kinds),
+        Form::Json => write_kind_records(kinds, out),
+    }
+}
+
+// The lines of the kinds, as JSON.
+fn write_kind_records<W: Write>(kinds: &Kinds, out: &mut W) -> io::Result<()>
+    ensures { OnOk result (Appends (W.contents out.old) (W.contents out.new)
+        (kinds_records kinds.now.old kinds.now.new kinds.now.old_bytes kinds.now.new_bytes)) }
+{
+    let (old, new) = (&kinds.old, &kinds.new);
+    write_kind(old.sections, new.sections, "sections", out)?;
+    write_kind(old.segments, new.segments, "segments", out)?;
+    write_kind(old.elf_headers, new.elf_headers, "ELF headers", out)?;
+    write_kind(
+        old.program_headers,
+        new.program_headers,
+        "program headers",
+        out,
+    )?;
+    write_kind(
+        old.section_headers,
+        new.section_headers,
+        "section headers",
+        out,
+    )?;
+    write_kind(old.between, new.between, "between parts", out)?;
+    write_kind(old.after, new.after, "after all parts", out)?;
+    write_sum(kinds.old_bytes, kinds.new_bytes, out)
+}
+
+// The line of the sum, as JSON.
+fn write_sum<W: Write>(old: u64, new: u64, out: &mut W) -> io::Result<()>
+    ensures { OnOk result (Appends (W.contents out.old) (W.contents out.new)
+        (kind_record old new (codes "sum"))) }
+{
+    write_kind(u128::from(old), u128::from(new), "sum", out)
+}
+
+// The line of a kind, as JSON.
+#[tactic(auto, unfolding(crate::specs::Differences::kind_record))]
+fn write_kind<W: Write>(old: u128, new: u128, kind: &str, out: &mut W) -> io::Result<()>
+    ensures { OnOk result (Appends (W.contents out.old) (W.contents out.new)
+        (kind_record old new kind.now)) }
+{
+    let record = ChangeRecord {
+        kind,
+        index: None,
+        name: None,
+        state: None,
+        old: capped(old),
+        new: capped(new),
+        total: true,
+    };
+    records::write_change(&record, out)
 }

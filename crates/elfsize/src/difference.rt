@@ -2,8 +2,7 @@
 
 ghost use Rattle.std.specs.Prelude.{◌≡◌, ◌≤◌, Err, MatchResult, Result, if◌then◌else◌};
 ghost use Rattle.elfsize.specs.Differences.{AreLengths, IsDifferenceEnd, IsDifferenceEndAt, IsPairFault};
-ghost use Rattle.elfsize.specs.Differences.{IsPairText, IsSide, OfFiles, difference_status, is_above};
-ghost use Rattle.elfsize.specs.Lines.{IsInputError};
+ghost use Rattle.elfsize.specs.Differences.{IsPairText, OfFiles, difference_status, is_above};
 ghost use Rattle.elfsize.specs.declared.difference.Lengths.{Lengths};
 ghost use Rattle.elfsize.specs.declared.lines.AnyError.{AnyError};
 ghost use Rattle.program_ends.specs.Appended.{AppendsSome};
@@ -11,9 +10,8 @@ ghost use Rattle.program_ends.specs.declared.Fault.{Fault};
 
 use crate::changes::Difference;
 use crate::lines::AnyError;
-use crate::side::Side;
-use crate::symbols::read_symbols;
-use crate::view::{View, read_shown};
+use crate::naming::{debug_bytes, side_of};
+use crate::view::{Options, read_shown};
 use crate::{NAME, fault_of};
 use program_ends::{Fault, Stop, Watched, say, write_buffered};
 use std::alloc::Global;
@@ -21,13 +19,12 @@ use std::convert::AsStr;
 use std::fs::File;
 use std::io::{Read, Write};
 use std::rt::Files;
-use xmas_elf::ElfFile;
 
 /// What is asked of two files.
 #[derive(Clone, Copy)]
 pub struct Comparison<'a> {
-    /// The parts of the files that are compared.
-    pub view: View,
+    /// What is asked of each.
+    pub options: Options<'a>,
     /// By how many bytes the new file may be larger; `None` if by any number.
     pub limit: Option<u64>,
     /// The path of the old file.
@@ -48,7 +45,7 @@ pub struct Lengths {
 /// What is asked of the files at two paths; `None` if there are fewer paths, or more, or the limit is no
 /// number.
 pub fn compared<'s, S: AsStr>(
-    view: View,
+    options: Options<'s>,
     limit: Option<&'s str>,
     paths: &'s [S],
 ) -> Option<Comparison<'s>> {
@@ -60,22 +57,11 @@ pub fn compared<'s, S: AsStr>(
         None => None,
     };
     Some(Comparison {
-        view,
+        options,
         limit,
         old: paths[0].as_str(),
         new: paths[1].as_str(),
     })
-}
-
-/// The word after `--fail-above`, if the words begin with it, and the other words.
-pub fn limited<S: AsStr>(words: &[S]) -> (Option<&str>, &[S]) {
-    match words.split_first() {
-        Some((first, others)) if first.as_str() == "--fail-above" => match others.split_first() {
-            Some((number, paths)) => (Some(number.as_str()), paths),
-            None => (Some(""), others),
-        },
-        _ => (None, words),
-    }
 }
 
 /// Writes the difference of the files at two paths, as `run_difference` does.
@@ -92,7 +78,7 @@ pub fn compare_paths<R: Files, W: Write, E: Write>(
 {
     let old = File::open(rt, comparison.old).ok();
     let new = File::open(rt, comparison.new).ok();
-    run_difference(alloc, comparison, old, new, out, err)
+    run_difference(alloc, rt, comparison, old, new, out, err)
 }
 
 /// Writes the difference of two files to `out`, or the reason why it can't to `err`, and returns the
@@ -101,8 +87,9 @@ pub fn compare_paths<R: Files, W: Write, E: Write>(
 /// A file is `None` where the path does not open. The status is 2 if all is written, and the new file
 /// is larger than the old one by more than the limit; 0 if all is written otherwise; and 1 after a
 /// fault. It says nothing of what `out` and `err` hold.
-pub fn run_difference<R: Read + Drop, W: Write, E: Write>(
+pub fn run_difference<F: Files, R: Read + Drop, W: Write, E: Write>(
     alloc: Global,
+    rt: &F,
     comparison: &Comparison<'_>,
     old: Option<R>,
     new: Option<R>,
@@ -114,7 +101,7 @@ pub fn run_difference<R: Read + Drop, W: Write, E: Write>(
         × IsDifferenceEnd comparison.now R.remaining old new end
         × (result ≡ difference_status comparison.now.limit end) }
 {
-    let ended = compare_files(alloc, comparison, old, new, &mut *out);
+    let ended = compare_files(alloc, rt, comparison, old, new, &mut *out, &mut *err);
     status_after(comparison.limit, ended, out.is_closed(), err)
 }
 
@@ -145,16 +132,18 @@ fn status_of_lengths(limit: Option<u64>, lengths: &Lengths) -> u8
 
 // Writes the difference of two files, and returns their lengths.
 #[tactic(auto, using(crate::proofs::Compared::difference_ended))]
-fn compare_files<'a, R: Read + Drop, W: Write>(
+fn compare_files<'a, F: Files, R: Read + Drop, W: Write, E: Write>(
     alloc: Global,
+    rt: &F,
     comparison: &Comparison<'a>,
     old: Option<R>,
     new: Option<R>,
     out: &mut W,
+    err: &mut E,
 ) -> Result<Lengths, Fault<'a, AnyError>>
     ensures { IsDifferenceEnd comparison.now R.remaining old new result }
 {
-    match print_difference(alloc, comparison, old, new, &mut *out) {
+    match print_difference(alloc, rt, comparison, old, new, &mut *out, err) {
         Ok((_, lengths)) => Ok(lengths),
         Err(fault) => Err(fault),
     }
@@ -172,25 +161,27 @@ fn is_above(limit: Option<u64>, lengths: &Lengths) -> bool
 
 // Reads both files whole, writes their difference, and returns the writer and their lengths.
 #[tactic(auto, using(crate::proofs::Compared::old_unread, crate::proofs::Compared::new_unread, crate::proofs::Compared::difference_done, crate::proofs::Compared::difference_failed))]
-fn print_difference<'a, R: Read + Drop, W: Write + Drop>(
+fn print_difference<'a, F: Files, R: Read + Drop, W: Write + Drop, E: Write>(
     alloc: Global,
+    rt: &F,
     comparison: &Comparison<'a>,
     old: Option<R>,
     new: Option<R>,
     out: W,
+    err: &mut E,
 ) -> Result<(W, Lengths), Fault<'a, AnyError>>
     ensures { MatchResult result
-        (λ back. OfFiles comparison.now.view R.remaining old new (λ input other.
-        AppendsSome (IsPairText comparison.now.view input other) (W.contents out) (W.contents back.0)
+        (λ back. OfFiles comparison.now.options.view R.remaining old new (λ input other.
+        AppendsSome (IsPairText comparison.now.options input other) (W.contents out) (W.contents back.0)
         × AreLengths input.now other.now back.1))
         (λ fault. IsDifferenceEnd comparison.now R.remaining old new (Err fault)) }
 {
-    let Some(old_input) = read_shown(alloc, comparison.view, old) else {
+    let Some(old_input) = read_shown(alloc, comparison.options.view, old) else {
         return Err(Fault::Read {
             path: comparison.old,
         });
     };
-    let Some(new_input) = read_shown(alloc, comparison.view, new) else {
+    let Some(new_input) = read_shown(alloc, comparison.options.view, new) else {
         return Err(Fault::Read {
             path: comparison.new,
         });
@@ -201,7 +192,7 @@ fn print_difference<'a, R: Read + Drop, W: Write + Drop>(
         old: old_bytes.len(),
         new: new_bytes.len(),
     };
-    match print_inputs(alloc, comparison, old_bytes, new_bytes, out) {
+    match print_inputs(alloc, rt, comparison, old_bytes, new_bytes, out, err) {
         Ok(out) => Ok((out, lengths)),
         Err(fault) => Err(fault),
     }
@@ -209,47 +200,42 @@ fn print_difference<'a, R: Read + Drop, W: Write + Drop>(
 
 // Writes the difference of the files that these bytes are, and returns the writer.
 #[tactic(auto, using(crate::proofs::Compared::old_fault, crate::proofs::Compared::new_fault, crate::proofs::Compared::stop_fault, crate::proofs::Compared::pair_found))]
-fn print_inputs<'a, 'i, W: Write + Drop>(
+fn print_inputs<'a, 'i, F: Files, W: Write + Drop, E: Write>(
     alloc: Global,
+    rt: &F,
     comparison: &Comparison<'a>,
     old: &'i [u8],
     new: &'i [u8],
     out: W,
+    err: &mut E,
 ) -> Result<W, Fault<'a, AnyError>>
     ensures { MatchResult result
-        (λ back. AppendsSome (IsPairText comparison.now.view old.entry new.entry) (W.contents out) (W.contents back))
+        (λ back. AppendsSome (IsPairText comparison.now.options old.entry new.entry) (W.contents out) (W.contents back))
         (IsPairFault comparison.now old.entry new.entry) }
 {
-    let old_side = match side_of(comparison.view, old) {
+    let options = comparison.options;
+    let Ok(old_found) = debug_bytes(alloc, rt, options, comparison.old, old, &mut *err) else {
+        return Err(Fault::Memory);
+    };
+    let Ok(new_found) = debug_bytes(alloc, rt, options, comparison.new, new, err) else {
+        return Err(Fault::Memory);
+    };
+    let old_side = match side_of(options, old, &old_found) {
         Ok(side) => side,
         Err(failure) => return Err(fault_of(Stop::Failed(failure), comparison.old)),
     };
-    let new_side = match side_of(comparison.view, new) {
+    let new_side = match side_of(options, new, &new_found) {
         Ok(side) => side,
         Err(failure) => return Err(fault_of(Stop::Failed(failure), comparison.new)),
     };
     let difference = Difference {
         alloc,
+        form: options.form,
         old: &old_side,
         new: &new_side,
     };
     match write_buffered(alloc, &difference, out) {
         Ok(out) => Ok(out),
         Err(stop) => Err(fault_of(stop, comparison.old)),
-    }
-}
-
-// The file that these bytes are, with the symbols that a view asks for.
-#[tactic(auto, using(crate::proofs::Compared::header_error, crate::proofs::Compared::side_error, crate::proofs::Compared::side_is))]
-fn side_of<'a>(view: View, input: &'a [u8]) -> Result<Side<'a>, AnyError>
-    ensures { MatchResult result (IsSide view input.entry) (IsInputError view input.entry) }
-{
-    let file = match ElfFile::new(input) {
-        Ok(file) => file,
-        Err(error) => return Err(AnyError::Elf(error)),
-    };
-    match read_symbols(view, &file) {
-        Ok(symbols) => Ok(Side { file, symbols }),
-        Err(failure) => Err(failure),
     }
 }

@@ -1,25 +1,26 @@
 //! A line for each part of a file: its size, its share, and what it is.
 
-ghost use Rattle.std.specs.Prelude.{◌≡◌, ◌<◌, ◌^◌, ⊤, All, IfOk, MatchResult, OnOk, Some};
+ghost use Rattle.std.specs.Prelude.{◌≡◌, ◌<◌, ◌^◌, ⊤, [], All, IfOk, MatchResult, OnOk, Some, option_map};
 ghost use Rattle.std.specs.Io.KnownBytes.{Appends};
 ghost use Rattle.std.specs.List.{flat_map};
-ghost use Rattle.elfsize.specs.Lines.{AreFileSizes, IsFileError, IsFileText, IsInputError};
-ghost use Rattle.elfsize.specs.Lines.{IsInputText, IsInputThere, IsTextBy};
 ghost use Rattle.elf_addresses.specs.FileClaims.{byte_count};
-ghost use Rattle.elfsize.specs.Symbols.{AreFew, AreRunsBy, AreThere};
+ghost use Rattle.elfsize.specs.Lines.{AreFileSizes, IsShort, IsTextBy, amount_text, head_text, index_of};
+ghost use Rattle.elfsize.specs.Lines.{kind_word, label_text, line_text, name_of, other_text, part_name};
+ghost use Rattle.elfsize.specs.Lines.{section_name, share_of, sizes_text, start_text, sum_line, sum_text};
+ghost use Rattle.elfsize.specs.Symbols.{AreFew, AreRunsBy};
 ghost use Rattle.elfsize.specs.Totals.{all_bytes};
-ghost use Rattle.elfsize.specs.Lines.{IsShort, amount_text, head_text, label_text, line_text};
-ghost use Rattle.elfsize.specs.Lines.{other_text, part_name, section_name, share_of, sizes_text};
-ghost use Rattle.elfsize.specs.Lines.{start_text, sum_text};
+ghost use Rattle.program_ends.specs.declared.json.Form.TheVariants as forms;
 ghost use Rattle.program_ends.proofs.Flushed.{appended_flushed};
 ghost use Rattle.program_ends.specs.Appended.{AppendsSome};
 ghost use Rattle.program_ends.specs.Stops.{IsStop};
 
 use crate::parts::file_runs;
+use crate::records::{SizeRecord, capped, write_size};
+use crate::side::Side;
 use crate::split::split_runs;
-use crate::symbols::{Symbols, read_symbols, symbol_name_in};
+use crate::symbols::{Symbols, symbol_name_in};
 use crate::totals::{Run, part_sizes};
-use crate::view::View;
+use program_ends::json::Form;
 use program_ends::{Output, Stop, write_name};
 use std::alloc::{AllocError, Global};
 use std::fmt::Display;
@@ -42,89 +43,48 @@ pub enum AnyError {
     Memory,
 }
 
-// The path and the lines of a view of the file that these bytes are, with the sum.
+// The path and the lines of a file, with the sum.
 #[derive(Clone, Copy)]
 pub(crate) struct Lines<'a> {
     pub(crate) alloc: Global,
-    pub(crate) view: View,
+    pub(crate) form: Form,
     pub(crate) path: &'a str,
-    pub(crate) input: &'a [u8],
+    pub(crate) side: &'a Side<'a>,
 }
 
 impl Output for Lines<'_> {
-    ghost Writes = { λ lines. AppendsSome (IsInputText lines.view lines.path.now lines.input) };
+    ghost Writes = { λ lines. AppendsSome (IsTextBy lines.form lines.path.now lines.side.now) };
 
-    ghost flushed = { λ lines.
-        appended_flushed (IsInputText lines.view lines.path.now lines.input) };
+    ghost flushed = { λ lines. appended_flushed (IsTextBy lines.form lines.path.now lines.side.now) };
 
     type Error = AnyError;
 
-    ghost Fails = { λ lines. IsInputError lines.view lines.input };
+    ghost Fails = { λ lines. IsShort };
 
-    ghost Begins = { λ lines. IsInputThere lines.view lines.input };
+    ghost Begins = { λ lines. ⊤ };
 
     fn write_to<W: Write>(&self, out: &mut W) -> Result<(), Stop<AnyError>> {
-        match ElfFile::new(self.input) {
-            Ok(file) => write_file(self.alloc, self.view, self.path, &file, out),
-            Err(error) => Err(Stop::Failed(AnyError::Elf(error))),
+        let side = self.side;
+        match file_sizes(self.alloc, &side.file, &side.symbols) {
+            Ok(sizes) => write_all_of(self, &sizes, out),
+            Err(_) => Err(Stop::Failed(AnyError::Memory)),
         }
-    }
-}
-
-// The lines of a view of a file.
-fn write_file<W: Write>(
-    alloc: Global,
-    view: View,
-    path: &str,
-    file: &ElfFile<'_>,
-    out: &mut W,
-) -> Result<(), Stop<AnyError>>
-    ensures { MatchResult result
-        (λ _. AppendsSome (IsFileText view path.now file.now)
-        (W.contents out.old) (W.contents out.new))
-        (IsStop (IsFileError view file.now) (AreThere view file.now) ⊥) }
-{
-    match read_symbols(view, file) {
-        Ok(symbols) => write_by(alloc, path, file, &symbols, out),
-        Err(failure) => Err(Stop::Failed(failure)),
-    }
-}
-
-// The lines of a file by these symbols.
-fn write_by<W: Write>(
-    alloc: Global,
-    path: &str,
-    file: &ElfFile<'_>,
-    symbols: &Symbols<'_>,
-    out: &mut W,
-) -> Result<(), Stop<AnyError>>
-    requires { AreFew symbols.now }
-    ensures { MatchResult result
-        (λ _. AppendsSome (IsTextBy path.now file.now symbols.now)
-        (W.contents out.old) (W.contents out.new))
-        (IsStop IsShort ⊤ ⊥) }
-{
-    match file_sizes(alloc, file, symbols) {
-        Ok(sizes) => write_all_of(path, file, symbols, &sizes, out),
-        Err(_) => Err(Stop::Failed(AnyError::Memory)),
     }
 }
 
 // The lines of a file with these sizes of its parts.
 fn write_all_of<W: Write>(
-    path: &str,
-    file: &ElfFile<'_>,
-    symbols: &Symbols<'_>,
+    lines: &Lines<'_>,
     sizes: &[Run],
     out: &mut W,
 ) -> Result<(), Stop<AnyError>>
-    requires { AreFileSizes file.now symbols.now sizes.now }
+    requires { AreFileSizes lines.now.side.now.file lines.now.side.now.symbols sizes.now }
     ensures { MatchResult result
-        (λ _. AppendsSome (IsTextBy path.now file.now symbols.now)
+        (λ _. AppendsSome (IsTextBy lines.now.form lines.now.path.now lines.now.side.now)
         (W.contents out.old) (W.contents out.new))
         (IsStop IsShort ⊤ ⊥) }
 {
-    match write_sizes(path, file, symbols, sizes, out) {
+    match write_sizes(lines, sizes, out) {
         Ok(()) => Ok(()),
         Err(_) => Err(Stop::Write),
     }
@@ -160,46 +120,84 @@ fn runs_by(alloc: Global, file: &ElfFile<'_>, symbols: &Symbols<'_>) -> Result<V
 }
 
 // The path, the lines, and the sum.
-fn write_sizes<W: Write>(
-    path: &str,
-    file: &ElfFile<'_>,
-    symbols: &Symbols<'_>,
-    sizes: &[Run],
-    out: &mut W,
-) -> io::Result<()>
+fn write_sizes<W: Write>(lines: &Lines<'_>, sizes: &[Run], out: &mut W) -> io::Result<()>
     ensures { OnOk result (Appends (W.contents out.old) (W.contents out.new)
-        (sizes_text path.now file.now symbols.now sizes.now)) }
+        (sizes_text lines.now.form lines.now.path.now lines.now.side.now.file lines.now.side.now.symbols
+        sizes.now)) }
 {
-    write!(out, "{}", Head(path))?;
-    write_lines(file, symbols, sizes, out)?;
-    write!(out, "{}", Sum(file.input.len() as u64))
+    write_head(lines.form, lines.path, out)?;
+    write_lines(lines, sizes, out)?;
+    let side = lines.side;
+    let whole = side.file.input.len() as u64;
+    write_sum(lines.form, lines.path, whole, out)
+}
+
+// The line of the path.
+#[tactic(auto, using(crate::proofs::Compared::nothing_added))]
+fn write_head<W: Write>(form: Form, path: &str, out: &mut W) -> io::Result<()>
+    ensures { OnOk result (Appends (W.contents out.old) (W.contents out.new) (head_text form path.now)) }
+{
+    match form {
+        Form::Text => writeln!(out, "{}", path),
+        Form::Json => Ok(()),
+    }
+}
+
+// The line of the sum of the sizes.
+fn write_sum<W: Write>(form: Form, path: &str, size: u64, out: &mut W) -> io::Result<()>
+    ensures { OnOk result (Appends (W.contents out.old) (W.contents out.new)
+        (sum_text form path.now size)) }
+{
+    match form {
+        Form::Text => write!(out, "{}", Sum(size)),
+        Form::Json => {
+            let record = SizeRecord {
+                file: Some(path),
+                kind: "sum",
+                index: None,
+                name: None,
+                size,
+                share: Some(capped(share_of(size, size))),
+            };
+            write_size(&record, out)
+        }
+    }
 }
 
 // A line for each part.
-fn write_lines<W: Write>(
-    file: &ElfFile<'_>,
-    symbols: &Symbols<'_>,
-    sizes: &[Run],
-    out: &mut W,
-) -> io::Result<()>
+fn write_lines<W: Write>(lines: &Lines<'_>, sizes: &[Run], out: &mut W) -> io::Result<()>
     ensures { OnOk result (Appends (W.contents out.old) (W.contents out.new)
-        (flat_map (line_text file.now symbols.now) sizes.now)) }
+        (flat_map (line_text lines.now.form lines.now.path.now lines.now.side.now.file
+        lines.now.side.now.symbols) sizes.now)) }
 {
     for one in sizes {
-        write_line(file, symbols, one, out)?;
+        write_line(lines, one, out)?;
     }
     Ok(())
 }
 
 // The line of a part.
-fn write_line<W: Write>(
+fn write_line<W: Write>(lines: &Lines<'_>, one: &Run, out: &mut W) -> io::Result<()>
+    ensures { OnOk result (Appends (W.contents out.old) (W.contents out.new)
+        (line_text lines.now.form lines.now.path.now lines.now.side.now.file lines.now.side.now.symbols
+        one.now)) }
+{
+    let side = lines.side;
+    match lines.form {
+        Form::Text => write_text(&side.file, &side.symbols, one, out),
+        Form::Json => write_record(lines.path, &side.file, &side.symbols, one, out),
+    }
+}
+
+// The line of a part, as text.
+fn write_text<W: Write>(
     file: &ElfFile<'_>,
     symbols: &Symbols<'_>,
     one: &Run,
     out: &mut W,
 ) -> io::Result<()>
     ensures { OnOk result (Appends (W.contents out.old) (W.contents out.new)
-        (line_text file.now symbols.now one.now)) }
+        (line_text forms.Text [] file.now symbols.now one.now)) }
 {
     let start = Start {
         part: one.part,
@@ -209,6 +207,64 @@ fn write_line<W: Write>(
     write!(out, "{}", start)?;
     write_name(part_name(file, symbols, one.part), out)?;
     out.write_all(b"\n")
+}
+
+// The line of a part, as JSON.
+fn write_record<'x, W: Write>(
+    path: &'x str,
+    file: &ElfFile<'x>,
+    symbols: &'x Symbols<'_>,
+    one: &Run,
+    out: &mut W,
+) -> io::Result<()>
+    ensures { OnOk result (Appends (W.contents out.old) (W.contents out.new)
+        (line_text forms.Json path.now file.now symbols.now one.now)) }
+{
+    let share = share_of(file.input.len() as u64, one.size);
+    let record = SizeRecord {
+        file: Some(path),
+        kind: kind_word(one.part),
+        index: index_of(one.part),
+        name: name_of(one.part, part_name(file, symbols, one.part)),
+        size: one.size,
+        share: Some(capped(share)),
+    };
+    write_size(&record, out)
+}
+
+// What a part is, in one word or two.
+pub(crate) fn kind_word(part: usize) -> &'static str
+    ensures { result.now ≡ kind_word part }
+{
+    let (index, kind) = (part / 4, part % 4);
+    match kind {
+        0 => "section",
+        1 => "segment",
+        2 => "symbol",
+        _ => other_text(index),
+    }
+}
+
+// The index of a part that has one.
+fn index_of(part: usize) -> Option<u64>
+    ensures { result ≡ index_of part }
+{
+    if part % 4 == 3 {
+        None
+    } else {
+        Some((part / 4) as u64)
+    }
+}
+
+// The name of a part that has one.
+pub(crate) fn name_of(part: usize, name: &[u8]) -> Option<&[u8]>
+    ensures { option_map (λ name. name.now) result ≡ name_of part name.now }
+{
+    if part % 4 == 0 || part % 4 == 2 {
+        Some(name)
+    } else {
+        None
+    }
 }
 
 // The name of a part: a section has one, and a symbol.
@@ -235,18 +291,6 @@ fn section_name<'a>(file: &ElfFile<'a>, index: usize) -> &'a [u8]
     match file.section_name(&section) {
         Ok(name) => name,
         Err(_) => b"?",
-    }
-}
-
-// The line of the path.
-#[derive(Clone, Copy)]
-struct Head<'a>(&'a str);
-
-impl Display for Head<'_> {
-    ghost output = { λ head. Some (head_text head.0.now) };
-
-    fn fmt<W: fmt::Write>(&self, f: &mut fmt::Formatter<W>) -> fmt::Result {
-        writeln!(f, "{}", self.0)
     }
 }
 
@@ -341,7 +385,7 @@ pub(crate) fn other_text(index: usize) -> &'static str
 struct Sum(u64);
 
 impl Display for Sum {
-    ghost output = { λ sum. Some (sum_text sum.0) };
+    ghost output = { λ sum. Some (sum_line sum.0) };
 
     fn fmt<W: fmt::Write>(&self, f: &mut fmt::Formatter<W>) -> fmt::Result {
         let amount = Amount {

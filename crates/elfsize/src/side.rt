@@ -1,4 +1,4 @@
-//! A file of two that are compared.
+//! A file with the symbols that own its bytes.
 
 ghost use Rattle.elfsize.specs.Symbols.{AreFew};
 
@@ -10,7 +10,7 @@ use xmas_elf::ElfFile;
 pub struct Side<'a> {
     /// The file.
     pub file: ElfFile<'a>,
-    /// Its symbols.
+    /// The symbols: its own, or those of its debug file.
     pub symbols: Symbols<'a>,
     ghost few: { AreFew symbols },
 }

@@ -1,15 +1,19 @@
 //! The bytes of files by kind of part.
 
-ghost use Rattle.std.specs.Prelude.{◌≡◌, ◌<◌, ◌^◌, IfOk, Some, map, slice_index};
-ghost use Rattle.elfsize.specs.Sums.{AreInputSums, AreSums, all_of, kind_of, kind_run, sums_of};
-ghost use Rattle.elfsize.specs.Sums.{sums_line, sums_text, with_sums};
+ghost use Rattle.std.specs.Prelude.{◌≡◌, ◌<◌, ◌^◌, IfOk, OnOk, Some, codes, map, slice_index};
+ghost use Rattle.std.specs.Io.KnownBytes.{Appends};
+ghost use Rattle.elfsize.specs.Sums.{AreInputSums, AreSums, all_of, kind_of, kind_run, lines_of};
+ghost use Rattle.elfsize.specs.Sums.{records_of, sums_line, sums_of, sums_record, sums_text, with_sums};
 ghost use Rattle.elfsize.specs.Totals.{AreTotals, all_bytes};
 
 use crate::parts::file_runs;
+use crate::records::{SizeRecord, capped, write_size};
 use crate::totals::{Run, part_totals};
+use program_ends::json::Form;
 use std::alloc::{AllocError, Global};
-use std::fmt;
 use std::fmt::Display;
+use std::io::Write;
+use std::{fmt, io};
 use xmas_elf::ElfFile;
 
 const KINDS: usize = 7;
@@ -75,7 +79,7 @@ impl Sums {
 }
 
 impl Display for Sums {
-    ghost output = { λ sums. Some (sums_text sums) };
+    ghost output = { λ sums. Some (lines_of sums) };
 
     fn fmt<W: fmt::Write>(&self, f: &mut fmt::Formatter<W>) -> fmt::Result {
         write!(
@@ -91,6 +95,55 @@ impl Display for Sums {
             Line(self.all(), "sum")
         )
     }
+}
+
+/// Writes the sums in a form.
+pub fn write_sums<W: Write>(form: Form, sums: &Sums, out: &mut W) -> io::Result<()>
+    ensures { OnOk result (Appends (W.contents out.old) (W.contents out.new) (sums_text form sums.now)) }
+{
+    match form {
+        Form::Text => write!(out, "{}", *sums),
+        Form::Json => write_records(sums, out),
+    }
+}
+
+// Writes the sums as JSON.
+fn write_records<W: Write>(sums: &Sums, out: &mut W) -> io::Result<()>
+    ensures { OnOk result (Appends (W.contents out.old) (W.contents out.new) (records_of sums.now)) }
+{
+    write_record(sums.sections, "sections", out)?;
+    write_record(sums.segments, "segments", out)?;
+    write_record(sums.elf_headers, "ELF headers", out)?;
+    write_record(sums.program_headers, "program headers", out)?;
+    write_record(sums.section_headers, "section headers", out)?;
+    write_record(sums.between, "between parts", out)?;
+    write_record(sums.after, "after all parts", out)?;
+    write_all(sums, out)
+}
+
+// Writes the bytes of all kinds as JSON.
+fn write_all<W: Write>(sums: &Sums, out: &mut W) -> io::Result<()>
+    ensures { OnOk result (Appends (W.contents out.old) (W.contents out.new)
+        (sums_record (all_of sums.now) (codes "sum"))) }
+{
+    write_record(sums.all(), "sum", out)
+}
+
+// Writes a number of bytes, and what they belong to, as JSON.
+#[tactic(auto, unfolding(crate::specs::Sums::sums_record))]
+fn write_record<W: Write>(bytes: u128, kind: &str, out: &mut W) -> io::Result<()>
+    ensures { OnOk result (Appends (W.contents out.old) (W.contents out.new)
+        (sums_record bytes kind.now)) }
+{
+    let record = SizeRecord {
+        file: None,
+        kind,
+        index: None,
+        name: None,
+        size: capped(bytes),
+        share: None,
+    };
+    write_size(&record, out)
 }
 
 // A number of bytes, and what they belong to.

@@ -3,6 +3,7 @@
 ghost use Rattle.std.specs.Prelude.{◌≡◌, IfSome, IsSomeAnd};
 ghost use Rattle.elfsize.specs.View.{shown, without_sections};
 
+use program_ends::json::Form;
 use program_ends::read_whole;
 use std::alloc::Global;
 use std::io::Read;
@@ -16,6 +17,17 @@ pub enum View {
     Segments,
     /// All parts, with the bytes of sections by the symbol that owns them.
     Symbols,
+}
+
+/// What is asked of files.
+#[derive(Clone, Copy, Debug)]
+pub struct Options<'a> {
+    /// The parts that are listed.
+    pub view: View,
+    /// How lines are written.
+    pub form: Form,
+    /// The folder of debug files; `None` if no debug file is looked for.
+    pub debug: Option<&'a str>,
 }
 
 /// All bytes that a reader has left, in a view; `None` where there is no reader, a read fails or

@@ -7,4 +7,4 @@ returns-then-paths-lt2 g c = few c.run_on_each-status.result.1 (omega (arith, c.
 
 pub returns-in-Ok : goal.returns-in-Ok
 returns-in-Ok g c =
-    summed c.run_on_each-status.result.1 c.run_on_each-status.new.out (omega (arith, c.if-paths-lt2.false)) c.run_on_each-status.ensures c.in-Ok.ensures.bytes
+    summed c.run_on_each-status.result.1 c.run_on_each-status.new.out (omega (arith, c.if-paths-lt2.false)) c.run_on_each-status.ensures c.in-Ok.ensures

@@ -14,5 +14,5 @@ loop-change-preserved g c =
     let index = c.loop-change.change-index in
     let below : index < length changes = c.loop-change-test.true in
     subst (λ (text : List ℕ). Appends (g.W.Write.contents c.args.out.now) (g.W.Write.contents c.write_change.new.out) text)
-    (one_more_text_at change_text changes index _ below)
+    (one_more_text_at (change_text c.args.form) changes index _ below)
     (Appends-trans _ _ _ _ _ c.loop-change.invariant c.in_ok-write_change.ensures)

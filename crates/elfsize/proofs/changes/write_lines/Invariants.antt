@@ -7,4 +7,4 @@ use Rattle.elfsize.proofs.changes.write_lines.Given as goal
 -- the lines so far
 abbrev pub invariant-loop-change : goal.invariant-loop-change
 invariant-loop-change g l =
-    Appends (g.W.Write.contents l.fn.out) (g.W.Write.contents l.out) (flat_map change_text (take l.change-index l.fn.changes))
+    Appends (g.W.Write.contents l.fn.out) (g.W.Write.contents l.out) (flat_map (change_text l.fn.form) (take l.change-index l.fn.changes))

@@ -5,9 +5,9 @@ use Rattle.elfsize.specs.Differences.{IsPairFault}
 
 pub returns-in-Ok-write_buffered : goal.returns-in-Ok-write_buffered
 returns-in-Ok-write_buffered g c =
-    pair_found c.args.comparison.now.view c.args.old c.args.new c.in-Ok.side c.in-Ok-side_of.side _ _ c.in-Ok.ensures c.in-Ok-side_of.ensures c.in-Ok-write_buffered.ensures
+    pair_found c.args.comparison.now.options c.args.old c.args.new c.in-Ok-side_of.side c.in-Ok-side_of-2.side _ _ c.in-Ok-side_of.ensures c.in-Ok-side_of-2.ensures c.in-Ok-write_buffered.ensures
 
-pub returns-in-Err-write_buffered : goal.returns-in-Err-write_buffered
-returns-in-Err-write_buffered g c =
+pub returns : goal.returns
+returns g c =
     subst (IsPairFault c.args.comparison.now c.args.old c.args.new) (sym c.fault_of-in-Err-write_buffered.ensures)
-    (stop_fault c.args.comparison.now c.args.old c.args.new c.in-Ok.side c.in-Ok-side_of.side _ c.in-Err-write_buffered.stop c.in-Ok.ensures c.in-Ok-side_of.ensures c.in-Err-write_buffered.ensures)
+    (stop_fault c.args.comparison.now c.args.old c.args.new c.in-Ok-side_of.side c.in-Ok-side_of-2.side _ c.in-Err-write_buffered.stop c.in-Ok-side_of.ensures c.in-Ok-side_of-2.ensures c.in-Err-write_buffered.ensures)

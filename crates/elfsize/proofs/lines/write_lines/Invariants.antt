@@ -7,4 +7,5 @@ use Rattle.elfsize.proofs.lines.write_lines.Given as goal
 -- the lines so far
 abbrev pub invariant-loop-one : goal.invariant-loop-one
 invariant-loop-one g l =
-    Appends (g.W.Write.contents l.fn.out) (g.W.Write.contents l.out) (flat_map (line_text l.file l.symbols) (take l.one-index l.fn.sizes))
+    Appends (g.W.Write.contents l.fn.out) (g.W.Write.contents l.out)
+    (flat_map (line_text l.lines.form l.lines.path.now l.lines.side.now.file l.lines.side.now.symbols) (take l.one-index l.fn.sizes))
