@@ -23,9 +23,16 @@ union output {
     xmas_elf_symbol_at_t of_symbol_at[3];
     xmas_elf_piece_t of_piece[3];
     xmas_elf_piece_sizes_t of_piece_sizes[3];
+    xmas_elf_size_part_t of_size_part[3];
+    xmas_elf_size_change_t of_size_change[3];
+    uint8_t of_u8[3];
+    xmas_elf_debug_candidate_t of_debug_candidate[3];
     xmas_elf_load_plan_t of_load_plan[3];
     xmas_elf_load_mapping_t of_load_mapping[3];
-    uint8_t of_u8[3];
+    xmas_elf_needed_name_t of_needed_name[3];
+    xmas_elf_candidate_path_t of_candidate_path[3];
+    xmas_elf_object_entry_t of_object_entry[3];
+    xmas_elf_lacked_version_t of_lacked_version[3];
 };
 
 static uint32_t any_open(const struct asked *a, union output *out)
@@ -201,6 +208,24 @@ static uint32_t any_symbol_pieces(const struct asked *a, union output *out)
 {
     return xmas_elf_symbol_pieces(a->bytes, a->size, &a->address_index, (uint64_t)a->index, (uint64_t)a->index, (uint64_t)a->index, out[0].of_u32, 3, out[1].of_u64, 3, out[2].of_piece, 3, &out[3].of_u64[0]);
 }
+static uint32_t any_size_changes(const struct asked *a, union output *out)
+{
+    (void)a;
+    return xmas_elf_size_changes(out[0].of_size_part, 3, out[1].of_size_part, 3, out[2].of_size_change, 3, &out[3].of_u64[0]);
+}
+static uint32_t any_debug_path(const struct asked *a, union output *out)
+{
+    return xmas_elf_debug_path(a->bytes, a->size, &a->header, a->name, a->name_size, a->name, a->name_size, (uint64_t)a->index, out[0].of_u8, 3, &out[1].of_debug_candidate[0]);
+}
+static uint32_t any_check_debug(const struct asked *a, union output *out)
+{
+    (void)out;
+    return xmas_elf_check_debug(a->bytes, a->size, &a->header, (uint32_t)a->index, a->name, a->name_size, &a->header);
+}
+static uint32_t any_debug_crc(const struct asked *a, union output *out)
+{
+    return xmas_elf_debug_crc(a->name, a->name_size, &out[0].of_u32[0]);
+}
 static uint32_t any_load_plan(const struct asked *a, union output *out)
 {
     return xmas_elf_load_plan(a->bytes, a->size, &a->header, (uint64_t)a->index, (uint64_t)a->index, &out[0].of_load_plan[0]);
@@ -230,6 +255,60 @@ static uint32_t any_message(const struct asked *a, union output *out)
 {
     (void)xmas_elf_message((uint32_t)a->index, out[0].of_u8, 3);
     return XMAS_ELF_OK;
+}
+static uint32_t any_needed_names(const struct asked *a, union output *out)
+{
+    return xmas_elf_needed_names(a->bytes, a->size, &a->header, (uint64_t)a->index, out[0].of_needed_name, 3, &out[1].of_u64[0]);
+}
+static uint32_t any_last_entry(const struct asked *a, union output *out)
+{
+    return xmas_elf_last_entry(a->bytes, a->size, &a->header, (uint64_t)a->index, &out[0].of_u64[0]);
+}
+static uint32_t any_last_text(const struct asked *a, union output *out)
+{
+    return xmas_elf_last_text(a->bytes, a->size, &a->header, (uint64_t)a->index, &out[0].of_range[0]);
+}
+static uint32_t any_fits(const struct asked *a, union output *out)
+{
+    return xmas_elf_fits(a->name, a->name_size, (uint64_t)a->index, (uint8_t)a->index, (uint16_t)a->index, &out[0].of_u32[0]);
+}
+static uint32_t any_check_library(const struct asked *a, union output *out)
+{
+    (void)out;
+    return xmas_elf_check_library(a->bytes, a->size, &a->header);
+}
+static uint32_t any_check_load(const struct asked *a, union output *out)
+{
+    (void)out;
+    return xmas_elf_check_load(a->bytes, a->size, &a->header, (uint64_t)a->index, (uint64_t)a->index, (uint32_t)a->index);
+}
+static uint32_t any_expand(const struct asked *a, union output *out)
+{
+    return xmas_elf_expand(a->name, a->name_size, &(xmas_elf_tokens_t){.lib = a->name, .lib_size = a->name_size}, (uint64_t)a->index, out[0].of_u8, 3, &out[1].of_u64[0]);
+}
+static uint32_t any_candidates(const struct asked *a, union output *out)
+{
+    return xmas_elf_candidates(&(xmas_elf_search_for_t){.defaults = a->name, .defaults_size = a->name_size}, &(xmas_elf_search_asker_t){.r_path = a->name, .r_path_size = a->name_size}, 1, (uint64_t)a->index, out[0].of_candidate_path, 3, &out[1].of_u64[0]);
+}
+static uint32_t any_candidate_paths(const struct asked *a, union output *out)
+{
+    return xmas_elf_candidate_paths(&(xmas_elf_search_for_t){.defaults = a->name, .defaults_size = a->name_size}, &(xmas_elf_search_asker_t){.r_path = a->name, .r_path_size = a->name_size}, 1, (uint64_t)a->index, out[0].of_u8, 3, &out[1].of_u64[0]);
+}
+static uint32_t any_cache_path(const struct asked *a, union output *out)
+{
+    return xmas_elf_cache_path(a->name, a->name_size, a->name, a->name_size, &(xmas_elf_cache_machine_t){.flags = 0x303}, (uint64_t)a->index, out[0].of_u8, 3, &out[1].of_u64[0]);
+}
+static uint32_t any_next_entry(const struct asked *a, union output *out)
+{
+    return xmas_elf_next_entry(&(xmas_elf_dependencies_t){.found = a->words, .found_count = a->words_count}, 1, out[0].of_u32, 3, out[1].of_u32, 3, &out[2].of_object_entry[0]);
+}
+static uint32_t any_start_order(const struct asked *a, union output *out)
+{
+    return xmas_elf_start_order(&(xmas_elf_dependencies_t){.found = a->words, .found_count = a->words_count}, 1, out[0].of_u32, 3, out[1].of_u32, 3, out[2].of_u32, 3, out[3].of_u32, 3, &out[4].of_u64[0]);
+}
+static uint32_t any_missing_versions(const struct asked *a, union output *out)
+{
+    return xmas_elf_missing_versions(a->bytes, a->size, &a->header, a->name, a->name_size, a->name, a->name_size, &a->header, (uint64_t)a->index, out[0].of_lacked_version, 3, &out[1].of_u64[0]);
 }
 
 static const struct any {
@@ -280,6 +359,10 @@ static const struct any {
     {"symbols_at", any_symbols_at, {XMAS_ELF_OK, XMAS_ELF_DATA_RANGE, XMAS_ELF_NOT_MULTIPLE}, 3},
     {"pieces", any_pieces, {XMAS_ELF_OK, XMAS_ELF_INDEX_FEW_WORDS}, 2},
     {"symbol_pieces", any_symbol_pieces, {XMAS_ELF_OK, XMAS_ELF_DATA_RANGE, XMAS_ELF_NOT_MULTIPLE, XMAS_ELF_INDEX_MANY_SYMBOLS, XMAS_ELF_INDEX_FEW_WORDS}, 5},
+    {"size_changes", any_size_changes, {XMAS_ELF_OK, XMAS_ELF_INDEX_FEW_WORDS}, 2},
+    {"debug_path", any_debug_path, {XMAS_ELF_OK, XMAS_ELF_NO_RECORD}, 2},
+    {"check_debug", any_check_debug, {XMAS_ELF_OK, XMAS_ELF_NO_BUILD_ID, XMAS_ELF_OTHER_BUILD_ID, XMAS_ELF_OTHER_CHECKSUM}, 4},
+    {"debug_crc", any_debug_crc, {XMAS_ELF_OK}, 1},
     {"load_plan", any_load_plan, {XMAS_ELF_OK, XMAS_ELF_LOAD_TYPE, XMAS_ELF_LOAD_ENTRY_SIZE, XMAS_ELF_LOAD_COUNT, XMAS_ELF_LOAD_TABLE, XMAS_ELF_LOAD_FILE_SIZE, XMAS_ELF_LOAD_EMPTY, XMAS_ELF_LOAD_MISALIGNED, XMAS_ELF_LOAD_ALIGNMENT, XMAS_ELF_LOAD_RANGE, XMAS_ELF_LOAD_DATA, XMAS_ELF_LOAD_OVERLAP, XMAS_ELF_LOAD_ZEROS, XMAS_ELF_LOAD_NO_LOAD, XMAS_ELF_LOAD_HEADERS, XMAS_ELF_LOAD_INTERPRETER, XMAS_ELF_LOAD_RELRO, XMAS_ELF_LOAD_TLS, XMAS_ELF_LOAD_ENTRY}, 19},
     {"load_mappings", any_load_mappings, {XMAS_ELF_OK, XMAS_ELF_LOAD_TYPE, XMAS_ELF_LOAD_ENTRY_SIZE, XMAS_ELF_LOAD_COUNT, XMAS_ELF_LOAD_TABLE, XMAS_ELF_LOAD_FILE_SIZE, XMAS_ELF_LOAD_EMPTY, XMAS_ELF_LOAD_MISALIGNED, XMAS_ELF_LOAD_ALIGNMENT, XMAS_ELF_LOAD_RANGE, XMAS_ELF_LOAD_DATA, XMAS_ELF_LOAD_OVERLAP, XMAS_ELF_LOAD_ZEROS, XMAS_ELF_LOAD_NO_LOAD, XMAS_ELF_LOAD_HEADERS, XMAS_ELF_LOAD_INTERPRETER, XMAS_ELF_LOAD_RELRO, XMAS_ELF_LOAD_TLS, XMAS_ELF_LOAD_ENTRY, XMAS_ELF_NO_RECORD}, 20},
     {"load_image", any_load_image, {XMAS_ELF_OK, XMAS_ELF_LOAD_TYPE, XMAS_ELF_LOAD_ENTRY_SIZE, XMAS_ELF_LOAD_COUNT, XMAS_ELF_LOAD_TABLE, XMAS_ELF_LOAD_FILE_SIZE, XMAS_ELF_LOAD_EMPTY, XMAS_ELF_LOAD_MISALIGNED, XMAS_ELF_LOAD_ALIGNMENT, XMAS_ELF_LOAD_RANGE, XMAS_ELF_LOAD_DATA, XMAS_ELF_LOAD_OVERLAP, XMAS_ELF_LOAD_ZEROS, XMAS_ELF_LOAD_NO_LOAD, XMAS_ELF_LOAD_HEADERS, XMAS_ELF_LOAD_INTERPRETER, XMAS_ELF_LOAD_RELRO, XMAS_ELF_LOAD_TLS, XMAS_ELF_LOAD_ENTRY, XMAS_ELF_LOAD_IMAGE_SIZE}, 20},
@@ -287,4 +370,17 @@ static const struct any {
     {"relocate", any_relocate, {XMAS_ELF_OK, XMAS_ELF_LINK_OBJECT_INDEX, XMAS_ELF_MANY_OBJECTS, XMAS_ELF_SHORT_PART_1, XMAS_ELF_NO_MAGIC, XMAS_ELF_INVALID_CLASS, XMAS_ELF_SHORT_HEADERS, XMAS_ELF_LINK_NO_DYNAMIC, XMAS_ELF_LINK_ADDRESS, XMAS_ELF_DATA_RANGE, XMAS_ELF_NOT_MULTIPLE, XMAS_ELF_LINK_NO_ENTRY, XMAS_ELF_SHORT_DATA, XMAS_ELF_LINK_SHORT_TABLE, XMAS_ELF_LINK_BLOOM_COUNT, XMAS_ELF_LINK_CHAIN_INDEX, XMAS_ELF_LINK_CHAIN_DATA, XMAS_ELF_LINK_SYMBOL_INDEX, XMAS_ELF_LINK_UNKNOWN_CLASS, XMAS_ELF_LINK_NOT_MULTIPLE, XMAS_ELF_LINK_RELOCATION_KIND, XMAS_ELF_SYMBOL_INDEX, XMAS_ELF_HASH_DATA, XMAS_ELF_CHAIN_INDEX, XMAS_ELF_CHAIN_SUM, XMAS_ELF_HASH_CYCLE, XMAS_ELF_LINK_SHORT_VERSION, XMAS_ELF_LINK_VERSION_COUNT, XMAS_ELF_TEXT_START, XMAS_ELF_TEXT_END, XMAS_ELF_TEXT_UTF_8, XMAS_ELF_LOAD_TYPE, XMAS_ELF_LOAD_ENTRY_SIZE, XMAS_ELF_LOAD_COUNT, XMAS_ELF_LOAD_TABLE, XMAS_ELF_LOAD_FILE_SIZE, XMAS_ELF_LOAD_EMPTY, XMAS_ELF_LOAD_MISALIGNED, XMAS_ELF_LOAD_ALIGNMENT, XMAS_ELF_LOAD_RANGE, XMAS_ELF_LOAD_DATA, XMAS_ELF_LOAD_OVERLAP, XMAS_ELF_LOAD_ZEROS, XMAS_ELF_LOAD_NO_LOAD, XMAS_ELF_LOAD_HEADERS, XMAS_ELF_LOAD_INTERPRETER, XMAS_ELF_LOAD_RELRO, XMAS_ELF_LOAD_TLS, XMAS_ELF_LOAD_ENTRY, XMAS_ELF_LOAD_IMAGE_SIZE, XMAS_ELF_LOAD_WORD_TYPE, XMAS_ELF_LOAD_NO_SIZE, XMAS_ELF_LOAD_COPY_KIND, XMAS_ELF_LOAD_CALL_SYMBOL, XMAS_ELF_LOAD_UNRESOLVED, XMAS_ELF_LOAD_WORD_ADDRESS, XMAS_ELF_LOAD_COPY_SOURCE}, 57},
     {"relocate_all", any_relocate_all, {XMAS_ELF_OK, XMAS_ELF_LINK_OBJECT_INDEX, XMAS_ELF_MANY_OBJECTS, XMAS_ELF_SHORT_PART_1, XMAS_ELF_NO_MAGIC, XMAS_ELF_INVALID_CLASS, XMAS_ELF_SHORT_HEADERS, XMAS_ELF_LINK_NO_DYNAMIC, XMAS_ELF_LINK_ADDRESS, XMAS_ELF_DATA_RANGE, XMAS_ELF_NOT_MULTIPLE, XMAS_ELF_LINK_NO_ENTRY, XMAS_ELF_SHORT_DATA, XMAS_ELF_LINK_SHORT_TABLE, XMAS_ELF_LINK_BLOOM_COUNT, XMAS_ELF_LINK_CHAIN_INDEX, XMAS_ELF_LINK_CHAIN_DATA, XMAS_ELF_LINK_SYMBOL_INDEX, XMAS_ELF_LINK_UNKNOWN_CLASS, XMAS_ELF_LINK_NOT_MULTIPLE, XMAS_ELF_LINK_RELOCATION_KIND, XMAS_ELF_SYMBOL_INDEX, XMAS_ELF_HASH_DATA, XMAS_ELF_CHAIN_INDEX, XMAS_ELF_CHAIN_SUM, XMAS_ELF_HASH_CYCLE, XMAS_ELF_LINK_SHORT_VERSION, XMAS_ELF_LINK_VERSION_COUNT, XMAS_ELF_TEXT_START, XMAS_ELF_TEXT_END, XMAS_ELF_TEXT_UTF_8, XMAS_ELF_LOAD_TYPE, XMAS_ELF_LOAD_ENTRY_SIZE, XMAS_ELF_LOAD_COUNT, XMAS_ELF_LOAD_TABLE, XMAS_ELF_LOAD_FILE_SIZE, XMAS_ELF_LOAD_EMPTY, XMAS_ELF_LOAD_MISALIGNED, XMAS_ELF_LOAD_ALIGNMENT, XMAS_ELF_LOAD_RANGE, XMAS_ELF_LOAD_DATA, XMAS_ELF_LOAD_OVERLAP, XMAS_ELF_LOAD_ZEROS, XMAS_ELF_LOAD_NO_LOAD, XMAS_ELF_LOAD_HEADERS, XMAS_ELF_LOAD_INTERPRETER, XMAS_ELF_LOAD_RELRO, XMAS_ELF_LOAD_TLS, XMAS_ELF_LOAD_ENTRY, XMAS_ELF_LOAD_IMAGE_SIZE, XMAS_ELF_LOAD_WORD_TYPE, XMAS_ELF_LOAD_NO_SIZE, XMAS_ELF_LOAD_COPY_KIND, XMAS_ELF_LOAD_CALL_SYMBOL, XMAS_ELF_LOAD_UNRESOLVED, XMAS_ELF_LOAD_WORD_ADDRESS, XMAS_ELF_LOAD_COPY_SOURCE}, 57},
     {"message", any_message, {XMAS_ELF_OK}, 1},
+    {"needed_names", any_needed_names, {XMAS_ELF_OK, XMAS_ELF_LINK_NO_DYNAMIC, XMAS_ELF_LINK_ADDRESS, XMAS_ELF_DATA_RANGE, XMAS_ELF_NOT_MULTIPLE, XMAS_ELF_NO_RECORD}, 6},
+    {"last_entry", any_last_entry, {XMAS_ELF_OK, XMAS_ELF_LINK_NO_DYNAMIC, XMAS_ELF_LINK_ADDRESS, XMAS_ELF_DATA_RANGE, XMAS_ELF_NOT_MULTIPLE, XMAS_ELF_NOT_FOUND}, 6},
+    {"last_text", any_last_text, {XMAS_ELF_OK, XMAS_ELF_LINK_NO_DYNAMIC, XMAS_ELF_LINK_ADDRESS, XMAS_ELF_DATA_RANGE, XMAS_ELF_NOT_MULTIPLE, XMAS_ELF_NOT_FOUND, XMAS_ELF_LINK_NO_ENTRY, XMAS_ELF_TEXT_START, XMAS_ELF_TEXT_END, XMAS_ELF_TEXT_UTF_8}, 10},
+    {"fits", any_fits, {XMAS_ELF_OK, XMAS_ELF_SEARCH_SHORT_FILE, XMAS_ELF_SEARCH_MAGIC, XMAS_ELF_SEARCH_BYTE_ORDER, XMAS_ELF_SEARCH_IDENT_VERSION, XMAS_ELF_SEARCH_OS_ABI, XMAS_ELF_SEARCH_ABI_VERSION, XMAS_ELF_SEARCH_PADDING, XMAS_ELF_SEARCH_VERSION, XMAS_ELF_SEARCH_TYPE, XMAS_ELF_SEARCH_ENTRY_SIZE, XMAS_ELF_SEARCH_FILE_DATA}, 12},
+    {"check_library", any_check_library, {XMAS_ELF_OK, XMAS_ELF_SEARCH_NO_LOAD, XMAS_ELF_SEARCH_EXECUTABLE, XMAS_ELF_SEARCH_NO_DYNAMIC, XMAS_ELF_LINK_NO_DYNAMIC, XMAS_ELF_LINK_ADDRESS, XMAS_ELF_DATA_RANGE, XMAS_ELF_NOT_MULTIPLE, XMAS_ELF_SEARCH_SHARED_EXECUTABLE}, 9},
+    {"check_load", any_check_load, {XMAS_ELF_OK, XMAS_ELF_LOAD_BYTE_ORDER, XMAS_ELF_LOAD_IDENT_VERSION, XMAS_ELF_LOAD_OS_ABI, XMAS_ELF_LOAD_ABI_VERSION, XMAS_ELF_LOAD_PADDING, XMAS_ELF_LOAD_VERSION, XMAS_ELF_LOAD_TYPE, XMAS_ELF_LOAD_ENTRY_SIZE, XMAS_ELF_LOAD_COUNT, XMAS_ELF_LOAD_TABLE, XMAS_ELF_LOAD_MISALIGNED, XMAS_ELF_LOAD_NO_LOAD, XMAS_ELF_LOAD_EXECUTABLE, XMAS_ELF_LOAD_RANGE, XMAS_ELF_LOAD_DATA, XMAS_ELF_LOAD_OVERLAP, XMAS_ELF_LOAD_FILE_SIZE, XMAS_ELF_LOAD_INTERPRETER, XMAS_ELF_LOAD_EMPTY, XMAS_ELF_LOAD_ENTRY, XMAS_ELF_LOAD_NO_DYNAMIC, XMAS_ELF_LOAD_RELRO, XMAS_ELF_LOAD_TLS}, 24},
+    {"expand", any_expand, {XMAS_ELF_OK, XMAS_ELF_SEARCH_EMPTY_TOKEN, XMAS_ELF_NO_RECORD}, 3},
+    {"candidates", any_candidates, {XMAS_ELF_OK, XMAS_ELF_MANY_OBJECTS, XMAS_ELF_NO_RECORD}, 3},
+    {"candidate_paths", any_candidate_paths, {XMAS_ELF_OK, XMAS_ELF_MANY_OBJECTS, XMAS_ELF_NO_RECORD}, 3},
+    {"cache_path", any_cache_path, {XMAS_ELF_OK, XMAS_ELF_SEARCH_NOT_A_CACHE, XMAS_ELF_SEARCH_CACHE_COUNT, XMAS_ELF_SEARCH_CACHE_ORDER, XMAS_ELF_NOT_FOUND, XMAS_ELF_NO_RECORD}, 6},
+    {"next_entry", any_next_entry, {XMAS_ELF_OK, XMAS_ELF_NO_RECORD, XMAS_ELF_SEARCH_NO_OBJECT, XMAS_ELF_SEARCH_FEW_WORDS}, 4},
+    {"start_order", any_start_order, {XMAS_ELF_OK, XMAS_ELF_SEARCH_FEW_WORDS, XMAS_ELF_SEARCH_NO_OBJECT}, 3},
+    {"missing_versions", any_missing_versions, {XMAS_ELF_OK, XMAS_ELF_LINK_NO_DYNAMIC, XMAS_ELF_LINK_ADDRESS, XMAS_ELF_DATA_RANGE, XMAS_ELF_NOT_MULTIPLE, XMAS_ELF_NO_RECORD}, 6},
 };

@@ -51,8 +51,15 @@ struct outputs {
         xmas_elf_address_index_t address_index;
         xmas_elf_symbol_at_t symbols_at[3];
         xmas_elf_piece_t pieces[3];
+        xmas_elf_size_change_t size_changes[3];
+        xmas_elf_debug_candidate_t debug_candidate;
         xmas_elf_load_plan_t load_plan;
         xmas_elf_load_mapping_t load_mappings[3];
+        xmas_elf_needed_name_t needed_names[3];
+        xmas_elf_candidate_path_t candidates[3];
+        xmas_elf_object_entry_t entry;
+        xmas_elf_lacked_version_t lacked[3];
+        uint32_t starts[6];
         uint8_t text[XMAS_ELF_LONGEST_MESSAGE];
     } of;
     uint64_t count;
@@ -241,6 +248,38 @@ CALL(symbol_pieces) /* the addresses of a symbol are its own; a word less is an 
     status = xmas_elf_symbol_pieces(a->bytes, a->size, &index, begin, begin + 4, 0, words, most - 1, numbers, room, NULL, 0, &count);
     return status == XMAS_ELF_INDEX_FEW_WORDS ? XMAS_ELF_OK : 997;
 }
+CALL(size_changes) /* a part of the old file alone, and one of both; a row less is an error */
+{
+    xmas_elf_size_part_t olds[2] = {{a->name, a->name_size, 1, 0, 7}, {a->name, a->name_size, 0, 1, 5}};
+    xmas_elf_size_part_t news[1] = {{a->name, a->name_size, 0, 4, 9}};
+    const xmas_elf_size_change_t *rows = out->of.size_changes;
+    uint32_t status = xmas_elf_size_changes(olds, 2, news, 1, out->of.size_changes, a->index == 0 ? 3 : 2, &out->count);
+    if (status != XMAS_ELF_OK) return olds[0].kind == 1 ? status : 999;
+    if (out->count != 2 || olds[0].kind != 0 || olds[1].kind != 1) return 998;
+    if (rows[0].files != 0 || rows[0].old_index != 1 || rows[0].old_size != 7 || rows[0].new_size != 0) return 997;
+    return rows[1].files == 2 && rows[1].old_index == 0 && rows[1].new_index == 0 && rows[1].old_size == 5 && rows[1].new_size == 9 ? status : 996;
+}
+CALL(debug_path) /* by the build id, of 20 bytes */
+{
+    uint8_t text[60], part[13];
+    xmas_elf_debug_candidate_t *one = &out->of.debug_candidate;
+    uint32_t status = xmas_elf_debug_path(FILE_OF(a), NULL, 0, (const uint8_t *)"/d", 2, a->index, text, sizeof text, one);
+    if (status != xmas_elf_debug_path(FILE_OF(a), NULL, 0, (const uint8_t *)"/d", 2, a->index, part, sizeof part, one)) return 999;
+    if (status != XMAS_ELF_OK) return status;
+    if (one->size != sizeof text || one->how != 0 || memcmp(part, "/d/.build-id/", sizeof part) != 0) return 998;
+    return memcmp(text, part, sizeof part) == 0 && text[15] == '/' && memcmp(text + 54, ".debug", 6) == 0 ? status : 997;
+}
+CALL(check_debug) /* it has its own build id, and no link */
+{
+    (void)out;
+    return xmas_elf_check_debug(FILE_OF(a), (uint32_t)a->index, FILE_OF(a));
+}
+CALL(debug_crc)
+{
+    uint32_t status = xmas_elf_debug_crc((const uint8_t *)"123456789", 9, &out->of.number);
+    (void)a;
+    return out->of.number == 0xcbf43926 ? status : 999;
+}
 CALL(load_plan) { return xmas_elf_load_plan(FILE_OF(a), a->index, 0, &out->of.load_plan); }
 CALL_MANY(load_mappings, load_mappings, 4096, 0, 0, a->index)
 #define LARGEST ((size_t)1 << 24)
@@ -283,6 +322,77 @@ CALL(relocate_all) /* the same, by one call for all */
     status = xmas_elf_relocate_all(OBJECT_OF(a), 0, a->index, 0, image, size, &out->count, &failed);
     if (status != XMAS_ELF_OK && failed != 0) return 996;
     return status == XMAS_ELF_LOAD_UNRESOLVED ? XMAS_ELF_OK : status;
+}
+CALL_MANY(needed_names, needed_names, a->index)
+CALL(last_entry) { return xmas_elf_last_entry(FILE_OF(a), a->index, &out->of.addresses[0]); }
+CALL(last_text) { return xmas_elf_last_text(FILE_OF(a), a->index, &out->of.range); }
+CALL(fits) { return xmas_elf_fits(a->bytes, a->index ? 3 : a->size, a->size, 2, 62, &out->of.number); }
+CALL(check_library) /* this program can be loaded anywhere */
+{
+    uint32_t status = xmas_elf_check_library(FILE_OF(a));
+    (void)out;
+    return status == XMAS_ELF_SEARCH_SHARED_EXECUTABLE ? XMAS_ELF_OK : status;
+}
+CALL(check_load) { (void)out; return xmas_elf_check_load(FILE_OF(a), 0, 0, (uint32_t)a->index); }
+static const xmas_elf_tokens_t tokens = {(const uint8_t *)"/o", 2, NULL, 0, NULL, 0};
+static const xmas_elf_text_t subdirectories[] = {{(const uint8_t *)"s/", 2}, {(const uint8_t *)"", 0}};
+static const xmas_elf_search_asker_t asker = {(const uint8_t *)"$ORIGIN/l", 9, NULL, 0, {(const uint8_t *)"/o", 2, NULL, 0, NULL, 0}, 0, 0};
+static xmas_elf_search_for_t search_for(const struct asked *a)
+{
+    return (xmas_elf_search_for_t){.name = a->name, .name_size = a->name_size, .subdirectories = subdirectories, .subdirectories_count = 2};
+}
+CALL(expand)
+{
+    const uint8_t *text = (const uint8_t *)"$ORIGIN/${LIB";
+    uint64_t none = 7;
+    if (xmas_elf_expand((const uint8_t *)"$LIB", 4, &tokens, 0, NULL, 0, &none) != XMAS_ELF_SEARCH_EMPTY_TOKEN || none != 7) return 999;
+    uint32_t status = xmas_elf_expand(text, a->size ? 13 : 0, &tokens, a->index, out->of.text, 64, &out->count);
+    return status != XMAS_ELF_OK || (out->count == 8 && memcmp(out->of.text, "/o/${LIB", 8) == 0) ? status : 998;
+}
+CALL(candidates)
+{
+    const xmas_elf_search_for_t search = search_for(a);
+    uint32_t status = xmas_elf_candidates(&search, &asker, 1, a->index, out->of.candidates, 3, &out->count);
+    return status != XMAS_ELF_OK || (out->count == 2 && out->of.candidates[0].how == 2 && out->of.candidates[0].subdirectory_size == 2) ? status : 999;
+}
+CALL(candidate_paths)
+{
+    const xmas_elf_search_for_t search = search_for(a);
+    uint32_t status = xmas_elf_candidate_paths(&search, &asker, 1, a->index, out->of.text, 64, &out->count);
+    return status != XMAS_ELF_OK || memcmp(out->of.text, "/o/l/s/", 7) == 0 ? status : 999;
+}
+CALL(cache_path)
+{
+    /* A cache of one entry: its key and its value are behind it. */
+    uint8_t cache[48 + 24 + 16] = "glibc-ld.so.cache1.1";
+    const xmas_elf_cache_machine_t machine = {.flags = 0x303, .other_flags = 0x303, .levels = 1};
+    cache[20] = 1, cache[28] = 2, cache[48] = cache[49] = 3, cache[52] = 72, cache[56] = 81;
+    memcpy(cache + 72, ".dynamic\0/l/x", 14);
+    if (xmas_elf_cache_path(a->bytes, a->size, a->name, a->name_size, &machine, 0, out->of.text, 8, &out->count) != XMAS_ELF_SEARCH_NOT_A_CACHE) return 999;
+    uint32_t status = xmas_elf_cache_path(cache, sizeof cache, a->name, a->name_size, &machine, a->index, out->of.text, 8, &out->count);
+    return status != XMAS_ELF_OK || (out->count == 4 && memcmp(out->of.text, "/l/x", 4) == 0) ? status : 998;
+}
+static const uint32_t numbers_found[] = {1, 0xfffffffe, 0xffffffff};
+CALL(next_entry) /* the second entry of the first object was not asked for */
+{
+    const xmas_elf_dependencies_t objects[2] = {{numbers_found, a->index ? 1 : 2, NULL, 0}, {NULL, 0, NULL, 0}};
+    uint32_t status = xmas_elf_next_entry(objects, a->size ? 2 : 0, NULL, 0, NULL, 0, &out->of.entry);
+    return status != XMAS_ELF_OK || (out->of.entry.object == 0 && out->of.entry.entry == 1) ? status : 999;
+}
+CALL(start_order)
+{
+    const xmas_elf_dependencies_t objects[2] = {{numbers_found, a->index ? 2 : 1, NULL, 0}, {numbers_found + 2, 1, NULL, 0}};
+    uint32_t words[8], edges[3], list[2] = {7, 7}, starts[6] = {7};
+    size_t count = a->size ? 2 : 0;
+    if (xmas_elf_start_order(objects, 2, words, 7, edges, 3, list, 2, starts, 6, &out->count) == XMAS_ELF_OK) return 999;
+    uint32_t status = xmas_elf_start_order(objects, count, words, 8, edges, 3, list, 2, starts, 6, &out->count);
+    if (status == XMAS_ELF_OK) memcpy(out->of.starts, starts, sizeof starts[0]);
+    return status != XMAS_ELF_OK || (out->count == 1 && starts[0] == 1 && list[0] == 0 && list[1] == 1) ? status : 998;
+}
+CALL(missing_versions) /* the program lacks what it needs of the C library */
+{
+    uint32_t status = xmas_elf_missing_versions(FILE_OF(a), (const uint8_t *)"libc.so.6", 9, FILE_OF(a), a->index, out->of.lacked, 2, &out->count);
+    return status != XMAS_ELF_OK || out->of.lacked[0].lack == 3 ? status : 999;
 }
 CALL(message) /* OK where the status `index` has a text */
 {
@@ -347,12 +457,29 @@ static const struct row {
     {"symbols_at", symbols_at_call, NONE, 0, FAR, XMAS_ELF_DATA_RANGE, XMAS_ELF_DATA_RANGE},
     {"pieces", pieces_call, NONE, 1, FAR, XMAS_ELF_INDEX_FEW_WORDS, XMAS_ELF_OK},
     {"symbol_pieces", symbol_pieces_call, NONE, 0, FAR, XMAS_ELF_DATA_RANGE, XMAS_ELF_DATA_RANGE},
+    {"size_changes", size_changes_call, NONE, 0, 1, XMAS_ELF_INDEX_FEW_WORDS, XMAS_ELF_OK},
+    {"debug_path", debug_path_call, NONE, 0, FAR, XMAS_ELF_NO_RECORD, XMAS_ELF_NO_RECORD},
+    {"check_debug", check_debug_call, NONE, 0, 1, XMAS_ELF_OTHER_CHECKSUM, XMAS_ELF_NO_BUILD_ID},
+    {"debug_crc", debug_crc_call, NONE, 0, 0, XMAS_ELF_OK, XMAS_ELF_OK},
     {"load_plan", load_plan_call, NONE, 0, FAR, XMAS_ELF_LOAD_OVERLAP, XMAS_ELF_LOAD_TABLE},
     {"load_mappings", load_mappings_call, NONE, 1, FAR, XMAS_ELF_NO_RECORD, XMAS_ELF_LOAD_TABLE},
     {"load_image", load_image_call, NONE, 0, FAR, XMAS_ELF_LOAD_OVERLAP, XMAS_ELF_LOAD_TABLE},
     {"check_image", check_image_call, NONE, 0, FAR, XMAS_ELF_LINK_OBJECT_INDEX, XMAS_ELF_SHORT_PART_1},
     {"relocate", relocate_call, NONE, 0, FAR, XMAS_ELF_LINK_OBJECT_INDEX, XMAS_ELF_SHORT_PART_1},
     {"relocate_all", relocate_all_call, NONE, 0, FAR, XMAS_ELF_LOAD_OVERLAP, XMAS_ELF_SHORT_PART_1},
+    {"needed_names", needed_names_call, NONE, 0, FAR, XMAS_ELF_NO_RECORD, XMAS_ELF_LINK_NO_DYNAMIC},
+    {"last_entry", last_entry_call, NONE, 5, FAR, XMAS_ELF_NOT_FOUND, XMAS_ELF_LINK_NO_DYNAMIC},
+    {"last_text", last_text_call, NONE, 1, FAR, XMAS_ELF_NOT_FOUND, XMAS_ELF_LINK_NO_DYNAMIC},
+    {"fits", fits_call, NONE, 0, 1, XMAS_ELF_SEARCH_SHORT_FILE, XMAS_ELF_SEARCH_SHORT_FILE},
+    {"check_library", check_library_call, NONE, 0, 0, XMAS_ELF_OK, XMAS_ELF_SEARCH_NO_LOAD},
+    {"check_load", check_load_call, NONE, 0, 1, XMAS_ELF_OK, XMAS_ELF_LOAD_TABLE},
+    {"expand", expand_call, NONE, 0, FAR, XMAS_ELF_NO_RECORD, XMAS_ELF_NO_RECORD},
+    {"candidates", candidates_call, NONE, 0, FAR, XMAS_ELF_NO_RECORD, XMAS_ELF_OK},
+    {"candidate_paths", candidate_paths_call, NONE, 0, FAR, XMAS_ELF_NO_RECORD, XMAS_ELF_OK},
+    {"cache_path", cache_path_call, NONE, 0, 0, XMAS_ELF_NOT_FOUND, XMAS_ELF_NOT_FOUND},
+    {"next_entry", next_entry_call, NONE, 0, 1, XMAS_ELF_NO_RECORD, XMAS_ELF_NO_RECORD},
+    {"start_order", start_order_call, NONE, 0, 1, XMAS_ELF_SEARCH_NO_OBJECT, XMAS_ELF_SEARCH_NO_OBJECT},
+    {"missing_versions", missing_versions_call, NONE, 0, FAR, XMAS_ELF_NO_RECORD, XMAS_ELF_LINK_NO_DYNAMIC},
     {"message", message_call, NONE, XMAS_ELF_NOT_FOUND, 0, XMAS_ELF_NOT_FOUND, XMAS_ELF_OK},
 };
 
@@ -418,7 +545,7 @@ static int is_listed(const struct any *any, uint32_t status)
  * a status of the list, and a call with an error leaves the pattern. */
 static void try_any(const struct any *any, const struct asked *asked, const uint8_t *elsewhere)
 {
-    union output before[4], out[4], again[4];
+    union output before[5], out[5], again[5];
     struct asked moved = *asked;
     moved.bytes = elsewhere;
     memset(before, 0xa5, sizeof before);

@@ -220,6 +220,12 @@ enum xmas_elf_status {
     XMAS_ELF_NOT_FOUND = 203,
     /* There are more than 64 objects. */
     XMAS_ELF_MANY_OBJECTS = 204,
+    /* A debug file has no build id. */
+    XMAS_ELF_NO_BUILD_ID = 211,
+    /* A debug file has another build id. */
+    XMAS_ELF_OTHER_BUILD_ID = 212,
+    /* A debug file has another CRC. */
+    XMAS_ELF_OTHER_CHECKSUM = 213,
     /* Type is neither executable nor shared object. */
     XMAS_ELF_LOAD_TYPE = 301,
     /* Program headers are not of the size of the class. */
@@ -325,12 +331,63 @@ enum xmas_elf_status {
     /* Table has 2^32 symbols or more. */
     XMAS_ELF_INDEX_MANY_SYMBOLS = 401,
     /* Too few words for the index. */
-    XMAS_ELF_INDEX_FEW_WORDS = 402
+    XMAS_ELF_INDEX_FEW_WORDS = 402,
+    /* cannot read file data. */
+    XMAS_ELF_SEARCH_FILE_DATA = 501,
+    /* file too short. */
+    XMAS_ELF_SEARCH_SHORT_FILE = 502,
+    /* invalid ELF header. */
+    XMAS_ELF_SEARCH_MAGIC = 503,
+    /* ELF file data encoding not little-endian. */
+    XMAS_ELF_SEARCH_BYTE_ORDER = 504,
+    /* ELF file version ident does not match current one. */
+    XMAS_ELF_SEARCH_IDENT_VERSION = 505,
+    /* ELF file OS ABI invalid. */
+    XMAS_ELF_SEARCH_OS_ABI = 506,
+    /* ELF file ABI version invalid. */
+    XMAS_ELF_SEARCH_ABI_VERSION = 507,
+    /* nonzero padding in e_ident. */
+    XMAS_ELF_SEARCH_PADDING = 508,
+    /* ELF file version does not match current one. */
+    XMAS_ELF_SEARCH_VERSION = 509,
+    /* only ET_DYN and ET_EXEC can be loaded. */
+    XMAS_ELF_SEARCH_TYPE = 510,
+    /* ELF file's phentsize not the expected size. */
+    XMAS_ELF_SEARCH_ENTRY_SIZE = 511,
+    /* object file has no loadable segments. */
+    XMAS_ELF_SEARCH_NO_LOAD = 512,
+    /* cannot dynamically load executable. */
+    XMAS_ELF_SEARCH_EXECUTABLE = 513,
+    /* object file has no dynamic section. */
+    XMAS_ELF_SEARCH_NO_DYNAMIC = 514,
+    /* cannot dynamically load position-independent executable. */
+    XMAS_ELF_SEARCH_SHARED_EXECUTABLE = 515,
+    /* empty dynamic string token substitution. */
+    XMAS_ELF_SEARCH_EMPTY_TOKEN = 516,
+    /* not a cache of libraries. */
+    XMAS_ELF_SEARCH_NOT_A_CACHE = 517,
+    /* entries extend past the end of the cache. */
+    XMAS_ELF_SEARCH_CACHE_COUNT = 518,
+    /* cache is of another byte order. */
+    XMAS_ELF_SEARCH_CACHE_ORDER = 519,
+    /* too few words for the objects. */
+    XMAS_ELF_SEARCH_FEW_WORDS = 520,
+    /* no such object or entry. */
+    XMAS_ELF_SEARCH_NO_OBJECT = 521,
+    /* file of a need of versions is no object. */
+    XMAS_ELF_SEARCH_NO_PROVIDER = 530
 };
 
 /* How many bytes the longest text of a status has. */
 #define XMAS_ELF_LONGEST_MESSAGE 74
 /* End of the statuses. */
+
+/* A text of a list that a struct names: its bytes, without a zero byte at their end. The pointer is not null, also
+ * where the size is 0. */
+typedef struct xmas_elf_text_t {
+    const uint8_t *bytes;
+    size_t size;
+} xmas_elf_text_t;
 
 /* The structs and functions, written by tools/exports/declarations.py. */
 /* The ELF header of a file (gABI, "ELF Header"). */
@@ -688,6 +745,43 @@ typedef struct xmas_elf_piece_sizes_t {
     uint64_t count;
 } xmas_elf_piece_sizes_t;
 
+/* A part of a file, and its number of bytes. */
+typedef struct xmas_elf_size_part_t {
+    /* The bytes of its name, which may be empty. */
+    const uint8_t *name;
+    size_t name_size;
+    /* The number of its kind, as the caller numbers kinds. */
+    uint64_t kind;
+    /* Its place in the file, such as an index: of parts with one kind and one name, the one with the smallest place
+     * is the first. */
+    uint64_t place;
+    /* Its number of bytes. */
+    uint64_t size;
+} xmas_elf_size_part_t;
+
+/* What became of a part from one file to another. */
+typedef struct xmas_elf_size_change_t {
+    /* The index of the part of the old file in its list, as the call sorts it; 0 where `files` is 1. */
+    uint64_t old_index;
+    /* The index of the part of the new file in its list, as the call sorts it; 0 where `files` is 0. */
+    uint64_t new_index;
+    /* The number of bytes in the old file; 0 if the part isn't there. */
+    uint64_t old_size;
+    /* The number of bytes in the new file; 0 if the part isn't there. */
+    uint64_t new_size;
+    /* Where it is: 0 in the old file alone, 1 in the new file alone, 2 in both. */
+    uint32_t files;
+} xmas_elf_size_change_t;
+
+/* A path at which a debug file may be. */
+typedef struct xmas_elf_debug_candidate_t {
+    /* The number of bytes of the path. */
+    uint64_t size;
+    /* How the file is found: 0 by the build id, 1 by the name in the link in the folder of the file, 2 in `.debug`
+     * there, 3 in the same folder under the directory. */
+    uint32_t how;
+} xmas_elf_debug_candidate_t;
+
 /* An object of a process: its file, and where it is loaded. Objects are in the order in which they are loaded, the
  * program first. */
 typedef struct xmas_elf_load_object_t {
@@ -704,6 +798,129 @@ typedef struct xmas_elf_load_object_t {
     /* The offset of its thread-local storage from the thread pointer, modulo 2^64. */
     uint64_t thread;
 } xmas_elf_load_object_t;
+
+/* A name that an object asks for. */
+typedef struct xmas_elf_needed_name_t {
+    /* The bytes of the name, with its dynamic string tokens, without the zero byte that ends it; offset and size are
+     * 0 if the name can't be read. */
+    xmas_elf_range_t range;
+    /* The status of this name. */
+    uint32_t status;
+    /* What the object asks for: 1 a library that it needs (DT_NEEDED), 2 one that is searched before it, if there is
+     * one (DT_AUXILIARY), 3 one that is searched in its place (DT_FILTER). */
+    uint32_t kind;
+} xmas_elf_needed_name_t;
+
+/* The values of the dynamic string tokens for an object. An empty value is not known. */
+typedef struct xmas_elf_tokens_t {
+    /* The folder of the object (`$ORIGIN`). */
+    const uint8_t *origin;
+    size_t origin_size;
+    /* The folder of libraries for the machine, as `lib64` (`$LIB`). */
+    const uint8_t *lib;
+    size_t lib_size;
+    /* The kind of the processor, as `x86_64` (`$PLATFORM`). */
+    const uint8_t *platform;
+    size_t platform_size;
+} xmas_elf_tokens_t;
+
+/* What an object says about the search for libraries. */
+typedef struct xmas_elf_search_asker_t {
+    /* The text of its last DT_RPATH; empty if it has none. */
+    const uint8_t *r_path;
+    size_t r_path_size;
+    /* The text of its last DT_RUNPATH. */
+    const uint8_t *run_path;
+    size_t run_path_size;
+    /* The values of its tokens. */
+    xmas_elf_tokens_t tokens;
+    /* 1 if it has a DT_RUNPATH, even an empty one: its DT_RPATH then does not count. */
+    uint32_t has_run_path;
+    /* 1 if it has the flag 0x800 (DF_1_NODEFLIB): no library is looked for in the default folders. */
+    uint32_t no_default;
+} xmas_elf_search_asker_t;
+
+/* A name that is looked for, and what the search depends on. No text may have a zero byte. */
+typedef struct xmas_elf_search_for_t {
+    /* The name, with its tokens replaced. */
+    const uint8_t *name;
+    size_t name_size;
+    /* The value of LD_LIBRARY_PATH. */
+    const uint8_t *library_path;
+    size_t library_path_size;
+    /* The path that the cache has for the name (`xmas_elf_cache_path`); empty if it has none. */
+    const uint8_t *cache;
+    size_t cache_size;
+    /* The folders of ld.so.conf, one in each line, where there is no cache. */
+    const uint8_t *conf;
+    size_t conf_size;
+    /* The default folders, with colons between them. */
+    const uint8_t *defaults;
+    size_t defaults_size;
+    /* The subdirectories of each folder that are tried, each with a slash at its end; the last is the empty text. */
+    const xmas_elf_text_t *subdirectories;
+    size_t subdirectories_count;
+    /* The values of the tokens for the program. */
+    xmas_elf_tokens_t program;
+} xmas_elf_search_for_t;
+
+/* A path at which a library is looked for. */
+typedef struct xmas_elf_candidate_path_t {
+    /* Why it is tried: 1 the name has a slash and is the path, 2 the DT_RPATH of an object, 3 LD_LIBRARY_PATH, 4 the
+     * DT_RUNPATH of the object that asks, 5 the cache, 6 ld.so.conf, 7 the default folders. */
+    uint32_t how;
+    /* For a DT_RPATH the index of its object among the askers, otherwise 0. */
+    uint64_t asker;
+    /* The size of its subdirectory in bytes; 0 for the folder itself. */
+    uint64_t subdirectory_size;
+} xmas_elf_candidate_path_t;
+
+/* What a machine can use of a cache. */
+typedef struct xmas_elf_cache_machine_t {
+    /* The active names of subdirectories of `glibc-hwcaps`, the best first. */
+    const xmas_elf_text_t *names;
+    size_t names_count;
+    /* The capabilities that it has, other than platforms: on x86-64 bits 1 (x86_64), 2 (avx512_1) and 63 (tls), on
+     * 32-bit x86 0 (sse2) and 63. */
+    uint64_t bits;
+    /* The bit of its platform, 0 if it has none: haswell is bit 50, i686 bit 49. */
+    uint64_t platform;
+    /* The flags of its entries: 0x303 of x86-64, 0xa03 of AArch64, 3 of 32-bit x86. */
+    uint32_t flags;
+    /* Other flags that it takes, of 32-bit x86 1; else the same. */
+    uint32_t other_flags;
+    /* The levels that it has, level k as bit k: bit 0, and on x86-64 bits 1 to 3 for the levels 2 to 4 of the
+     * processor. */
+    uint32_t levels;
+} xmas_elf_cache_machine_t;
+
+/* What the entries of an object ask for and found. */
+typedef struct xmas_elf_dependencies_t {
+    /* For each entry the number of the object that it found, 0xffffffff if that is missing, 0xfffffffe if it was not
+     * asked for. */
+    const uint32_t *found;
+    size_t found_count;
+    /* The kind of each, as in `xmas_elf_needed_name_t`; 1 for those that are left out at the end. */
+    const uint32_t *kinds;
+    size_t kinds_count;
+} xmas_elf_dependencies_t;
+
+/* An entry of an object. */
+typedef struct xmas_elf_object_entry_t {
+    /* The number of the object. */
+    uint64_t object;
+    /* The index of the entry among the names that it asks for. */
+    uint64_t entry;
+} xmas_elf_object_entry_t;
+
+/* A version that an object lacks. */
+typedef struct xmas_elf_lacked_version_t {
+    /* The version that is needed. */
+    xmas_elf_version_t version;
+    /* Why it is missing: 1 the object has no versions, 2 it is needed weakly, 3 otherwise: then the program does not
+     * start. 0 if its status is an error. */
+    uint32_t lack;
+} xmas_elf_lacked_version_t;
 
 /* Reads the ELF header of a file. Errors, in the order of the tests: XMAS_ELF_SHORT_PART_1, XMAS_ELF_NO_MAGIC,
  * XMAS_ELF_INVALID_CLASS, XMAS_ELF_SHORT_HEADERS. */
@@ -1071,6 +1288,40 @@ XMAS_ELF_NODISCARD uint32_t xmas_elf_symbol_pieces(const uint8_t *input, size_t 
     size_t words_count, uint64_t *numbers, size_t numbers_count, xmas_elf_piece_t *out, size_t out_count,
     uint64_t *count) XMAS_ELF_NOEXCEPT;
 
+/* The differences of the parts of two files, the greatest first, such as those of the sections or of the symbols of
+ * two builds. The parts are the caller's: what `xmas_elf_pieces` and `xmas_elf_symbol_pieces` say of each file,
+ * summed by owner, with names and kinds. Each part is in exactly one row, one of an equal size too; parts are matched
+ * by kind and name, the n-th of a name with the n-th. The differences of the sizes sum to the difference of the sums.
+ * The call sorts both lists by kind, name and place, and writes the rows to the front of `changes`, which has room
+ * for as many as both lists have parts; `count` is their number. Without that room nothing is changed. It takes time
+ * n log n for n parts. No two of the three arrays share a byte. Errors: XMAS_ELF_INDEX_FEW_WORDS. */
+XMAS_ELF_NODISCARD uint32_t xmas_elf_size_changes(xmas_elf_size_part_t *olds, size_t olds_count,
+    xmas_elf_size_part_t *news, size_t news_count, xmas_elf_size_change_t *changes, size_t changes_count,
+    uint64_t *count) XMAS_ELF_NOEXCEPT;
+
+/* The path at an index at which the separate debug file of the file at `path` may be, in the order in which gdb tries
+ * them: by the build id in `directory`, such as /usr/lib/debug, then by the name in the section .gnu_debuglink: in
+ * the folder of the file, in `.debug` there, and, if `path` begins with a slash, in the same folder under
+ * `directory`. Ask from index 0 on; XMAS_ELF_NO_RECORD means that there are no more. It writes the bytes of the path
+ * to the front of `text`, as many as fit, without a zero byte at the end, and the number of all to `size` of `out`. A
+ * candidate that is there passes `xmas_elf_check_debug`, or is another file's. Errors: XMAS_ELF_NO_RECORD. */
+XMAS_ELF_NODISCARD uint32_t xmas_elf_debug_path(const uint8_t *input, size_t input_size,
+    const xmas_elf_header_t *header, const uint8_t *path, size_t path_size, const uint8_t *directory,
+    size_t directory_size, uint64_t index, uint8_t *text, size_t text_size, xmas_elf_debug_candidate_t *out)
+    XMAS_ELF_NOEXCEPT;
+
+/* Whether `debug`, whose header `xmas_elf_open` read, is the debug file of the file. `how` is that of the path where
+ * it was found: one found by the build id (0) has the same build id; any other has the CRC that the link says, of all
+ * its bytes. Errors, in the order of the tests: XMAS_ELF_NO_BUILD_ID, XMAS_ELF_OTHER_BUILD_ID,
+ * XMAS_ELF_OTHER_CHECKSUM. */
+XMAS_ELF_NODISCARD uint32_t xmas_elf_check_debug(const uint8_t *input, size_t input_size,
+    const xmas_elf_header_t *header, uint32_t how, const uint8_t *debug, size_t debug_size,
+    const xmas_elf_header_t *debug_header) XMAS_ELF_NOEXCEPT;
+
+/* The CRC of the bytes of a debug file as .gnu_debuglink has it: CRC-32 with polynomial 0x04C11DB7, that of zlib. It
+ * is always OK. */
+uint32_t xmas_elf_debug_crc(const uint8_t *bytes, size_t bytes_size, uint32_t *out) XMAS_ELF_NOEXCEPT;
+
 /* Whether Linux and glibc load a file, and what they put into memory for it. `page` is the size of a page, a power of
  * two; 0 means 4096. `limit` is the end of the addresses that a loader may use; 0 means that of Linux: 0xffffe000 for
  * a file of class 32, 0x1000000000000 for one of class 64 for AArch64, and else 0x7ffffffff000, that of x86-64. The
@@ -1195,6 +1446,126 @@ XMAS_ELF_NODISCARD uint32_t xmas_elf_relocate_all(const xmas_elf_load_object_t *
 /* Writes the text of a status to the front of `out`, as much as fits, and returns the size of the whole text in
  * bytes. The text is ASCII without a zero byte at its end. A status that is no error, such as 0, has an empty text. */
 size_t xmas_elf_message(uint32_t status, uint8_t *out, size_t out_size) XMAS_ELF_NOEXCEPT;
+
+/* The names of the libraries that a file asks for (DT_NEEDED, DT_AUXILIARY, DT_FILTER) from index `first` on, in the
+ * order of their entries. `xmas_elf_expand` replaces their tokens. No section header is needed. Each call reads the
+ * entries from the first on. Errors, in the order of the tests: XMAS_ELF_LINK_NO_DYNAMIC, XMAS_ELF_LINK_ADDRESS,
+ * XMAS_ELF_DATA_RANGE, XMAS_ELF_NOT_MULTIPLE, XMAS_ELF_NO_RECORD. Errors of a record, in the order of the tests:
+ * XMAS_ELF_LINK_NO_ENTRY, XMAS_ELF_LINK_ADDRESS, XMAS_ELF_DATA_RANGE, XMAS_ELF_TEXT_START, XMAS_ELF_TEXT_END,
+ * XMAS_ELF_TEXT_UTF_8. */
+XMAS_ELF_NODISCARD uint32_t xmas_elf_needed_names(const uint8_t *input, size_t input_size,
+    const xmas_elf_header_t *header, uint64_t first, xmas_elf_needed_name_t *out, size_t out_count, uint64_t *count)
+    XMAS_ELF_NOEXCEPT;
+
+/* The value of the last dynamic entry with a tag, which is the one that the loader of glibc reads of DT_SONAME (14),
+ * DT_RPATH (15), DT_RUNPATH (29) and DT_FLAGS_1 (0x6ffffffb). No section header is needed. Errors, in the order of
+ * the tests: XMAS_ELF_LINK_NO_DYNAMIC, XMAS_ELF_LINK_ADDRESS, XMAS_ELF_DATA_RANGE, XMAS_ELF_NOT_MULTIPLE,
+ * XMAS_ELF_NOT_FOUND. */
+XMAS_ELF_NODISCARD uint32_t xmas_elf_last_entry(const uint8_t *input, size_t input_size,
+    const xmas_elf_header_t *header, uint64_t tag, uint64_t *out) XMAS_ELF_NOEXCEPT;
+
+/* The range of the text that the entry of `xmas_elf_last_entry` names. Errors, in the order of the tests:
+ * XMAS_ELF_LINK_NO_DYNAMIC, XMAS_ELF_LINK_ADDRESS, XMAS_ELF_DATA_RANGE, XMAS_ELF_NOT_MULTIPLE, XMAS_ELF_NOT_FOUND,
+ * XMAS_ELF_LINK_NO_ENTRY, XMAS_ELF_TEXT_START, XMAS_ELF_TEXT_END, XMAS_ELF_TEXT_UTF_8. */
+XMAS_ELF_NODISCARD uint32_t xmas_elf_last_text(const uint8_t *input, size_t input_size,
+    const xmas_elf_header_t *header, uint64_t tag, xmas_elf_range_t *out) XMAS_ELF_NOEXCEPT;
+
+/* Whether an opened file is the library that a program of a class (1 or 2) and a machine (e_machine) looks for: 1 it
+ * is taken, 0 it is passed over, and the next path is tried. With an error the loader of glibc ends the program.
+ * `head` are the first 64 bytes of the file or more, or all that it has, and `len` is its size. Of a folder, which
+ * opens and can't be read, the caller takes XMAS_ELF_SEARCH_FILE_DATA itself. Errors, in the order of the tests:
+ * XMAS_ELF_SEARCH_SHORT_FILE, XMAS_ELF_SEARCH_MAGIC, XMAS_ELF_SEARCH_BYTE_ORDER, XMAS_ELF_SEARCH_IDENT_VERSION,
+ * XMAS_ELF_SEARCH_OS_ABI, XMAS_ELF_SEARCH_ABI_VERSION, XMAS_ELF_SEARCH_PADDING, XMAS_ELF_SEARCH_VERSION,
+ * XMAS_ELF_SEARCH_TYPE, XMAS_ELF_SEARCH_ENTRY_SIZE, XMAS_ELF_SEARCH_FILE_DATA. */
+XMAS_ELF_NODISCARD uint32_t xmas_elf_fits(const uint8_t *head, size_t head_size, uint64_t len, uint8_t file_class,
+    uint16_t machine, uint32_t *out) XMAS_ELF_NOEXCEPT;
+
+/* Whether a file that `xmas_elf_fits` took has what a library must have, and is no executable. What a loader asks of
+ * its segments is tested by `xmas_elf_check_load`. Errors, in the order of the tests: XMAS_ELF_SEARCH_NO_LOAD,
+ * XMAS_ELF_SEARCH_EXECUTABLE, XMAS_ELF_SEARCH_NO_DYNAMIC, XMAS_ELF_LINK_NO_DYNAMIC, XMAS_ELF_LINK_ADDRESS,
+ * XMAS_ELF_DATA_RANGE, XMAS_ELF_NOT_MULTIPLE, XMAS_ELF_SEARCH_SHARED_EXECUTABLE. */
+XMAS_ELF_NODISCARD uint32_t xmas_elf_check_library(const uint8_t *input, size_t input_size,
+    const xmas_elf_header_t *header) XMAS_ELF_NOEXCEPT;
+
+/* Whether one loader maps a file. `loader` is 1 for glibc, which maps libraries; any other number for Linux, which
+ * maps a program. `page` and `limit` are those of `xmas_elf_load_plan`, whose list is stricter than that of each
+ * loader. Errors, in the order of the tests: XMAS_ELF_LOAD_BYTE_ORDER, XMAS_ELF_LOAD_IDENT_VERSION,
+ * XMAS_ELF_LOAD_OS_ABI, XMAS_ELF_LOAD_ABI_VERSION, XMAS_ELF_LOAD_PADDING, XMAS_ELF_LOAD_VERSION, XMAS_ELF_LOAD_TYPE,
+ * XMAS_ELF_LOAD_ENTRY_SIZE, XMAS_ELF_LOAD_COUNT, XMAS_ELF_LOAD_TABLE, XMAS_ELF_LOAD_MISALIGNED,
+ * XMAS_ELF_LOAD_NO_LOAD, XMAS_ELF_LOAD_EXECUTABLE, XMAS_ELF_LOAD_RANGE, XMAS_ELF_LOAD_DATA, XMAS_ELF_LOAD_OVERLAP,
+ * XMAS_ELF_LOAD_FILE_SIZE, XMAS_ELF_LOAD_INTERPRETER, XMAS_ELF_LOAD_EMPTY, XMAS_ELF_LOAD_ENTRY,
+ * XMAS_ELF_LOAD_NO_DYNAMIC, XMAS_ELF_LOAD_RELRO, XMAS_ELF_LOAD_TLS. */
+XMAS_ELF_NODISCARD uint32_t xmas_elf_check_load(const uint8_t *input, size_t input_size,
+    const xmas_elf_header_t *header, uint64_t page, uint64_t limit, uint32_t loader) XMAS_ELF_NOEXCEPT;
+
+/* The bytes of a text with its dynamic string tokens replaced by their values, from byte `first` on.
+ * XMAS_ELF_SEARCH_EMPTY_TOKEN if a value is not known: an element of a list then drops out, and an object whose
+ * needed name has it is not loaded. Errors, in the order of the tests: XMAS_ELF_SEARCH_EMPTY_TOKEN,
+ * XMAS_ELF_NO_RECORD. */
+XMAS_ELF_NODISCARD uint32_t xmas_elf_expand(const uint8_t *text, size_t text_size, const xmas_elf_tokens_t *tokens,
+    uint64_t first, uint8_t *out, size_t out_size, uint64_t *count) XMAS_ELF_NOEXCEPT;
+
+/* The paths at which a library is looked for, in order, from index `first` on; `xmas_elf_candidate_paths` has their
+ * texts. The first of `askers` is the object that asks; each is followed by the object that had it loaded, and the
+ * last is the program. Those after the first that have no DT_RPATH may be left out. The first file that
+ * `xmas_elf_fits` takes ends the search; one that can't be opened is passed over. Where, with `subdirectory_size` 0
+ * and a folder that is there, opening fails otherwise than since there is no such file or for want of permission, go
+ * on with the next candidate that has another `how` or `asker`. Each call goes through the candidates from the first
+ * on, and the cost of a list grows with the square of its length. Errors, in the order of the tests:
+ * XMAS_ELF_MANY_OBJECTS, XMAS_ELF_NO_RECORD. */
+XMAS_ELF_NODISCARD uint32_t xmas_elf_candidates(const xmas_elf_search_for_t *search,
+    const xmas_elf_search_asker_t *askers, size_t askers_count, uint64_t first, xmas_elf_candidate_path_t *out,
+    size_t out_count, uint64_t *count) XMAS_ELF_NOEXCEPT;
+
+/* The paths of `xmas_elf_candidates`, one after another, each with a zero byte after it, from byte `first` of all of
+ * them on. Costs are those of that call, so give much room. Errors, in the order of the tests: XMAS_ELF_MANY_OBJECTS,
+ * XMAS_ELF_NO_RECORD. */
+XMAS_ELF_NODISCARD uint32_t xmas_elf_candidate_paths(const xmas_elf_search_for_t *search,
+    const xmas_elf_search_asker_t *askers, size_t askers_count, uint64_t first, uint8_t *out, size_t out_size,
+    uint64_t *count) XMAS_ELF_NOEXCEPT;
+
+/* The path that a machine gets for a name from the cache of these bytes (/etc/ld.so.cache), from its byte `first` on.
+ * Any bytes may be given. The loader of glibc goes on without a cache where it can't be read. Errors, in the order of
+ * the tests: XMAS_ELF_SEARCH_NOT_A_CACHE, XMAS_ELF_SEARCH_CACHE_COUNT, XMAS_ELF_SEARCH_CACHE_ORDER,
+ * XMAS_ELF_NOT_FOUND, XMAS_ELF_NO_RECORD. */
+XMAS_ELF_NODISCARD uint32_t xmas_elf_cache_path(const uint8_t *cache, size_t cache_size, const uint8_t *name,
+    size_t name_size, const xmas_elf_cache_machine_t *machine, uint64_t first, uint8_t *out, size_t out_size,
+    uint64_t *count) XMAS_ELF_NOEXCEPT;
+
+/* The entry whose name is to be looked for next, by what the entries of all objects found so far. Objects have
+ * numbers in the order in which they are loaded, from 0, the program: where an entry finds a new one, it gets the
+ * next number, and is put at the end of `dependencies`. Without entries of kinds 2 and 3 it is the first of the first
+ * object that was not asked for, so the entries of an object can be asked for one after another; `words` and `edges`
+ * are not used then, and else have 4 words for each object and one for each entry. XMAS_ELF_NO_RECORD if all were
+ * asked for. Each call goes through all entries. Errors, in the order of the tests: XMAS_ELF_NO_RECORD,
+ * XMAS_ELF_SEARCH_NO_OBJECT, XMAS_ELF_SEARCH_FEW_WORDS. */
+XMAS_ELF_NODISCARD uint32_t xmas_elf_next_entry(const xmas_elf_dependencies_t *dependencies,
+    size_t dependencies_count, uint32_t *words, size_t words_count, uint32_t *edges, size_t edges_count,
+    xmas_elf_object_entry_t *out) XMAS_ELF_NOEXCEPT;
+
+/* The order in which the initialisers of libraries run, by what the entries of all objects found: the numbers of the
+ * objects but the program, which starts last, at the front of `starts`, and how many they are in `count`. Of the
+ * objects with the flag 0x20 (DF_1_INITFIRST) the one with the greatest number starts before all; the call doesn't
+ * move it. `list` gets the numbers of all objects in the order in which symbols are looked up. Give 4 `words` and 3
+ * `starts` for each object, an edge for each entry, and a word of `list` for each object; what else they hold after
+ * has no meaning. XMAS_ELF_SEARCH_NO_OBJECT if an entry was not asked for, or the numbers are not those of
+ * `xmas_elf_next_entry`. Errors, in the order of the tests: XMAS_ELF_SEARCH_FEW_WORDS, XMAS_ELF_SEARCH_NO_OBJECT. */
+XMAS_ELF_NODISCARD uint32_t xmas_elf_start_order(const xmas_elf_dependencies_t *dependencies,
+    size_t dependencies_count, uint32_t *words, size_t words_count, uint32_t *edges, size_t edges_count,
+    uint32_t *list, size_t list_count, uint32_t *starts, size_t starts_count, uint64_t *count) XMAS_ELF_NOEXCEPT;
+
+/* The versions that a file needs of the object that its needs call `name`, and that this object lacks, from index
+ * `first` on, in the order of the needs. `provider` are the bytes of the object, and `provider_header` is its header.
+ * A need of another name has the status XMAS_ELF_SEARCH_NO_PROVIDER. Each call reads the needs from the first on, and
+ * goes through the definitions of the object for each. Errors, in the order of the tests: XMAS_ELF_LINK_NO_DYNAMIC,
+ * XMAS_ELF_LINK_ADDRESS, XMAS_ELF_DATA_RANGE, XMAS_ELF_NOT_MULTIPLE, XMAS_ELF_NO_RECORD. Errors of a record, in the
+ * order of the tests: XMAS_ELF_SEARCH_NO_PROVIDER, XMAS_ELF_LINK_SHORT_VERSION, XMAS_ELF_LINK_VERSION_COUNT,
+ * XMAS_ELF_LINK_NO_ENTRY, XMAS_ELF_LINK_ADDRESS, XMAS_ELF_DATA_RANGE, XMAS_ELF_TEXT_START, XMAS_ELF_TEXT_END,
+ * XMAS_ELF_TEXT_UTF_8. */
+XMAS_ELF_NODISCARD uint32_t xmas_elf_missing_versions(const uint8_t *input, size_t input_size,
+    const xmas_elf_header_t *header, const uint8_t *name, size_t name_size, const uint8_t *provider,
+    size_t provider_size, const xmas_elf_header_t *provider_header, uint64_t first, xmas_elf_lacked_version_t *out,
+    size_t out_count, uint64_t *count) XMAS_ELF_NOEXCEPT;
 /* End of the structs and functions. */
 
 /* The text of a status, ended by a zero byte. */

@@ -24,6 +24,8 @@ namespace xmas_elf {
 
 class section;
 class segment;
+struct needed_name;
+struct missing_version;
 
 /// An ELF file: its bytes, which the caller keeps, and its header.
 class file {
@@ -98,6 +100,11 @@ public:
     std::vector<version> version_definitions() const { return versions(xmas_elf_version_definitions); }
     /// The versions that the file needs of libraries (DT_VERNEED).
     std::vector<version> version_needs() const { return versions(xmas_elf_version_needs); }
+
+    /// The names that the file asks for (DT_NEEDED, DT_AUXILIARY, DT_FILTER), in the order of their entries, with their tokens.
+    std::vector<needed_name> needed_names() const;
+    /// The versions that the file needs of the object that its needs call `name`, and that this object lacks.
+    std::vector<missing_version> missing_versions(std::string_view name, const file &provider) const;
 
     /// The dynamic entries up to that of tag 0, which is the last: those of the section of type SHT_DYNAMIC, or else of the
     /// segment of type PT_DYNAMIC.
@@ -422,6 +429,8 @@ inline std::optional<bytes_view> file::build_id() const
 } // namespace xmas_elf
 
 #include "xmas_elf_memory.hpp"
+#include "xmas_elf_search.hpp"
 #include "xmas_elf_tables.hpp"
+#include "xmas_elf_differences.hpp"
 
 #endif

@@ -22,6 +22,7 @@ export class HexView {
     this.rows = new VirtualRows({ scroller: this.grid, rowHeight: ROW_HEIGHT, make: () => this.rowNode(),
       fill: (node, index) => this.fill(node, index) });
     NARROW.addEventListener("change", () => this.file && this.layOut());
+    new ResizeObserver(() => this.file && this.rows.reveal(Math.floor(this.cursor / this.inRow))).observe(this.grid);
     this.grid.addEventListener("keydown", (event) => this.key(event));
     this.grid.addEventListener("pointermove", ({ target }) => this.pointAt(target));
     this.grid.addEventListener("pointerleave", () => this.lookAt(this.cursor));

@@ -40,17 +40,29 @@ export class Table {
    * @param sort is called with `by` of a column and whether it goes down
    */
   constructor({ label, columns: given, choose = () => {}, sort = null, empty = "Nothing to show." }) {
-    const columns = inOrder(given);
-    Object.assign(this, { columns, choose, sort, empty, active: -1, chosen: -1, count: 0, sorted: null, longest: columns.map(() => 0) });
+    Object.assign(this, { given, choose, sort, empty, active: -1, chosen: -1, count: 0, sorted: null });
     tables += 1;
     this.id = `table${tables}`;
-    this.head = element("div", { class: "head", role: "row", "aria-rowindex": 1 }, columns.map((it) => this.headCell(it)));
+    this.head = element("div", { class: "head", role: "row", "aria-rowindex": 1 });
     this.node = element("div", { class: "table", role: "grid", tabindex: 0, "aria-label": label,
       onkeydown: (event) => this.key(event), onfocus: () => this.focused() }, this.head);
-    this.setWidths();
     this.message = element("p", { class: "empty" }, empty);
     this.rows = new VirtualRows({ scroller: this.node, rowHeight: ROW_HEIGHT, headHeight: HEAD_HEIGHT,
       make: () => this.rowNode(), fill: (node, index) => this.fill(node, index) });
+    this.arrange();
+    new ResizeObserver(() => this.isNarrow === NARROW.matches || this.arrange()).observe(this.node);
+  }
+
+  // Puts the columns in the order for the width of the window, and makes the rows anew.
+  arrange() {
+    this.isNarrow = NARROW.matches;
+    this.columns = inOrder(this.given);
+    this.longest = this.columns.map(() => 0);
+    this.head.replaceChildren(...this.columns.map((it) => this.headCell(it)));
+    this.setWidths();
+    this.markSorted();
+    this.rows.provide(0);
+    this.rows.layOut();
   }
 
   // Columns of numbers are as wide as the longest number that was shown.
@@ -74,14 +86,18 @@ export class Table {
   }
 
   sortBy(by) {
-    const down = this.sorted?.by === by && !this.sorted.down;
-    this.sorted = { by, down };
-    this.columns.forEach((column, at) => {
-      const said = column.by === by ? (down ? "descending" : "ascending") : null;
-      if (said) this.head.children[at].setAttribute("aria-sort", said);
+    this.sorted = { by, down: this.sorted?.by === by && !this.sorted.down };
+    this.markSorted();
+    this.sort(by, this.sorted.down);
+  }
+
+  // Says at the head of a column that the rows are sorted by it.
+  markSorted() {
+    const said = this.sorted?.down ? "descending" : "ascending";
+    this.columns.forEach(({ by }, at) => {
+      if (by && by === this.sorted?.by) this.head.children[at].setAttribute("aria-sort", said);
       else this.head.children[at].removeAttribute("aria-sort");
     });
-    this.sort(by, down);
   }
 
   /** Shows `count` rows, which `ask(first, size)` gives: a list or the promise of one. */

@@ -48,7 +48,7 @@ cxx=(g++)
 if command -v clang++ > /dev/null; then cxx+=(clang++); else echo "bindings: no clang here: by gcc alone"; fi
 for compiler in "${cxx[@]}"; do
     "$compiler" -std=c++17 "${strict[@]}" -Wconversion bindings/cpp/nm.cpp "$archive" -o "$room/nm_$compiler"
-    for program in dump memory sizes; do
+    for program in dump memory search sizes differences; do
         "$compiler" -std=c++20 "${strict[@]}" -Wconversion "bindings/cpp/$program.cpp" "$archive" -o "$room/$program"
     done
     # C++11 has no [[nodiscard]]; a struct may have its zero as its value.
@@ -99,6 +99,12 @@ mapped() {
 }
 "$room/memory" "$room/mapped" | awk '$3 != 0 || NR == 1' | diff - <(mapped "$room/mapped")
 for program in "$room/addresses_c" "$CARGO_TARGET_DIR/release/examples/addresses"; do diff <("$program" "$room/mapped" 0) <(echo '?'); done
+# The libraries of programs, beside those that the loader lists.
+for program in /bin/ls /bin/bash /usr/bin/env; do
+    while read -r name _ path; do
+        grep -qF "$name => $path " <(LD_TRACE_LOADED_OBJECTS=1 /lib64/ld-linux-x86-64.so.2 "$program") || { echo "$program: $name => $path"; exit 1; }
+    done < <("$room/search" "$program" | grep '=>')
+done
 # Programs that the example in C loads.
 tools/exports/loading.sh "$XMAS_ELF_ARCHIVE"
 # Both kinds of hash tables, a file's own name and its folders, and libraries with many versions.
@@ -125,6 +131,19 @@ for file in "$room/nm_c" /lib/x86_64-linux-gnu/libc.so.6; do
     "$room/find_c" "$file" malloc qsort no_such_name > "$room/of_c"
     "$CARGO_TARGET_DIR/release/examples/find" "$file" malloc qsort no_such_name | cmp - "$room/of_c"
 done
+# What differs in two programs, beside elfsize where it is built; and a debug file by its link.
+elfsize="$PWD/crates/elfsize/out/elfsize"
+for words in "" --symbols; do
+    # shellcheck disable=SC2086
+    "$room/differences" $words "$room/nm_c" "$room/find_c" > "$room/of_cpp"
+    # shellcheck disable=SC2086
+    "$CARGO_TARGET_DIR/release/examples/differences" $words "$room/nm_c" "$room/find_c" | cmp - "$room/of_cpp"
+    # shellcheck disable=SC2086
+    [ ! -x "$elfsize" ] || "$elfsize" --diff $words "$room/nm_c" "$room/find_c" | sed '/^all parts$/,$d' | cmp - "$room/of_cpp"
+done
+objcopy --only-keep-debug "$room/every_gcc" "$room/every.debug"
+objcopy --strip-all --add-gnu-debuglink="$room/every.debug" "$room/every_gcc" "$room/every_stripped"
+"$room/differences" --debug "$room/every_stripped" "$room" | grep -q '/every.debug: debug file$'
 for example in c cpp; do
     compiler=gcc; [ $example = cpp ] && compiler=g++
     "$compiler" "${strict[@]}" -Ibindings/include "bindings/examples/symbols.$example" "$archive" -o "$room/symbols_$example"

@@ -5,7 +5,7 @@ It writes the statuses (tools/exports/statuses.py), structs and functions in bin
 ffi.rs and, from bindings/constants.toml, constants.rs in bindings/rust/src; the modules for Python
 (python_declarations.py); and calls for tests. --check: writes nothing, and fails where a file differs, where the
 `#[repr(C)]` structs or the exported functions of crates/elf_c/src are others than those of the list, where a list of
-statuses is another than its definition has, or where a named number of the crates or of elf.h is another."""
+statuses is another than its definition has, or where a named number of the crates is another."""
 import itertools
 import pathlib
 import re
@@ -76,8 +76,9 @@ def c_struct(struct, listed):
     lines = c_comment(struct.comment) + [f"typedef struct {struct.c_type} {{"]
     for field in struct.fields:
         array = re.fullmatch(r"\[u8; (\d+)\]", field.type)
-        if field.type == listing.BORROWED:
-            lines += [*c_comment(field.comment, "    "), f"    const uint8_t *{field.c_name};", f"    size_t {field.c_name}_size;"]
+        if field.type in listing.BORROWED:
+            kind, count = listing.BORROWED[field.type][0], "size" if field.type == "&[u8]" else "count"
+            lines += [*c_comment(field.comment, "    "), f"    const {kind} *{field.c_name};", f"    size_t {field.c_name}_{count};"]
             continue
         member = f"uint8_t {field.c_name}[{array[1]}]" if array else f"{listed.c_type(field.type)} {field.c_name}"
         lines += [*c_comment(field.comment, "    "), f"    {member};"]
@@ -121,7 +122,7 @@ def rust_struct(struct, listed):
     lines = ["", *rust_comment(struct.comment), "#[repr(C)]", "#[derive(Clone, Copy, Debug, Default, PartialEq, Eq)]"]
     lines.append(f"{seen} struct {struct.rust}{'<%sa>' % chr(39) if listed.borrows(struct.name) else ''} {{")
     for field in struct.fields:
-        lines += rust_comment(field.comment, indent="    ") + [f"    {fields_seen} {field.name}: {listed.rust_type(field.type)},"]
+        lines += rust_comment(field.comment, indent="    ") + [f"    {fields_seen} {field.name}: {listed.rust_type(field.type, chr(39) + 'a')},"]
     return lines + ["}"]
 
 
@@ -191,15 +192,23 @@ pub(crate) fn every(asked: &Asked<'_>, mut heard: impl FnMut(&str, Result<(), Er
     let (hash, name, ranges) = (&asked.hash, asked.name, &[asked.part]);
     let (address_index, numbers) = (&asked.addresses, &[asked.index, asked.section]);
     let objects = &[LoadObject { file: input.into(), ..LoadObject::default() }];
+    let tokens = Tokens::new(name, name, name);
+    let search = SearchFor::new(name, tokens, name);
 """
 
 # What is handed to a parameter: of numbers but the one named `section` the index, of records but these a part of the input, and
 # of slices but these a name.
 PLACES = {"header": "header", "symbol_table": "table", "hash_table": "hash", "address_index": "address_index"}
+C_NAMED = {"tokens": "lib", "search_for": "defaults", "cache_machine": None}
+C_PLACES = {name: f"(xmas_elf_{name}_t){{" + (f".{field} = a->name, .{field}_size = a->name_size" if field else ".flags = 0x303") + "}" for name, field in C_NAMED.items()}
+RUST_PLACES = {"tokens": "&tokens", "search_for": "&search", "cache_machine": "&CacheMachine::x86_64()"}
 C_SLICES = {"input": "a->bytes, a->size", "ranges": "&a->part, 1", "words": "a->words, a->words_count",
     "numbers": "a->index_numbers, a->index_numbers_count", "addresses": "a->numbers, 2",
-    "objects": "&(xmas_elf_load_object_t){.file = a->bytes, .file_size = a->size}, 1"}
-RUST_SLICES = {"input": "input", "ranges": "ranges", "words": "&[0, 1]", "numbers": "&[0, 1]", "addresses": "numbers", "objects": "objects"}
+    "objects": "&(xmas_elf_load_object_t){.file = a->bytes, .file_size = a->size}, 1",
+    "askers": "&(xmas_elf_search_asker_t){.r_path = a->name, .r_path_size = a->name_size}, 1",
+    "dependencies": "&(xmas_elf_dependencies_t){.found = a->words, .found_count = a->words_count}, 1"}
+RUST_SLICES = {"input": "input", "ranges": "ranges", "words": "&[0, 1]", "numbers": "&[0, 1]", "addresses": "numbers", "objects": "objects",
+    "askers": "&[SearchAsker::new(Some(name), None, tokens, false)]", "dependencies": "&[Dependencies::new(&[0, u32::MAX - 1], &[])]"}
 
 
 def number_for(parameter):
@@ -213,7 +222,7 @@ def c_call(function, listed):
         written = f"out[{place}].of_{one.type}"
         arguments.append({
             VALUE: f"({listed.c_type(one.type)})a->{number_for(one)}",
-            IN: f"&a->{PLACES.get(one.type, 'part')}",
+            IN: f"&{C_PLACES[one.type]}" if one.type in C_PLACES else f"&a->{PLACES.get(one.type, 'part')}",
             SLICE: C_SLICES.get(one.name, "a->name, a->name_size"),
             OUT: f"&{written}[0]",
             GIVEN: f"&{one.name}",
@@ -223,6 +232,7 @@ def c_call(function, listed):
     call = f"{function.export}({', '.join(arguments)})"
     lines = [f"static uint32_t any_{function.name}(const struct asked *a, union output *out)", "{"]
     lines += [f"    {listed.c_type(one.type)} {one.name};" for one in function.parameters if one.kind == GIVEN]
+    lines += ["    (void)a;"] * ("a->" not in call)
     if function.result == "status":
         return [*lines, *["    (void)out;"] * (place == 0), f"    return {call};", "}"]
     return [*lines, f"    (void){call};", "    return XMAS_ELF_OK;", "}"]
@@ -230,18 +240,14 @@ def c_call(function, listed):
 
 def c_calls_text(listed):
     written = dict.fromkeys(one.type for function in listed.functions for one in function.parameters if one.kind in (OUT, FILLED))
-    lines = ["/* A call of each export, by the parts of a `struct asked`. Written by tools/exports/declarations.py. */", ""]
-    lines += ["/* What a call writes: its outputs in order. */", "union output {"]
-    lines += [*(f"    {listed.c_type(kind)} of_{kind}[{ROOM}];" for kind in written), "};", ""]
-    rows = []
+    outputs, calls, rows = [f"    {listed.c_type(kind)} of_{kind}[{ROOM}];" for kind in written], [], []
     for function in listed.functions:
-        lines += c_call(function, listed)
+        calls += c_call(function, listed)
         statuses = ["XMAS_ELF_OK", *map(listing.constant, function.statuses)]
         rows.append(f'    {{"{function.name}", any_{function.name}, {{{", ".join(statuses)}}}, {len(statuses)}}},')
     longest = 1 + max(len(function.statuses) for function in listed.functions)
-    lines += ["", "static const struct any {", "    const char *name;", "    uint32_t (*call)(const struct asked *, union output *);"]
-    lines += [f"    uint32_t results[{longest}];", "    size_t results_count;", "} every[] = {", *rows, "};"]
-    return "\n".join(lines) + "\n"
+    parts = {"OUTPUTS": outputs, "CALLS": calls, "ROWS": rows, "LONGEST": [str(longest)]}
+    return listing.template("calls.h", **{name: "\n".join(lines) for name, lines in parts.items()})
 
 
 def rust_calls_text(listed):
@@ -249,10 +255,10 @@ def rust_calls_text(listed):
     for function in listed.functions:
         arguments = ", ".join({
             VALUE: f"asked.{number_for(one)}" + ("" if one.type == "u64" else f" as {listed.rust_type(one.type)}"),
-            IN: PLACES.get(one.type, "part"),
+            IN: RUST_PLACES.get(one.type) or PLACES.get(one.type, "part"),
             SLICE: RUST_SLICES.get(one.name, "name"),
             GIVEN: f"&mut {listed.rust_type(one.type)}::default()",
-            FILLED: f"&mut [{listed.rust_type(one.type)}::default(); {ROOM}]",
+            FILLED: f"&mut [{listed.rust_type(one.type).split('<')[0]}::default(); {ROOM}]",
         }[one.kind] for one in function.parameters if one.kind != OUT)
         call = f"ffi::{function.name}({arguments})"
         other = [f"    {'let _size = ' if function.result == 'size' else ''}{call};", "    let result = Ok(());"]
@@ -263,9 +269,8 @@ def rust_calls_text(listed):
 
 # The sources.
 
-ELF_H = pathlib.Path("/usr/include/elf.h")
 CONSTANT = re.compile(r"/// `(\w+)`[^\n]*\n(?:///[^\n]*\n)*pub const \w+: \w+ = (\w+);")
-EXPORT = re.compile(r'#\[unsafe\(no_mangle\)\]\s+pub extern "C" fn (\w+)\s*\(([^)]*)\)\s*(?:-> (\w+))?', re.S)
+EXPORT = re.compile(r'#\[unsafe\(no_mangle\)\]\s+pub extern "C" fn (\w+)(?:<[^>]*>)?\s*\(([^)]*)\)\s*(?:-> (\w+))?', re.S)
 STRUCT = re.compile(r"#\[repr\(C\)\]\s+(?:#\[[^\]]*\]\s+)*pub struct (\w+)(?:<[^>]*>)? \{(.*?)^\}", re.S | re.M)
 
 
@@ -273,7 +278,7 @@ def parts_of(text, listed):
     """The `name: type` items of a list of parameters or fields, with the structs by their names in the list."""
     names = {struct.source: struct.name for struct in listed.structs}
     lines = re.sub(r"<'\w+>|'\w+ ", "", " ".join(line.split("//")[0] for line in text.splitlines()))
-    found = re.findall(r"(?:pub )?(\w+): (&(?:mut )?(?:\[\w+\]|\w+)|\[[^\]]*\]|\w+)", lines)
+    found = re.findall(r"(?:pub )?(\w+): (&(?:mut )?(?:\[&?\[?\w+\]?\]|\w+)|\[[^\]]*\]|\w+)", lines)
     return [f"{name}: " + re.sub(r"\b[A-Z]\w*", lambda word: names.get(word[0], word[0]), kind) for name, kind in found]
 
 
@@ -296,14 +301,13 @@ def differing_sources(listed):
 
 
 def differing_numbers():
-    """How many named numbers of the crates, and of elf.h, if it is here, bindings/constants.toml has too, and those that differ. A
-    constant of crates/NAME/src has the name in backticks with which its doc begins."""
+    """How many named numbers of the crates bindings/constants.toml has too, and those that differ. A constant of crates/NAME/src has
+    the name in backticks with which its doc begins."""
     numbers, text = {it.name: it.value for it in listing.constants()}, lambda path: path.read_text(encoding="utf-8", errors="replace")
     places = [(path, *it) for path in sorted(ROOT.glob("crates/*/src/**/*.rt")) for it in CONSTANT.findall(text(path))]
     path = ROOT / "crates/elf_linking/specs/RelocationNames.antt"
     places += [(path, name, number) for number, name in re.findall(r'\((\d+), codes "(\w+)"\)', text(path))]
-    said = re.findall(r"^#define\s+(\w+)\s+(0x[0-9a-fA-F]+|\d+)\b", text(ELF_H), re.M) if ELF_H.exists() else []
-    known = [it for it in [*places, *((ELF_H, *it) for it in said)] if it[1] in numbers]
+    known = [it for it in places if it[1] in numbers]
     return len(known), [f"{path}: {name} is {number}, in the list {numbers[name]}"
                         for path, name, number in known if numbers[name] != int(number.replace("_", ""), 0)]
 

@@ -3,8 +3,8 @@
     for struct in listing.read().structs: struct.name, struct.fields[0].name, struct.fields[0].type
     for function in listing.read().functions: function.export, function.parameters[0].type, function.statuses
 
-A type is a number (`u8` .. `u64`, `usize`), an array of bytes (`[u8; 7]`), bytes that a field borrows (`&[u8]`: a pointer and a size)
-or the name of a struct of the list. A parameter's `kind` says how it crosses: VALUE a number; IN a pointer to one value that is read;
+A type is a number (`u8` .. `u64`, `usize`), an array of bytes (`[u8; 7]`), bytes, numbers or texts that a field borrows (`&[u8]`,
+`&[u32]`, `&[&[u8]]`: a pointer and a size) or the name of a struct of the list. A parameter's `kind` says how it crosses: VALUE a number; IN a pointer to one value that is read;
 OUT to one that is written where the call is OK; SLICE a pointer and a count of values that are read; FILLED of values to be written."""
 import pathlib
 import re
@@ -29,7 +29,8 @@ Function = namedtuple("Function", "name parameters result statuses item_statuses
 # A number of the ELF standard: its group's comment, and the prefix of the names there.
 Constant = namedtuple("Constant", "name value type group prefix is_flag comment")
 
-BORROWED, BORROWED_IN_RUST = "&[u8]", "Borrowed<{}>"
+# What a field borrows: one of several in C, and the type in Rust.
+BORROWED = {"&[u8]": ("uint8_t", "Borrowed<{}>"), "&[u32]": ("uint32_t", "Borrowed<{}, u32>"), "&[&[u8]]": ("xmas_elf_text_t", "Borrowed<{0}, Borrowed<{0}>>")}
 C_NUMBERS = {"u8": "uint8_t", "u16": "uint16_t", "u32": "uint32_t", "u64": "uint64_t", "usize": "size_t"}
 
 
@@ -40,14 +41,16 @@ class Listed(namedtuple("Listed", "structs functions")):
     def c_type(self, name: str) -> str:
         return C_NUMBERS.get(name) or self.struct(name).c_type
 
-    def rust_type(self, name: str) -> str:
+    def rust_type(self, name: str, lifetime: str = "'_") -> str:
         """The type in Rust; a struct that borrows bytes has a lifetime."""
         if name in SIZES or name.startswith("["):
             return name
-        return BORROWED_IN_RUST.format("'a") if name == BORROWED else self.struct(name).rust + "<'_>" * self.borrows(name)
+        return BORROWED[name][1].format(lifetime) if name in BORROWED else self.struct(name).rust + f"<{lifetime}>" * self.borrows(name)
 
     def borrows(self, name: str) -> bool:
-        return name not in SIZES and any(field.type == BORROWED for field in self.struct(name).fields)
+        if name in SIZES or name.startswith("["):
+            return False
+        return name in BORROWED or any(self.borrows(field.type) for field in self.struct(name).fields)
 
 
 SHAPES = ((r"&mut \[(\w+)\]", FILLED), (r"&mut (\w+)", OUT), (r"&\[(\w+)\]", SLICE), (r"&(\w+)", IN), (r"(\w+)", VALUE))

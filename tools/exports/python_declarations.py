@@ -46,9 +46,10 @@ def flat(struct, listed):
     letters, fields = "", []
     for field in struct.fields:
         name = "name_index" if field.name == "name" and field.type in LETTERS else field.c_name
-        if field.type == listing.BORROWED:
+        if field.type in listing.BORROWED:
             letters += "PN"
-            fields += [(name, "int", f"{field.comment} Their address."), (f"{name}_size", "int", "How many they are.")]
+            count = "size" if field.type == "&[u8]" else "count"
+            fields += [(name, "int", f"{field.comment} Their address."), (f"{name}_{count}", "int", "How many they are.")]
         elif array := re.fullmatch(r"\[u8; (\d+)\]", field.type):
             letters += f"{array[1]}x"
         elif field.type in LETTERS:
@@ -74,7 +75,7 @@ def record(struct, listed):
     for field, _, comment in all_fields:
         lines += argument(field, comment)
     lines.append(")")
-    largest = next(letter for letter in "QIHB" if letter in letters)
+    largest = next(letter for letter in "QPIHB" if letter in letters)
     # The count 0 at the end pads the record as C does.
     return lines + ["", "", f'{struct.name.upper()} = Struct("@{letters}0{largest}")', ""]
 

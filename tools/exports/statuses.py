@@ -15,14 +15,15 @@ from pages.definitions import Reader
 PINNED = ROOT / "bindings/statuses.txt"
 FIRST, LAST = "/* The statuses, written by tools/exports/declarations.py. */", "/* End of the statuses. */"
 
-ENUMS = {"ElfError": "", "LinkError": "Link", "LoadError": "Load", "IndexError": "Index", "AnyError": ""}
+ENUMS = {"ElfError": "", "LinkError": "Link", "LoadError": "Load", "IndexError": "Index", "SearchError": "Search", "AnyError": ""}
 # Variants that hold an error of another enum.
-HOLDERS = {("LinkError", "Elf"), ("AnyError", "Elf"), ("AnyError", "Link"), ("AnyError", "Load"), ("AnyError", "Index"), ("LoadError", "Link")}
+HOLDERS = {("LinkError", "Elf"), ("AnyError", "Elf"), ("AnyError", "Link"), ("AnyError", "Load"), ("AnyError", "Index"), ("AnyError", "Search"), ("LoadError", "Link"), ("SearchError", "Link")}
 ERRORS = {
     "ElfError": "crates/elf_base/src/error.rt",
     "LinkError": "crates/elf_linking/src/error.rt",
     "LoadError": "crates/elf_loading/src/error.rt",
     "IndexError": "crates/elf_addresses/src/error.rt",
+    "SearchError": "crates/elf_search/src/error.rt",
     "AnyError": "crates/elf_c/src/status.rt",
 }
 
@@ -37,10 +38,10 @@ def statuses():
     own = [matched(ERRORS["ElfError"], r"(?m)^    (\w+) = (\d+),$"), matched(ERRORS["AnyError"], r"AnyError::(\w+) => (\d+)")]
     base, own = ([(name, int(number), texts[name]) for name, number in some] for some in own)
     of_library = {}
-    for prefix in ("Link", "Load", "Index"):
+    for prefix in ("Link", "Load", "Index", "Search"):
         found = matched(ERRORS[f"{prefix}Error"], rf'{prefix}Error::(\w+) => \(\s*(\d+),\s*"([^"]*)",?\s*\)')
         of_library[prefix] = [(prefix + name, int(number), text) for name, number, text in found]
-    rows = [*base, *of_library["Link"], *own, *of_library["Load"], *of_library["Index"]]
+    rows = [*base, *of_library["Link"], *own, *of_library["Load"], *of_library["Index"], *of_library["Search"]]
     numbers = [number for _, number, _ in rows]
     assert len(set(numbers)) == len(numbers) and 0 not in numbers and len(rows) > 60
     assert {name for name, _, _ in rows} >= set(texts)

@@ -95,8 +95,14 @@ def compare_sizes(folder, path, tally):
                 tally.fault(f"{path}: no function {name} of {own} bytes")
 
 
+def as_text(value):
+    if isinstance(value, bool):
+        return "yes" if value else "no"
+    return "" if value is None else str(value)
+
+
 def compare_hardening(folder, path, tally):
-    from hardening import as_text, checksec, wanted
+    from hardening import checksec, wanted
 
     names, line = tally.output(path, f"{folder}/target/release/examples/hardening", LIBC, path).splitlines()[:2]
     ours = dict(zip(names.split(","), line.split(",", names.count(","))))

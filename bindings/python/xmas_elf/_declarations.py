@@ -1,7 +1,7 @@
 """The records, exports and statuses of the archive. Written by tools/exports/declarations.py."""
 from __future__ import annotations
 
-from ctypes import c_size_t, c_uint32, c_uint64, c_void_p
+from ctypes import c_size_t, c_uint16, c_uint32, c_uint64, c_uint8, c_void_p
 from enum import IntEnum
 from struct import Struct
 from typing import TYPE_CHECKING, Any, Dict, NamedTuple, Optional, Tuple
@@ -762,6 +762,73 @@ _document(
 PIECE_SIZES = Struct("@QQQ0Q")
 
 
+class SizePartRecord(NamedTuple):
+    """A part of a file, and its number of bytes."""
+
+    name: int
+    name_size: int
+    kind: int
+    place: int
+    size: int
+
+
+_document(
+    SizePartRecord,
+    name="The bytes of its name, which may be empty. Their address.",
+    name_size="How many they are.",
+    kind="The number of its kind, as the caller numbers kinds.",
+    place=
+        "Its place in the file, such as an index: of parts with one kind and one name, the one with the "
+        "smallest place is the first.",
+    size="Its number of bytes.",
+)
+
+
+SIZE_PART = Struct("@PNQQQ0Q")
+
+
+class SizeChangeRecord(NamedTuple):
+    """What became of a part from one file to another."""
+
+    old_index: int
+    new_index: int
+    old_size: int
+    new_size: int
+    files: int
+
+
+_document(
+    SizeChangeRecord,
+    old_index="The index of the part of the old file in its list, as the call sorts it; 0 where `files` is 1.",
+    new_index="The index of the part of the new file in its list, as the call sorts it; 0 where `files` is 0.",
+    old_size="The number of bytes in the old file; 0 if the part isn't there.",
+    new_size="The number of bytes in the new file; 0 if the part isn't there.",
+    files="Where it is: 0 in the old file alone, 1 in the new file alone, 2 in both.",
+)
+
+
+SIZE_CHANGE = Struct("@QQQQI0Q")
+
+
+class DebugCandidateRecord(NamedTuple):
+    """A path at which a debug file may be."""
+
+    size: int
+    how: int
+
+
+_document(
+    DebugCandidateRecord,
+    size="The number of bytes of the path.",
+    how=
+        "How the file is found: 0 by the build id, 1 by the name in the link in the folder of the file, 2 in "
+        "`.debug` there, 3 in the same folder under the directory.",
+)
+
+
+DEBUG_CANDIDATE = Struct("@QI0Q")
+
+
 class LoadObjectRecord(NamedTuple):
     """An object of a process: its file, and where it is loaded. Objects are in the order in which they are loaded,
     the program first."""
@@ -790,6 +857,307 @@ _document(
 
 
 LOAD_OBJECT = Struct("@PNPNQQQ0Q")
+
+
+class NeededNameRecord(NamedTuple):
+    """A name that an object asks for."""
+
+    range_offset: int
+    range_size: int
+    status: int
+    kind: int
+
+
+_document(
+    NeededNameRecord,
+    range_offset=
+        "The bytes of the name, with its dynamic string tokens, without the zero byte that ends it; offset "
+        "and size are 0 if the name can't be read. The offset of the first byte, in bytes from the start of "
+        "the input.",
+    range_size=
+        "The bytes of the name, with its dynamic string tokens, without the zero byte that ends it; offset "
+        "and size are 0 if the name can't be read. The number of bytes.",
+    status="The status of this name.",
+    kind=
+        "What the object asks for: 1 a library that it needs (DT_NEEDED), 2 one that is searched before it, "
+        "if there is one (DT_AUXILIARY), 3 one that is searched in its place (DT_FILTER).",
+)
+
+
+NEEDED_NAME = Struct("@QQII0Q")
+
+
+class TokensRecord(NamedTuple):
+    """The values of the dynamic string tokens for an object. An empty value is not known."""
+
+    origin: int
+    origin_size: int
+    lib: int
+    lib_size: int
+    platform: int
+    platform_size: int
+
+
+_document(
+    TokensRecord,
+    origin="The folder of the object (`$ORIGIN`). Their address.",
+    origin_size="How many they are.",
+    lib="The folder of libraries for the machine, as `lib64` (`$LIB`). Their address.",
+    lib_size="How many they are.",
+    platform="The kind of the processor, as `x86_64` (`$PLATFORM`). Their address.",
+    platform_size="How many they are.",
+)
+
+
+TOKENS = Struct("@PNPNPN0P")
+
+
+class SearchAskerRecord(NamedTuple):
+    """What an object says about the search for libraries."""
+
+    r_path: int
+    r_path_size: int
+    run_path: int
+    run_path_size: int
+    tokens_origin: int
+    tokens_origin_size: int
+    tokens_lib: int
+    tokens_lib_size: int
+    tokens_platform: int
+    tokens_platform_size: int
+    has_run_path: int
+    no_default: int
+
+
+_document(
+    SearchAskerRecord,
+    r_path="The text of its last DT_RPATH; empty if it has none. Their address.",
+    r_path_size="How many they are.",
+    run_path="The text of its last DT_RUNPATH. Their address.",
+    run_path_size="How many they are.",
+    tokens_origin="The values of its tokens. The folder of the object (`$ORIGIN`). Their address.",
+    tokens_origin_size="The values of its tokens. How many they are.",
+    tokens_lib=
+        "The values of its tokens. The folder of libraries for the machine, as `lib64` (`$LIB`). Their "
+        "address.",
+    tokens_lib_size="The values of its tokens. How many they are.",
+    tokens_platform="The values of its tokens. The kind of the processor, as `x86_64` (`$PLATFORM`). Their address.",
+    tokens_platform_size="The values of its tokens. How many they are.",
+    has_run_path="1 if it has a DT_RUNPATH, even an empty one: its DT_RPATH then does not count.",
+    no_default="1 if it has the flag 0x800 (DF_1_NODEFLIB): no library is looked for in the default folders.",
+)
+
+
+SEARCH_ASKER = Struct("@PNPNPNPNPNII0P")
+
+
+class SearchForRecord(NamedTuple):
+    """A name that is looked for, and what the search depends on. No text may have a zero byte."""
+
+    name: int
+    name_size: int
+    library_path: int
+    library_path_size: int
+    cache: int
+    cache_size: int
+    conf: int
+    conf_size: int
+    defaults: int
+    defaults_size: int
+    subdirectories: int
+    subdirectories_count: int
+    program_origin: int
+    program_origin_size: int
+    program_lib: int
+    program_lib_size: int
+    program_platform: int
+    program_platform_size: int
+
+
+_document(
+    SearchForRecord,
+    name="The name, with its tokens replaced. Their address.",
+    name_size="How many they are.",
+    library_path="The value of LD_LIBRARY_PATH. Their address.",
+    library_path_size="How many they are.",
+    cache=
+        "The path that the cache has for the name (`xmas_elf_cache_path`); empty if it has none. Their "
+        "address.",
+    cache_size="How many they are.",
+    conf="The folders of ld.so.conf, one in each line, where there is no cache. Their address.",
+    conf_size="How many they are.",
+    defaults="The default folders, with colons between them. Their address.",
+    defaults_size="How many they are.",
+    subdirectories=
+        "The subdirectories of each folder that are tried, each with a slash at its end; the last is the "
+        "empty text. Their address.",
+    subdirectories_count="How many they are.",
+    program_origin="The values of the tokens for the program. The folder of the object (`$ORIGIN`). Their address.",
+    program_origin_size="The values of the tokens for the program. How many they are.",
+    program_lib=
+        "The values of the tokens for the program. The folder of libraries for the machine, as `lib64` "
+        "(`$LIB`). Their address.",
+    program_lib_size="The values of the tokens for the program. How many they are.",
+    program_platform=
+        "The values of the tokens for the program. The kind of the processor, as `x86_64` (`$PLATFORM`). "
+        "Their address.",
+    program_platform_size="The values of the tokens for the program. How many they are.",
+)
+
+
+SEARCH_FOR = Struct("@PNPNPNPNPNPNPNPNPN0P")
+
+
+class CandidatePathRecord(NamedTuple):
+    """A path at which a library is looked for."""
+
+    how: int
+    asker: int
+    subdirectory_size: int
+
+
+_document(
+    CandidatePathRecord,
+    how=
+        "Why it is tried: 1 the name has a slash and is the path, 2 the DT_RPATH of an object, 3 "
+        "LD_LIBRARY_PATH, 4 the DT_RUNPATH of the object that asks, 5 the cache, 6 ld.so.conf, 7 the default "
+        "folders.",
+    asker="For a DT_RPATH the index of its object among the askers, otherwise 0.",
+    subdirectory_size="The size of its subdirectory in bytes; 0 for the folder itself.",
+)
+
+
+CANDIDATE_PATH = Struct("@IQQ0Q")
+
+
+class CacheMachineRecord(NamedTuple):
+    """What a machine can use of a cache."""
+
+    names: int
+    names_count: int
+    bits: int
+    platform: int
+    flags: int
+    other_flags: int
+    levels: int
+
+
+_document(
+    CacheMachineRecord,
+    names="The active names of subdirectories of `glibc-hwcaps`, the best first. Their address.",
+    names_count="How many they are.",
+    bits=
+        "The capabilities that it has, other than platforms: on x86-64 bits 1 (x86_64), 2 (avx512_1) and 63 "
+        "(tls), on 32-bit x86 0 (sse2) and 63.",
+    platform="The bit of its platform, 0 if it has none: haswell is bit 50, i686 bit 49.",
+    flags="The flags of its entries: 0x303 of x86-64, 0xa03 of AArch64, 3 of 32-bit x86.",
+    other_flags="Other flags that it takes, of 32-bit x86 1; else the same.",
+    levels=
+        "The levels that it has, level k as bit k: bit 0, and on x86-64 bits 1 to 3 for the levels 2 to 4 of "
+        "the processor.",
+)
+
+
+CACHE_MACHINE = Struct("@PNQQIII0Q")
+
+
+class DependenciesRecord(NamedTuple):
+    """What the entries of an object ask for and found."""
+
+    found: int
+    found_count: int
+    kinds: int
+    kinds_count: int
+
+
+_document(
+    DependenciesRecord,
+    found=
+        "For each entry the number of the object that it found, 0xffffffff if that is missing, 0xfffffffe if "
+        "it was not asked for. Their address.",
+    found_count="How many they are.",
+    kinds=
+        "The kind of each, as in `xmas_elf_needed_name_t`; 1 for those that are left out at the end. Their "
+        "address.",
+    kinds_count="How many they are.",
+)
+
+
+DEPENDENCIES = Struct("@PNPN0P")
+
+
+class ObjectEntryRecord(NamedTuple):
+    """An entry of an object."""
+
+    object: int
+    entry: int
+
+
+_document(
+    ObjectEntryRecord,
+    object="The number of the object.",
+    entry="The index of the entry among the names that it asks for.",
+)
+
+
+OBJECT_ENTRY = Struct("@QQ0Q")
+
+
+class LackedVersionRecord(NamedTuple):
+    """A version that an object lacks."""
+
+    version_name_offset: int
+    version_name_size: int
+    version_file_offset: int
+    version_file_size: int
+    version_status: int
+    version_name_status: int
+    version_file_status: int
+    version_kind: int
+    version_number: int
+    version_hidden: int
+    version_flags: int
+    version_hash: int
+    lack: int
+
+
+_document(
+    LackedVersionRecord,
+    version_name_offset=
+        "The version that is needed. The bytes of the version's name without the zero byte that ends it; "
+        "offset and size are 0 where it has none. The offset of the first byte, in bytes from the start of "
+        "the input.",
+    version_name_size=
+        "The version that is needed. The bytes of the version's name without the zero byte that ends it; "
+        "offset and size are 0 where it has none. The number of bytes.",
+    version_file_offset=
+        "The version that is needed. The bytes of the name of the library that the version is needed of; "
+        "offset and size are 0 where there is none. The offset of the first byte, in bytes from the start of "
+        "the input.",
+    version_file_size=
+        "The version that is needed. The bytes of the name of the library that the version is needed of; "
+        "offset and size are 0 where there is none. The number of bytes.",
+    version_status="The version that is needed. The status of this version; where it is not OK, the other fields are 0.",
+    version_name_status="The version that is needed. The status of the version's name.",
+    version_file_status="The version that is needed. The status of the library's name.",
+    version_kind="The version that is needed. What has the number: 0 nothing, 1 a definition of the file, 2 a need.",
+    version_number=
+        "The version that is needed. The number of the version, by which symbols refer to it (vd_ndx; bits 0 "
+        "to 14 of a symbol's number and of vna_other): 0 is local, 1 is global.",
+    version_hidden=
+        "The version that is needed. 1 where the symbol or the need is hidden (bit 15 of its number), and "
+        "else 0.",
+    version_flags=
+        "The version that is needed. The flags of the definition or the need (vd_flags, vna_flags); the "
+        "lowest marks the definition that names the file itself.",
+    version_hash="The version that is needed. The hash number of the version's name (vd_hash, vna_hash).",
+    lack=
+        "Why it is missing: 1 the object has no versions, 2 it is needed weakly, 3 otherwise: then the "
+        "program does not start. 0 if its status is an error.",
+)
+
+
+LACKED_VERSION = Struct("@QQQQIIIIIIIII0Q")
 
 
 # What each export returns, and its parameters: a slice is a pointer and a count.
@@ -836,6 +1204,10 @@ EXPORTS: Dict[str, Tuple[Any, Tuple[Any, ...]]] = {
     "xmas_elf_symbols_at": (c_uint32, (c_void_p, c_size_t, c_void_p, c_void_p, c_size_t, c_void_p, c_size_t, c_void_p, c_size_t, c_void_p, c_size_t,)),
     "xmas_elf_pieces": (c_uint32, (c_void_p, c_size_t, c_void_p, c_uint64, c_void_p, c_size_t, c_void_p, c_size_t, c_void_p, c_size_t, c_void_p,)),
     "xmas_elf_symbol_pieces": (c_uint32, (c_void_p, c_size_t, c_void_p, c_uint64, c_uint64, c_uint64, c_void_p, c_size_t, c_void_p, c_size_t, c_void_p, c_size_t, c_void_p,)),
+    "xmas_elf_size_changes": (c_uint32, (c_void_p, c_size_t, c_void_p, c_size_t, c_void_p, c_size_t, c_void_p,)),
+    "xmas_elf_debug_path": (c_uint32, (c_void_p, c_size_t, c_void_p, c_void_p, c_size_t, c_void_p, c_size_t, c_uint64, c_void_p, c_size_t, c_void_p,)),
+    "xmas_elf_check_debug": (c_uint32, (c_void_p, c_size_t, c_void_p, c_uint32, c_void_p, c_size_t, c_void_p,)),
+    "xmas_elf_debug_crc": (c_uint32, (c_void_p, c_size_t, c_void_p,)),
     "xmas_elf_load_plan": (c_uint32, (c_void_p, c_size_t, c_void_p, c_uint64, c_uint64, c_void_p,)),
     "xmas_elf_load_mappings": (c_uint32, (c_void_p, c_size_t, c_void_p, c_uint64, c_uint64, c_uint32, c_uint64, c_void_p, c_size_t, c_void_p,)),
     "xmas_elf_load_image": (c_uint32, (c_void_p, c_size_t, c_void_p, c_uint64, c_uint64, c_uint32, c_void_p, c_size_t,)),
@@ -843,6 +1215,19 @@ EXPORTS: Dict[str, Tuple[Any, Tuple[Any, ...]]] = {
     "xmas_elf_relocate": (c_uint32, (c_void_p, c_size_t, c_uint64, c_uint32, c_uint64, c_uint64, c_void_p, c_size_t, c_void_p,)),
     "xmas_elf_relocate_all": (c_uint32, (c_void_p, c_size_t, c_uint32, c_uint64, c_uint64, c_void_p, c_size_t, c_void_p, c_void_p,)),
     "xmas_elf_message": (c_size_t, (c_uint32, c_void_p, c_size_t,)),
+    "xmas_elf_needed_names": (c_uint32, (c_void_p, c_size_t, c_void_p, c_uint64, c_void_p, c_size_t, c_void_p,)),
+    "xmas_elf_last_entry": (c_uint32, (c_void_p, c_size_t, c_void_p, c_uint64, c_void_p,)),
+    "xmas_elf_last_text": (c_uint32, (c_void_p, c_size_t, c_void_p, c_uint64, c_void_p,)),
+    "xmas_elf_fits": (c_uint32, (c_void_p, c_size_t, c_uint64, c_uint8, c_uint16, c_void_p,)),
+    "xmas_elf_check_library": (c_uint32, (c_void_p, c_size_t, c_void_p,)),
+    "xmas_elf_check_load": (c_uint32, (c_void_p, c_size_t, c_void_p, c_uint64, c_uint64, c_uint32,)),
+    "xmas_elf_expand": (c_uint32, (c_void_p, c_size_t, c_void_p, c_uint64, c_void_p, c_size_t, c_void_p,)),
+    "xmas_elf_candidates": (c_uint32, (c_void_p, c_void_p, c_size_t, c_uint64, c_void_p, c_size_t, c_void_p,)),
+    "xmas_elf_candidate_paths": (c_uint32, (c_void_p, c_void_p, c_size_t, c_uint64, c_void_p, c_size_t, c_void_p,)),
+    "xmas_elf_cache_path": (c_uint32, (c_void_p, c_size_t, c_void_p, c_size_t, c_void_p, c_uint64, c_void_p, c_size_t, c_void_p,)),
+    "xmas_elf_next_entry": (c_uint32, (c_void_p, c_size_t, c_void_p, c_size_t, c_void_p, c_size_t, c_void_p,)),
+    "xmas_elf_start_order": (c_uint32, (c_void_p, c_size_t, c_void_p, c_size_t, c_void_p, c_size_t, c_void_p, c_size_t, c_void_p, c_size_t, c_void_p,)),
+    "xmas_elf_missing_versions": (c_uint32, (c_void_p, c_size_t, c_void_p, c_void_p, c_size_t, c_void_p, c_size_t, c_void_p, c_uint64, c_void_p, c_size_t, c_void_p,)),
 }
 
 
@@ -1005,6 +1390,12 @@ class Status(IntEnum):
     """Nothing has this name."""
     MANY_OBJECTS = 204
     """There are more than 64 objects."""
+    NO_BUILD_ID = 211
+    """A debug file has no build id."""
+    OTHER_BUILD_ID = 212
+    """A debug file has another build id."""
+    OTHER_CHECKSUM = 213
+    """A debug file has another CRC."""
     LOAD_TYPE = 301
     """Type is neither executable nor shared object."""
     LOAD_ENTRY_SIZE = 302
@@ -1111,6 +1502,50 @@ class Status(IntEnum):
     """Table has 2^32 symbols or more."""
     INDEX_FEW_WORDS = 402
     """Too few words for the index."""
+    SEARCH_FILE_DATA = 501
+    """cannot read file data."""
+    SEARCH_SHORT_FILE = 502
+    """file too short."""
+    SEARCH_MAGIC = 503
+    """invalid ELF header."""
+    SEARCH_BYTE_ORDER = 504
+    """ELF file data encoding not little-endian."""
+    SEARCH_IDENT_VERSION = 505
+    """ELF file version ident does not match current one."""
+    SEARCH_OS_ABI = 506
+    """ELF file OS ABI invalid."""
+    SEARCH_ABI_VERSION = 507
+    """ELF file ABI version invalid."""
+    SEARCH_PADDING = 508
+    """nonzero padding in e_ident."""
+    SEARCH_VERSION = 509
+    """ELF file version does not match current one."""
+    SEARCH_TYPE = 510
+    """only ET_DYN and ET_EXEC can be loaded."""
+    SEARCH_ENTRY_SIZE = 511
+    """ELF file's phentsize not the expected size."""
+    SEARCH_NO_LOAD = 512
+    """object file has no loadable segments."""
+    SEARCH_EXECUTABLE = 513
+    """cannot dynamically load executable."""
+    SEARCH_NO_DYNAMIC = 514
+    """object file has no dynamic section."""
+    SEARCH_SHARED_EXECUTABLE = 515
+    """cannot dynamically load position-independent executable."""
+    SEARCH_EMPTY_TOKEN = 516
+    """empty dynamic string token substitution."""
+    SEARCH_NOT_A_CACHE = 517
+    """not a cache of libraries."""
+    SEARCH_CACHE_COUNT = 518
+    """entries extend past the end of the cache."""
+    SEARCH_CACHE_ORDER = 519
+    """cache is of another byte order."""
+    SEARCH_FEW_WORDS = 520
+    """too few words for the objects."""
+    SEARCH_NO_OBJECT = 521
+    """no such object or entry."""
+    SEARCH_NO_PROVIDER = 530
+    """file of a need of versions is no object."""
 
 
 # The size of the longest text of a status, in bytes.

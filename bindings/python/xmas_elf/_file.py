@@ -4,11 +4,12 @@ from __future__ import annotations
 import os
 from functools import cached_property
 from itertools import chain
-from typing import Any, BinaryIO, Dict, Iterable, Iterator, List, Optional, Tuple, Union
+from typing import Any, BinaryIO, Dict, Iterable, Iterator, List, Optional, Sequence, Tuple, Union
 
 from . import _declarations as declared
 from ._addresses import AddressIndex, SymbolAt
 from ._archive import ElfError, check, library
+from ._debug import SEARCH, DebugCandidate, debug_paths_of, opened_candidate
 from ._declarations import Status
 from ._hardening import Hardening, hardening_of
 from ._loading import Loader, LoadPlan, Verdict, load_plan_of, verdict_of
@@ -131,6 +132,27 @@ class ElfFile(Reading):
         """Which addresses of a section belong to which symbol: that of `symbol_at` with the section as `within`, if its size
         is not 0. Every address is in exactly one piece."""
         return symbol_pieces_of(self, section if isinstance(section, Section) else self.section(section))
+
+    # Separate debug files.
+
+    def debug_file(self, search: Sequence[str] = SEARCH, path: Optional[str] = None) -> Optional["ElfFile"]:
+        """The separate debug file of the file, or None: the first of `debug_candidates` that is the debug file. A file that is
+        another's, or none, is skipped: `debug_candidates` says why."""
+        for how, place in debug_paths_of(self, search, path or self.path):
+            _, debug = opened_candidate(self, how, place, ElfFile.load_from_path)
+            if debug is not None:
+                return debug  # type: ignore[no-any-return]
+        return None
+
+    def debug_candidates(self, search: Sequence[str] = SEARCH, path: Optional[str] = None) -> Iterator[DebugCandidate]:
+        """The paths at which the debug file may be, in the order in which gdb tries them, and what is at each: by the build id
+        in the directories of `search`; by the name in `.gnu_debuglink` in the folder of the file at `path`, in `.debug` there,
+        and in the same folder under the directories. `path` is that of the file, where it was loaded from a path."""
+        for how, place in debug_paths_of(self, search, path or self.path):
+            status, debug = opened_candidate(self, how, place, ElfFile.load_from_path)
+            if debug is not None:
+                debug.close()
+            yield DebugCandidate(place, how, status)
 
     # Sections.
 

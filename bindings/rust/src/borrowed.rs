@@ -1,23 +1,28 @@
-//! Bytes that a struct of the archive borrows for a call.
+//! Slices that a struct of the archive borrows for a call.
 
 use core::marker::PhantomData;
 
-/// A slice as C has it: the address of its first byte, and its size.
+/// A slice as C has it: the address of its first item, and how many they are.
 #[repr(C)]
 #[derive(Clone, Copy, Debug, PartialEq, Eq)]
-pub(crate) struct Borrowed<'a> {
-    start: *const u8,
+pub(crate) struct Borrowed<'a, T = u8> {
+    start: *const T,
     size: usize,
-    of: PhantomData<&'a [u8]>,
+    of: PhantomData<&'a [T]>,
 }
 
-impl<'a> From<&'a [u8]> for Borrowed<'a> {
-    fn from(bytes: &'a [u8]) -> Borrowed<'a> {
-        Borrowed { start: bytes.as_ptr(), size: bytes.len(), of: PhantomData }
+impl<'a, T> From<&'a [T]> for Borrowed<'a, T> {
+    fn from(items: &'a [T]) -> Borrowed<'a, T> {
+        Borrowed { start: items.as_ptr(), size: items.len(), of: PhantomData }
     }
 }
 
-impl Default for Borrowed<'_> {
+impl Borrowed<'static> {
+    /// No bytes.
+    pub(crate) const EMPTY: Borrowed<'static> = Borrowed { start: core::ptr::NonNull::dangling().as_ptr(), size: 0, of: PhantomData };
+}
+
+impl<T> Default for Borrowed<'_, T> {
     fn default() -> Self {
         Borrowed::from(&[][..])
     }

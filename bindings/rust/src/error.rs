@@ -158,6 +158,12 @@ pub enum Error {
     NotFound,
     /// There are more than 64 objects.
     ManyObjects,
+    /// A debug file has no build id.
+    NoBuildId,
+    /// A debug file has another build id.
+    OtherBuildId,
+    /// A debug file has another CRC.
+    OtherChecksum,
     /// Type is neither executable nor shared object.
     LoadType,
     /// Program headers are not of the size of the class.
@@ -264,6 +270,50 @@ pub enum Error {
     IndexManySymbols,
     /// Too few words for the index.
     IndexFewWords,
+    /// cannot read file data.
+    SearchFileData,
+    /// file too short.
+    SearchShortFile,
+    /// invalid ELF header.
+    SearchMagic,
+    /// ELF file data encoding not little-endian.
+    SearchByteOrder,
+    /// ELF file version ident does not match current one.
+    SearchIdentVersion,
+    /// ELF file OS ABI invalid.
+    SearchOsAbi,
+    /// ELF file ABI version invalid.
+    SearchAbiVersion,
+    /// nonzero padding in e_ident.
+    SearchPadding,
+    /// ELF file version does not match current one.
+    SearchVersion,
+    /// only ET_DYN and ET_EXEC can be loaded.
+    SearchType,
+    /// ELF file's phentsize not the expected size.
+    SearchEntrySize,
+    /// object file has no loadable segments.
+    SearchNoLoad,
+    /// cannot dynamically load executable.
+    SearchExecutable,
+    /// object file has no dynamic section.
+    SearchNoDynamic,
+    /// cannot dynamically load position-independent executable.
+    SearchSharedExecutable,
+    /// empty dynamic string token substitution.
+    SearchEmptyToken,
+    /// not a cache of libraries.
+    SearchNotACache,
+    /// entries extend past the end of the cache.
+    SearchCacheCount,
+    /// cache is of another byte order.
+    SearchCacheOrder,
+    /// too few words for the objects.
+    SearchFewWords,
+    /// no such object or entry.
+    SearchNoObject,
+    /// file of a need of versions is no object.
+    SearchNoProvider,
     /// A status that this crate doesn't know: the archive is of another version.
     Unknown(u32),
 }
@@ -349,6 +399,9 @@ impl Error {
             202 => Error::NoRecord,
             203 => Error::NotFound,
             204 => Error::ManyObjects,
+            211 => Error::NoBuildId,
+            212 => Error::OtherBuildId,
+            213 => Error::OtherChecksum,
             301 => Error::LoadType,
             302 => Error::LoadEntrySize,
             303 => Error::LoadCount,
@@ -402,6 +455,28 @@ impl Error {
             351 => Error::LoadAddends,
             401 => Error::IndexManySymbols,
             402 => Error::IndexFewWords,
+            501 => Error::SearchFileData,
+            502 => Error::SearchShortFile,
+            503 => Error::SearchMagic,
+            504 => Error::SearchByteOrder,
+            505 => Error::SearchIdentVersion,
+            506 => Error::SearchOsAbi,
+            507 => Error::SearchAbiVersion,
+            508 => Error::SearchPadding,
+            509 => Error::SearchVersion,
+            510 => Error::SearchType,
+            511 => Error::SearchEntrySize,
+            512 => Error::SearchNoLoad,
+            513 => Error::SearchExecutable,
+            514 => Error::SearchNoDynamic,
+            515 => Error::SearchSharedExecutable,
+            516 => Error::SearchEmptyToken,
+            517 => Error::SearchNotACache,
+            518 => Error::SearchCacheCount,
+            519 => Error::SearchCacheOrder,
+            520 => Error::SearchFewWords,
+            521 => Error::SearchNoObject,
+            530 => Error::SearchNoProvider,
             other => Error::Unknown(other),
         }
     }
@@ -486,6 +561,9 @@ impl Error {
             Error::NoRecord => 202,
             Error::NotFound => 203,
             Error::ManyObjects => 204,
+            Error::NoBuildId => 211,
+            Error::OtherBuildId => 212,
+            Error::OtherChecksum => 213,
             Error::LoadType => 301,
             Error::LoadEntrySize => 302,
             Error::LoadCount => 303,
@@ -539,6 +617,28 @@ impl Error {
             Error::LoadAddends => 351,
             Error::IndexManySymbols => 401,
             Error::IndexFewWords => 402,
+            Error::SearchFileData => 501,
+            Error::SearchShortFile => 502,
+            Error::SearchMagic => 503,
+            Error::SearchByteOrder => 504,
+            Error::SearchIdentVersion => 505,
+            Error::SearchOsAbi => 506,
+            Error::SearchAbiVersion => 507,
+            Error::SearchPadding => 508,
+            Error::SearchVersion => 509,
+            Error::SearchType => 510,
+            Error::SearchEntrySize => 511,
+            Error::SearchNoLoad => 512,
+            Error::SearchExecutable => 513,
+            Error::SearchNoDynamic => 514,
+            Error::SearchSharedExecutable => 515,
+            Error::SearchEmptyToken => 516,
+            Error::SearchNotACache => 517,
+            Error::SearchCacheCount => 518,
+            Error::SearchCacheOrder => 519,
+            Error::SearchFewWords => 520,
+            Error::SearchNoObject => 521,
+            Error::SearchNoProvider => 530,
             Error::Unknown(status) => *status,
         }
     }

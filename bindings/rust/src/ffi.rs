@@ -4,7 +4,7 @@
 //! writes the records that it is passed to write, of a slice at most as many as it has, and is defined whatever they
 //! contain. All of these are references of the call, of the types that the archive declares.
 
-use crate::records::{AddressIndex, Answer, Counts, Dynamic, Entry, FoundAt, FoundSymbol, FoundTable, Header, LoadObject, Mapping, Name, NoteRange, Piece, PieceSizes, Plan, ProgramHeader, Range, Relocation, SectionHeader, SymbolTable, Version};
+use crate::records::{AddressIndex, Answer, CacheMachine, CandidatePath, Counts, DebugCandidate, Dependencies, Dynamic, Entry, FoundAt, FoundSymbol, FoundTable, Header, LackedVersion, LoadObject, Mapping, Name, NeededName, NoteRange, ObjectEntry, Piece, PieceSizes, Plan, ProgramHeader, Range, Relocation, SearchAsker, SearchFor, SectionHeader, SizeChange, SizePart, SymbolTable, Tokens, Version};
 use crate::Error;
 
 fn result_of<T>(status: u32, value: T) -> Result<T, Error> {
@@ -94,6 +94,14 @@ extern "C" {
     fn xmas_elf_symbol_pieces(input: *const u8, input_len: usize, index: *const AddressIndex, begin: u64, end: u64,
         first: u64, words: *mut u32, words_len: usize, numbers: *mut u64, numbers_len: usize, out: *mut Piece,
         out_len: usize, count: *mut u64) -> u32;
+    fn xmas_elf_size_changes(olds: *mut SizePart<'_>, olds_len: usize, news: *mut SizePart<'_>, news_len: usize,
+        changes: *mut SizeChange, changes_len: usize, count: *mut u64) -> u32;
+    fn xmas_elf_debug_path(input: *const u8, input_len: usize, header: *const Header, path: *const u8,
+        path_len: usize, directory: *const u8, directory_len: usize, index: u64, text: *mut u8, text_len: usize,
+        out: *mut DebugCandidate) -> u32;
+    fn xmas_elf_check_debug(input: *const u8, input_len: usize, header: *const Header, how: u32, debug: *const u8,
+        debug_len: usize, debug_header: *const Header) -> u32;
+    fn xmas_elf_debug_crc(bytes: *const u8, bytes_len: usize, out: *mut u32) -> u32;
     fn xmas_elf_load_plan(input: *const u8, input_len: usize, header: *const Header, page: u64, limit: u64,
         out: *mut Plan) -> u32;
     fn xmas_elf_load_mappings(input: *const u8, input_len: usize, header: *const Header, page: u64, limit: u64,
@@ -107,6 +115,31 @@ extern "C" {
     fn xmas_elf_relocate_all(objects: *const LoadObject<'_>, objects_len: usize, lazy: u32, page: u64, limit: u64,
         images: *mut u8, images_len: usize, left: *mut u64, failed: *mut u64) -> u32;
     fn xmas_elf_message(status: u32, out: *mut u8, out_len: usize) -> usize;
+    fn xmas_elf_needed_names(input: *const u8, input_len: usize, header: *const Header, first: u64,
+        out: *mut NeededName, out_len: usize, count: *mut u64) -> u32;
+    fn xmas_elf_last_entry(input: *const u8, input_len: usize, header: *const Header, tag: u64, out: *mut u64) -> u32;
+    fn xmas_elf_last_text(input: *const u8, input_len: usize, header: *const Header, tag: u64,
+        out: *mut Range) -> u32;
+    fn xmas_elf_fits(head: *const u8, head_len: usize, len: u64, file_class: u8, machine: u16, out: *mut u32) -> u32;
+    fn xmas_elf_check_library(input: *const u8, input_len: usize, header: *const Header) -> u32;
+    fn xmas_elf_check_load(input: *const u8, input_len: usize, header: *const Header, page: u64, limit: u64,
+        loader: u32) -> u32;
+    fn xmas_elf_expand(text: *const u8, text_len: usize, tokens: *const Tokens<'_>, first: u64, out: *mut u8,
+        out_len: usize, count: *mut u64) -> u32;
+    fn xmas_elf_candidates(search: *const SearchFor<'_>, askers: *const SearchAsker<'_>, askers_len: usize,
+        first: u64, out: *mut CandidatePath, out_len: usize, count: *mut u64) -> u32;
+    fn xmas_elf_candidate_paths(search: *const SearchFor<'_>, askers: *const SearchAsker<'_>, askers_len: usize,
+        first: u64, out: *mut u8, out_len: usize, count: *mut u64) -> u32;
+    fn xmas_elf_cache_path(cache: *const u8, cache_len: usize, name: *const u8, name_len: usize,
+        machine: *const CacheMachine<'_>, first: u64, out: *mut u8, out_len: usize, count: *mut u64) -> u32;
+    fn xmas_elf_next_entry(dependencies: *const Dependencies<'_>, dependencies_len: usize, words: *mut u32,
+        words_len: usize, edges: *mut u32, edges_len: usize, out: *mut ObjectEntry) -> u32;
+    fn xmas_elf_start_order(dependencies: *const Dependencies<'_>, dependencies_len: usize, words: *mut u32,
+        words_len: usize, edges: *mut u32, edges_len: usize, list: *mut u32, list_len: usize, starts: *mut u32,
+        starts_len: usize, count: *mut u64) -> u32;
+    fn xmas_elf_missing_versions(input: *const u8, input_len: usize, header: *const Header, name: *const u8,
+        name_len: usize, provider: *const u8, provider_len: usize, provider_header: *const Header, first: u64,
+        out: *mut LackedVersion, out_len: usize, count: *mut u64) -> u32;
 }
 
 /// Reads the ELF header of a file. Errors, in the order of the tests: `ShortPart1`, `NoMagic`, `InvalidClass`,
@@ -625,6 +658,57 @@ pub(crate) fn symbol_pieces(input: &[u8], index: &AddressIndex, begin: u64, end:
     result_of(status, count)
 }
 
+/// The differences of the parts of two files, the greatest first, such as those of the sections or of the symbols of
+/// two builds. The parts are the caller's: what `pieces` and `symbol_pieces` say of each file, summed by owner, with
+/// names and kinds. Each part is in exactly one row, one of an equal size too; parts are matched by kind and name,
+/// the n-th of a name with the n-th. The differences of the sizes sum to the difference of the sums. The call sorts
+/// both lists by kind, name and place, and writes the rows to the front of `changes`, which has room for as many as
+/// both lists have parts; `count` is their number. Without that room nothing is changed. It takes time n log n for n
+/// parts. No two of the three arrays share a byte. Errors: `IndexFewWords`.
+pub(crate) fn size_changes(olds: &mut [SizePart<'_>], news: &mut [SizePart<'_>],
+    changes: &mut [SizeChange]) -> Result<u64, Error> {
+    let mut count = u64::default();
+    // SAFETY: see the head of this file.
+    let status = unsafe { xmas_elf_size_changes(olds.as_mut_ptr(), olds.len(), news.as_mut_ptr(), news.len(),
+        changes.as_mut_ptr(), changes.len(), &mut count) };
+    result_of(status, count)
+}
+
+/// The path at an index at which the separate debug file of the file at `path` may be, in the order in which gdb
+/// tries them: by the build id in `directory`, such as /usr/lib/debug, then by the name in the section
+/// .gnu_debuglink: in the folder of the file, in `.debug` there, and, if `path` begins with a slash, in the same
+/// folder under `directory`. Ask from index 0 on; `NoRecord` means that there are no more. It writes the bytes of the
+/// path to the front of `text`, as many as fit, without a zero byte at the end, and the number of all to `size` of
+/// `out`. A candidate that is there passes `check_debug`, or is another file's. Errors: `NoRecord`.
+pub(crate) fn debug_path(input: &[u8], header: &Header, path: &[u8], directory: &[u8], index: u64,
+    text: &mut [u8]) -> Result<DebugCandidate, Error> {
+    let mut out = DebugCandidate::default();
+    // SAFETY: see the head of this file.
+    let status = unsafe { xmas_elf_debug_path(input.as_ptr(), input.len(), header, path.as_ptr(), path.len(),
+        directory.as_ptr(), directory.len(), index, text.as_mut_ptr(), text.len(), &mut out) };
+    result_of(status, out)
+}
+
+/// Whether `debug`, whose header `open` read, is the debug file of the file. `how` is that of the path where it was
+/// found: one found by the build id (0) has the same build id; any other has the CRC that the link says, of all its
+/// bytes. Errors, in the order of the tests: `NoBuildId`, `OtherBuildId`, `OtherChecksum`.
+pub(crate) fn check_debug(input: &[u8], header: &Header, how: u32, debug: &[u8],
+    debug_header: &Header) -> Result<(), Error> {
+    // SAFETY: see the head of this file.
+    let status = unsafe { xmas_elf_check_debug(input.as_ptr(), input.len(), header, how, debug.as_ptr(), debug.len(),
+        debug_header) };
+    result_of(status, ())
+}
+
+/// The CRC of the bytes of a debug file as .gnu_debuglink has it: CRC-32 with polynomial 0x04C11DB7, that of zlib. It
+/// is always OK.
+pub(crate) fn debug_crc(bytes: &[u8]) -> Result<u32, Error> {
+    let mut out = u32::default();
+    // SAFETY: see the head of this file.
+    let status = unsafe { xmas_elf_debug_crc(bytes.as_ptr(), bytes.len(), &mut out) };
+    result_of(status, out)
+}
+
 /// Whether Linux and glibc load a file, and what they put into memory for it. `page` is the size of a page, a power
 /// of two; 0 means 4096. `limit` is the end of the addresses that a loader may use; 0 means that of Linux: 0xffffe000
 /// for a file of class 32, 0x1000000000000 for one of class 64 for AArch64, and else 0x7ffffffff000, that of x86-64.
@@ -757,4 +841,169 @@ pub(crate) fn relocate_all(objects: &[LoadObject<'_>], lazy: u32, page: u64, lim
 pub(crate) fn message(status: u32, out: &mut [u8]) -> usize {
     // SAFETY: see the head of this file.
     unsafe { xmas_elf_message(status, out.as_mut_ptr(), out.len()) }
+}
+
+/// The names of the libraries that a file asks for (DT_NEEDED, DT_AUXILIARY, DT_FILTER) from index `first` on, in the
+/// order of their entries. `expand` replaces their tokens. No section header is needed. Each call reads the entries
+/// from the first on. Errors, in the order of the tests: `LinkNoDynamic`, `LinkAddress`, `DataRange`, `NotMultiple`,
+/// `NoRecord`. Errors of a record, in the order of the tests: `LinkNoEntry`, `LinkAddress`, `DataRange`, `TextStart`,
+/// `TextEnd`, `TextUtf8`.
+pub(crate) fn needed_names(input: &[u8], header: &Header, first: u64, out: &mut [NeededName]) -> Result<u64, Error> {
+    let mut count = u64::default();
+    // SAFETY: see the head of this file.
+    let status = unsafe { xmas_elf_needed_names(input.as_ptr(), input.len(), header, first, out.as_mut_ptr(),
+        out.len(), &mut count) };
+    result_of(status, count)
+}
+
+/// The value of the last dynamic entry with a tag, which is the one that the loader of glibc reads of DT_SONAME (14),
+/// DT_RPATH (15), DT_RUNPATH (29) and DT_FLAGS_1 (0x6ffffffb). No section header is needed. Errors, in the order of
+/// the tests: `LinkNoDynamic`, `LinkAddress`, `DataRange`, `NotMultiple`, `NotFound`.
+pub(crate) fn last_entry(input: &[u8], header: &Header, tag: u64) -> Result<u64, Error> {
+    let mut out = u64::default();
+    // SAFETY: see the head of this file.
+    let status = unsafe { xmas_elf_last_entry(input.as_ptr(), input.len(), header, tag, &mut out) };
+    result_of(status, out)
+}
+
+/// The range of the text that the entry of `last_entry` names. Errors, in the order of the tests: `LinkNoDynamic`,
+/// `LinkAddress`, `DataRange`, `NotMultiple`, `NotFound`, `LinkNoEntry`, `TextStart`, `TextEnd`, `TextUtf8`.
+pub(crate) fn last_text(input: &[u8], header: &Header, tag: u64) -> Result<Range, Error> {
+    let mut out = Range::default();
+    // SAFETY: see the head of this file.
+    let status = unsafe { xmas_elf_last_text(input.as_ptr(), input.len(), header, tag, &mut out) };
+    result_of(status, out)
+}
+
+/// Whether an opened file is the library that a program of a class (1 or 2) and a machine (e_machine) looks for: 1 it
+/// is taken, 0 it is passed over, and the next path is tried. With an error the loader of glibc ends the program.
+/// `head` are the first 64 bytes of the file or more, or all that it has, and `len` is its size. Of a folder, which
+/// opens and can't be read, the caller takes `SearchFileData` itself. Errors, in the order of the tests:
+/// `SearchShortFile`, `SearchMagic`, `SearchByteOrder`, `SearchIdentVersion`, `SearchOsAbi`, `SearchAbiVersion`,
+/// `SearchPadding`, `SearchVersion`, `SearchType`, `SearchEntrySize`, `SearchFileData`.
+pub(crate) fn fits(head: &[u8], len: u64, file_class: u8, machine: u16) -> Result<u32, Error> {
+    let mut out = u32::default();
+    // SAFETY: see the head of this file.
+    let status = unsafe { xmas_elf_fits(head.as_ptr(), head.len(), len, file_class, machine, &mut out) };
+    result_of(status, out)
+}
+
+/// Whether a file that `fits` took has what a library must have, and is no executable. What a loader asks of its
+/// segments is tested by `check_load`. Errors, in the order of the tests: `SearchNoLoad`, `SearchExecutable`,
+/// `SearchNoDynamic`, `LinkNoDynamic`, `LinkAddress`, `DataRange`, `NotMultiple`, `SearchSharedExecutable`.
+pub(crate) fn check_library(input: &[u8], header: &Header) -> Result<(), Error> {
+    // SAFETY: see the head of this file.
+    let status = unsafe { xmas_elf_check_library(input.as_ptr(), input.len(), header) };
+    result_of(status, ())
+}
+
+/// Whether one loader maps a file. `loader` is 1 for glibc, which maps libraries; any other number for Linux, which
+/// maps a program. `page` and `limit` are those of `load_plan`, whose list is stricter than that of each loader.
+/// Errors, in the order of the tests: `LoadByteOrder`, `LoadIdentVersion`, `LoadOsAbi`, `LoadAbiVersion`,
+/// `LoadPadding`, `LoadVersion`, `LoadType`, `LoadEntrySize`, `LoadCount`, `LoadTable`, `LoadMisaligned`,
+/// `LoadNoLoad`, `LoadExecutable`, `LoadRange`, `LoadData`, `LoadOverlap`, `LoadFileSize`, `LoadInterpreter`,
+/// `LoadEmpty`, `LoadEntry`, `LoadNoDynamic`, `LoadRelro`, `LoadTls`.
+pub(crate) fn check_load(input: &[u8], header: &Header, page: u64, limit: u64, loader: u32) -> Result<(), Error> {
+    // SAFETY: see the head of this file.
+    let status = unsafe { xmas_elf_check_load(input.as_ptr(), input.len(), header, page, limit, loader) };
+    result_of(status, ())
+}
+
+/// The bytes of a text with its dynamic string tokens replaced by their values, from byte `first` on.
+/// `SearchEmptyToken` if a value is not known: an element of a list then drops out, and an object whose needed name
+/// has it is not loaded. Errors, in the order of the tests: `SearchEmptyToken`, `NoRecord`.
+pub(crate) fn expand(text: &[u8], tokens: &Tokens<'_>, first: u64, out: &mut [u8]) -> Result<u64, Error> {
+    let mut count = u64::default();
+    // SAFETY: see the head of this file.
+    let status = unsafe { xmas_elf_expand(text.as_ptr(), text.len(), tokens, first, out.as_mut_ptr(), out.len(), &mut
+        count) };
+    result_of(status, count)
+}
+
+/// The paths at which a library is looked for, in order, from index `first` on; `candidate_paths` has their texts.
+/// The first of `askers` is the object that asks; each is followed by the object that had it loaded, and the last is
+/// the program. Those after the first that have no DT_RPATH may be left out. The first file that `fits` takes ends
+/// the search; one that can't be opened is passed over. Where, with `subdirectory_size` 0 and a folder that is there,
+/// opening fails otherwise than since there is no such file or for want of permission, go on with the next candidate
+/// that has another `how` or `asker`. Each call goes through the candidates from the first on, and the cost of a list
+/// grows with the square of its length. Errors, in the order of the tests: `ManyObjects`, `NoRecord`.
+pub(crate) fn candidates(search: &SearchFor<'_>, askers: &[SearchAsker<'_>], first: u64,
+    out: &mut [CandidatePath]) -> Result<u64, Error> {
+    let mut count = u64::default();
+    // SAFETY: see the head of this file.
+    let status = unsafe { xmas_elf_candidates(search, askers.as_ptr(), askers.len(), first, out.as_mut_ptr(),
+        out.len(), &mut count) };
+    result_of(status, count)
+}
+
+/// The paths of `candidates`, one after another, each with a zero byte after it, from byte `first` of all of them on.
+/// Costs are those of that call, so give much room. Errors, in the order of the tests: `ManyObjects`, `NoRecord`.
+pub(crate) fn candidate_paths(search: &SearchFor<'_>, askers: &[SearchAsker<'_>], first: u64,
+    out: &mut [u8]) -> Result<u64, Error> {
+    let mut count = u64::default();
+    // SAFETY: see the head of this file.
+    let status = unsafe { xmas_elf_candidate_paths(search, askers.as_ptr(), askers.len(), first, out.as_mut_ptr(),
+        out.len(), &mut count) };
+    result_of(status, count)
+}
+
+/// The path that a machine gets for a name from the cache of these bytes (/etc/ld.so.cache), from its byte `first`
+/// on. Any bytes may be given. The loader of glibc goes on without a cache where it can't be read. Errors, in the
+/// order of the tests: `SearchNotACache`, `SearchCacheCount`, `SearchCacheOrder`, `NotFound`, `NoRecord`.
+pub(crate) fn cache_path(cache: &[u8], name: &[u8], machine: &CacheMachine<'_>, first: u64,
+    out: &mut [u8]) -> Result<u64, Error> {
+    let mut count = u64::default();
+    // SAFETY: see the head of this file.
+    let status = unsafe { xmas_elf_cache_path(cache.as_ptr(), cache.len(), name.as_ptr(), name.len(), machine, first,
+        out.as_mut_ptr(), out.len(), &mut count) };
+    result_of(status, count)
+}
+
+/// The entry whose name is to be looked for next, by what the entries of all objects found so far. Objects have
+/// numbers in the order in which they are loaded, from 0, the program: where an entry finds a new one, it gets the
+/// next number, and is put at the end of `dependencies`. Without entries of kinds 2 and 3 it is the first of the
+/// first object that was not asked for, so the entries of an object can be asked for one after another; `words` and
+/// `edges` are not used then, and else have 4 words for each object and one for each entry. `NoRecord` if all were
+/// asked for. Each call goes through all entries. Errors, in the order of the tests: `NoRecord`, `SearchNoObject`,
+/// `SearchFewWords`.
+pub(crate) fn next_entry(dependencies: &[Dependencies<'_>], words: &mut [u32],
+    edges: &mut [u32]) -> Result<ObjectEntry, Error> {
+    let mut out = ObjectEntry::default();
+    // SAFETY: see the head of this file.
+    let status = unsafe { xmas_elf_next_entry(dependencies.as_ptr(), dependencies.len(), words.as_mut_ptr(),
+        words.len(), edges.as_mut_ptr(), edges.len(), &mut out) };
+    result_of(status, out)
+}
+
+/// The order in which the initialisers of libraries run, by what the entries of all objects found: the numbers of the
+/// objects but the program, which starts last, at the front of `starts`, and how many they are in `count`. Of the
+/// objects with the flag 0x20 (DF_1_INITFIRST) the one with the greatest number starts before all; the call doesn't
+/// move it. `list` gets the numbers of all objects in the order in which symbols are looked up. Give 4 `words` and 3
+/// `starts` for each object, an edge for each entry, and a word of `list` for each object; what else they hold after
+/// has no meaning. `SearchNoObject` if an entry was not asked for, or the numbers are not those of `next_entry`.
+/// Errors, in the order of the tests: `SearchFewWords`, `SearchNoObject`.
+pub(crate) fn start_order(dependencies: &[Dependencies<'_>], words: &mut [u32], edges: &mut [u32], list: &mut [u32],
+    starts: &mut [u32]) -> Result<u64, Error> {
+    let mut count = u64::default();
+    // SAFETY: see the head of this file.
+    let status = unsafe { xmas_elf_start_order(dependencies.as_ptr(), dependencies.len(), words.as_mut_ptr(),
+        words.len(), edges.as_mut_ptr(), edges.len(), list.as_mut_ptr(), list.len(), starts.as_mut_ptr(),
+        starts.len(), &mut count) };
+    result_of(status, count)
+}
+
+/// The versions that a file needs of the object that its needs call `name`, and that this object lacks, from index
+/// `first` on, in the order of the needs. `provider` are the bytes of the object, and `provider_header` is its
+/// header. A need of another name has the status `SearchNoProvider`. Each call reads the needs from the first on, and
+/// goes through the definitions of the object for each. Errors, in the order of the tests: `LinkNoDynamic`,
+/// `LinkAddress`, `DataRange`, `NotMultiple`, `NoRecord`. Errors of a record, in the order of the tests:
+/// `SearchNoProvider`, `LinkShortVersion`, `LinkVersionCount`, `LinkNoEntry`, `LinkAddress`, `DataRange`,
+/// `TextStart`, `TextEnd`, `TextUtf8`.
+pub(crate) fn missing_versions(input: &[u8], header: &Header, name: &[u8], provider: &[u8], provider_header: &Header,
+    first: u64, out: &mut [LackedVersion]) -> Result<u64, Error> {
+    let mut count = u64::default();
+    // SAFETY: see the head of this file.
+    let status = unsafe { xmas_elf_missing_versions(input.as_ptr(), input.len(), header, name.as_ptr(), name.len(),
+        provider.as_ptr(), provider.len(), provider_header, first, out.as_mut_ptr(), out.len(), &mut count) };
+    result_of(status, count)
 }

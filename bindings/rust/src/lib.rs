@@ -1,7 +1,8 @@
 //! A reader of ELF files that lie in a byte slice, over the proved static library `elf_c`.
 //!
 //! Every slice and text is a part of the input. No call panics or fails otherwise, whatever the bytes are, and none but
-//! `symbol_map`, `pieces`, `symbol_pieces` and `section_symbols` of [`ElfFile`] and [`Section`] allocate. Every result of the archive is proved;
+//! `symbol_map`, `pieces`, `symbol_pieces`, `section_symbols` and `debug_paths` of [`ElfFile`] and [`Section`], [`size_changes`] and
+//! [`size_diff`] allocate. Every result of the archive is proved;
 //! this crate, which slices the input at the ranges that the archive returns, is tested.
 //!
 //! Numbers of headers, symbols and entries are fields, with the names of the standard in [`constants`]; `get_type` and
@@ -34,6 +35,9 @@ mod batch;
 #[cfg(test)]
 mod calls;
 pub mod constants;
+mod debug_files;
+#[cfg(feature = "alloc")]
+mod differences;
 mod dynamic;
 mod error;
 // The calls of the archive, and nothing else: slices and texts are taken by safe code. Some serve tests alone.
@@ -54,6 +58,7 @@ mod process;
 mod ranges;
 mod records;
 mod relocations;
+pub mod search;
 pub mod sections;
 #[cfg(feature = "alloc")]
 mod section_symbols;
@@ -67,6 +72,9 @@ mod versions;
 
 use batch::one;
 
+pub use debug_files::{debug_crc, DebugHow};
+#[cfg(feature = "alloc")]
+pub use differences::{size_changes, size_diff, Part, PartChange};
 pub use error::Error;
 pub use hardening::{Hardening, Pie, Relro};
 #[cfg(feature = "alloc")]
@@ -79,7 +87,7 @@ pub use notes::{Note, Notes};
 pub use process::{check_image, relocate, relocate_all, Binding, ObjectError};
 pub use records::Range as ByteRange;
 pub use ranges::LookUp;
-pub use records::{Answer, Dynamic, Entry, Header, LoadObject, Mapping, Name, ProgramHeader, Relocation, SectionHeader, Span, SymbolTable, TlsTemplate, Version};
+pub use records::{Answer, Dynamic, Entry, Header, LoadObject, Mapping, Name, ProgramHeader, Relocation, SectionHeader, SizeChange, SizePart, Span, SymbolTable, TlsTemplate, Version};
 #[cfg(feature = "alloc")]
 pub use pieces::{Owner, Piece, SymbolPiece};
 #[cfg(feature = "alloc")]

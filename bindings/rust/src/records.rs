@@ -402,6 +402,48 @@ pub(crate) struct PieceSizes {
     pub(crate) count: u64,
 }
 
+/// A part of a file, and its number of bytes.
+#[repr(C)]
+#[derive(Clone, Copy, Debug, Default, PartialEq, Eq)]
+pub struct SizePart<'a> {
+    /// The bytes of its name, which may be empty.
+    pub(crate) name: Borrowed<'a>,
+    /// The number of its kind, as the caller numbers kinds.
+    pub(crate) kind: u64,
+    /// Its place in the file, such as an index: of parts with one kind and one name, the one with the smallest place
+    /// is the first.
+    pub(crate) place: u64,
+    /// Its number of bytes.
+    pub(crate) size: u64,
+}
+
+/// What became of a part from one file to another.
+#[repr(C)]
+#[derive(Clone, Copy, Debug, Default, PartialEq, Eq)]
+pub struct SizeChange {
+    /// The index of the part of the old file in its list, as the call sorts it; 0 where `files` is 1.
+    pub old_index: u64,
+    /// The index of the part of the new file in its list, as the call sorts it; 0 where `files` is 0.
+    pub new_index: u64,
+    /// The number of bytes in the old file; 0 if the part isn't there.
+    pub old_size: u64,
+    /// The number of bytes in the new file; 0 if the part isn't there.
+    pub new_size: u64,
+    /// Where it is: 0 in the old file alone, 1 in the new file alone, 2 in both.
+    pub files: u32,
+}
+
+/// A path at which a debug file may be.
+#[repr(C)]
+#[derive(Clone, Copy, Debug, Default, PartialEq, Eq)]
+pub(crate) struct DebugCandidate {
+    /// The number of bytes of the path.
+    pub(crate) size: u64,
+    /// How the file is found: 0 by the build id, 1 by the name in the link in the folder of the file, 2 in `.debug`
+    /// there, 3 in the same folder under the directory.
+    pub(crate) how: u32,
+}
+
 /// An object of a process: its file, and where it is loaded. Objects are in the order in which they are loaded, the
 /// program first.
 #[repr(C)]
@@ -417,4 +459,131 @@ pub struct LoadObject<'a> {
     pub(crate) module: u64,
     /// The offset of its thread-local storage from the thread pointer, modulo 2^64.
     pub(crate) thread: u64,
+}
+
+/// A name that an object asks for.
+#[repr(C)]
+#[derive(Clone, Copy, Debug, Default, PartialEq, Eq)]
+pub(crate) struct NeededName {
+    /// The bytes of the name, with its dynamic string tokens, without the zero byte that ends it; offset and size are
+    /// 0 if the name can't be read.
+    pub(crate) range: Range,
+    /// The status of this name.
+    pub(crate) status: u32,
+    /// What the object asks for: 1 a library that it needs (DT_NEEDED), 2 one that is searched before it, if there is
+    /// one (DT_AUXILIARY), 3 one that is searched in its place (DT_FILTER).
+    pub(crate) kind: u32,
+}
+
+/// The values of the dynamic string tokens for an object. An empty value is not known.
+#[repr(C)]
+#[derive(Clone, Copy, Debug, Default, PartialEq, Eq)]
+pub struct Tokens<'a> {
+    /// The folder of the object (`$ORIGIN`).
+    pub(crate) origin: Borrowed<'a>,
+    /// The folder of libraries for the machine, as `lib64` (`$LIB`).
+    pub(crate) lib: Borrowed<'a>,
+    /// The kind of the processor, as `x86_64` (`$PLATFORM`).
+    pub(crate) platform: Borrowed<'a>,
+}
+
+/// What an object says about the search for libraries.
+#[repr(C)]
+#[derive(Clone, Copy, Debug, Default, PartialEq, Eq)]
+pub struct SearchAsker<'a> {
+    /// The text of its last DT_RPATH; empty if it has none.
+    pub(crate) r_path: Borrowed<'a>,
+    /// The text of its last DT_RUNPATH.
+    pub(crate) run_path: Borrowed<'a>,
+    /// The values of its tokens.
+    pub(crate) tokens: Tokens<'a>,
+    /// 1 if it has a DT_RUNPATH, even an empty one: its DT_RPATH then does not count.
+    pub(crate) has_run_path: u32,
+    /// 1 if it has the flag 0x800 (DF_1_NODEFLIB): no library is looked for in the default folders.
+    pub(crate) no_default: u32,
+}
+
+/// A name that is looked for, and what the search depends on. No text may have a zero byte.
+#[repr(C)]
+#[derive(Clone, Copy, Debug, Default, PartialEq, Eq)]
+pub struct SearchFor<'a> {
+    /// The name, with its tokens replaced.
+    pub(crate) name: Borrowed<'a>,
+    /// The value of LD_LIBRARY_PATH.
+    pub(crate) library_path: Borrowed<'a>,
+    /// The path that the cache has for the name (`cache_path`); empty if it has none.
+    pub(crate) cache: Borrowed<'a>,
+    /// The folders of ld.so.conf, one in each line, where there is no cache.
+    pub(crate) conf: Borrowed<'a>,
+    /// The default folders, with colons between them.
+    pub(crate) defaults: Borrowed<'a>,
+    /// The subdirectories of each folder that are tried, each with a slash at its end; the last is the empty text.
+    pub(crate) subdirectories: Borrowed<'a, Borrowed<'a>>,
+    /// The values of the tokens for the program.
+    pub(crate) program: Tokens<'a>,
+}
+
+/// A path at which a library is looked for.
+#[repr(C)]
+#[derive(Clone, Copy, Debug, Default, PartialEq, Eq)]
+pub(crate) struct CandidatePath {
+    /// Why it is tried: 1 the name has a slash and is the path, 2 the DT_RPATH of an object, 3 LD_LIBRARY_PATH, 4 the
+    /// DT_RUNPATH of the object that asks, 5 the cache, 6 ld.so.conf, 7 the default folders.
+    pub(crate) how: u32,
+    /// For a DT_RPATH the index of its object among the askers, otherwise 0.
+    pub(crate) asker: u64,
+    /// The size of its subdirectory in bytes; 0 for the folder itself.
+    pub(crate) subdirectory_size: u64,
+}
+
+/// What a machine can use of a cache.
+#[repr(C)]
+#[derive(Clone, Copy, Debug, Default, PartialEq, Eq)]
+pub struct CacheMachine<'a> {
+    /// The active names of subdirectories of `glibc-hwcaps`, the best first.
+    pub(crate) names: Borrowed<'a, Borrowed<'a>>,
+    /// The capabilities that it has, other than platforms: on x86-64 bits 1 (x86_64), 2 (avx512_1) and 63 (tls), on
+    /// 32-bit x86 0 (sse2) and 63.
+    pub(crate) bits: u64,
+    /// The bit of its platform, 0 if it has none: haswell is bit 50, i686 bit 49.
+    pub(crate) platform: u64,
+    /// The flags of its entries: 0x303 of x86-64, 0xa03 of AArch64, 3 of 32-bit x86.
+    pub(crate) flags: u32,
+    /// Other flags that it takes, of 32-bit x86 1; else the same.
+    pub(crate) other_flags: u32,
+    /// The levels that it has, level k as bit k: bit 0, and on x86-64 bits 1 to 3 for the levels 2 to 4 of the
+    /// processor.
+    pub(crate) levels: u32,
+}
+
+/// What the entries of an object ask for and found.
+#[repr(C)]
+#[derive(Clone, Copy, Debug, Default, PartialEq, Eq)]
+pub struct Dependencies<'a> {
+    /// For each entry the number of the object that it found, 0xffffffff if that is missing, 0xfffffffe if it was not
+    /// asked for.
+    pub(crate) found: Borrowed<'a, u32>,
+    /// The kind of each, as in `needed_name_t`; 1 for those that are left out at the end.
+    pub(crate) kinds: Borrowed<'a, u32>,
+}
+
+/// An entry of an object.
+#[repr(C)]
+#[derive(Clone, Copy, Debug, Default, PartialEq, Eq)]
+pub(crate) struct ObjectEntry {
+    /// The number of the object.
+    pub(crate) object: u64,
+    /// The index of the entry among the names that it asks for.
+    pub(crate) entry: u64,
+}
+
+/// A version that an object lacks.
+#[repr(C)]
+#[derive(Clone, Copy, Debug, Default, PartialEq, Eq)]
+pub(crate) struct LackedVersion {
+    /// The version that is needed.
+    pub(crate) version: Version,
+    /// Why it is missing: 1 the object has no versions, 2 it is needed weakly, 3 otherwise: then the program does not
+    /// start. 0 if its status is an error.
+    pub(crate) lack: u32,
 }

@@ -2,7 +2,7 @@
 
 use crate::constants::ET_REL;
 use crate::pieces::{stored, SymbolPiece, SYMBOL};
-use crate::records::AddressIndex;
+use crate::records::{AddressIndex, Piece};
 use crate::symbol_map::address_symbols;
 use crate::{ffi, ByteRange, ElfFile, Error, Section, Symbol, SymbolTable};
 use alloc::vec;
@@ -66,11 +66,22 @@ impl<'f, 'a> SectionSymbols<'f, 'a> {
         Ok(SectionSymbols { file, table, input, order, has_indices: !words.is_empty(), strings })
     }
 
+    // The bytes of the string table of the symbols.
+    pub(crate) fn strings(&self) -> &'a [u8] {
+        self.file.bytes(self.table.strings)
+    }
+
     /// Which addresses of a section of the file belong to which symbol, as in [`Section::symbol_pieces`].
     pub fn pieces(&self, section: &Section<'_, '_>) -> Result<Vec<SymbolPiece<'a>>, Error> {
         let begin = if self.file.header.type_ == ET_REL { 0 } else { section.header.address };
         let end = begin.saturating_add(section.header.size);
-        let within = section.within();
+        let found = self.found(section.within(), begin, end);
+        let symbol_of = |symbol: (u64, u32)| Symbol::of_table(self.file, &self.table, symbol.0).ok();
+        Ok(found.iter().map(|(piece, symbol)| SymbolPiece { begin: piece.begin, end: piece.end, symbol: symbol.and_then(symbol_of) }).collect())
+    }
+
+    // The pieces of addresses of a section, with the index of each symbol in the table and that of its name.
+    pub(crate) fn found(&self, within: u32, begin: u64, end: u64) -> Vec<(Piece, Option<(u64, u32)>)> {
         let first = self.order.partition_point(|one| one.0 < within);
         let count = self.order[first..].partition_point(|one| one.0 == within);
         let size = if self.table.class == 1 { 16 } else { 24 };
@@ -84,10 +95,12 @@ impl<'f, 'a> SectionSymbols<'f, 'a> {
         };
         let (mut words, mut numbers) = (vec![0; 2 * count], vec![0; 2 * count]);
         let found = stored(2 * count + 1, |out| ffi::symbol_pieces(&self.input, &index, begin, end, 0, &mut words, &mut numbers, out));
-        let symbol_of = |piece: &crate::records::Piece| {
-            let index = self.order.get(first + piece.index as usize).filter(|_| piece.owner == SYMBOL)?.1;
-            Symbol::of_table(self.file, &self.table, u64::from(index)).ok()
+        let symbol_of = |piece: &Piece| {
+            let place = first + piece.index as usize;
+            let index = self.order.get(place).filter(|_| piece.owner == SYMBOL)?.1;
+            let name = number(self.input.get(place * size..place * size + 4)?, self.table.encoding == 2);
+            Some((u64::from(index), name))
         };
-        Ok(found.iter().map(|piece| SymbolPiece { begin: piece.begin, end: piece.end, symbol: symbol_of(piece) }).collect())
+        found.into_iter().map(|piece| (piece, symbol_of(&piece))).collect()
     }
 }

@@ -2,7 +2,7 @@
 
 use crate::calls::{every, Asked};
 use crate::constants::*;
-use crate::records::{AddressIndex, Answer, Dynamic, Entry, FoundAt, FoundSymbol, FoundTable, Header, Mapping, Name, ProgramHeader, Range, Relocation, SectionHeader, SymbolTable, Version};
+use crate::records::{AddressIndex, Answer, Dynamic, Entry, FoundAt, FoundSymbol, FoundTable, Header, Mapping, Name, ProgramHeader, Range, Relocation, SectionHeader, SizeChange, SizePart, SymbolTable, Version};
 use crate::{ffi, Error};
 extern crate std;
 use std::string::ToString;
@@ -78,6 +78,29 @@ fn checks_of_sections_and_segments() {
     assert_eq!(ffi::check_segment(&input, &header, 0), Err(Error::BadAlign));
     input[segment + 32..segment + 40].fill(0xff);
     assert_eq!(ffi::check_segment(&input, &header, 0), Err(Error::EntryPointRange));
+}
+
+// Two lists with a part of both and one of each; and the debug file of the test, which is itself by its build id.
+#[test]
+fn size_changes_and_debug_files() {
+    let mut olds = [SizePart::new(1, b"both", 5, 7), SizePart::new(0, b"gone", 1, 100)];
+    let mut news = [SizePart::new(1, b"new", 1, 3), SizePart::new(1, b"both", 0, 8)];
+    let mut changes = [SizeChange::default(); 4];
+    assert_eq!(ffi::size_changes(&mut olds, &mut news, &mut changes[..3]), Err(Error::IndexFewWords));
+    assert_eq!((olds[0].place(), changes[0]), (5, SizeChange::default()));
+    assert_eq!(ffi::size_changes(&mut olds, &mut news, &mut changes), Ok(3));
+    let row = |old_index, new_index, old_size, new_size, files| SizeChange { old_index, new_index, old_size, new_size, files };
+    assert_eq!(changes[..3], [row(0, 0, 100, 0, 0), row(0, 1, 0, 3, 1), row(1, 0, 7, 8, 2)]);
+    let input = whole();
+    let header = ffi::open(&input).expect("an ELF file");
+    let mut text = [0; 100];
+    let found = ffi::debug_path(&input, &header, b"/bin/ls", b"/d", 0, &mut text).expect("a build id");
+    assert_eq!((found.size, found.how, &text[..13]), (60, 0, &b"/d/.build-id/"[..]));
+    assert_eq!(ffi::debug_path(&input, &header, b"/bin/ls", b"/d", 1, &mut text), Err(Error::NoRecord));
+    assert_eq!(ffi::check_debug(&input, &header, 0, &input, &header), Ok(()));
+    assert_eq!(ffi::check_debug(&input, &header, 1, &input, &header), Err(Error::OtherChecksum));
+    assert_eq!(ffi::check_debug(&input, &header, 0, &[], &header), Err(Error::NoBuildId));
+    assert_eq!(ffi::debug_crc(b"123456789"), Ok(0xcbf4_3926));
 }
 
 // Of this type section 1 keeps its name and its data; the range is compared with the input.

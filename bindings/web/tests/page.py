@@ -24,7 +24,7 @@ sys.path[1:1] = [str(TOP / "tools"), str(TOP / "tools" / "compare")]
 import comparing
 import damage
 import files
-import readelf
+import readelf_rows as readelf
 import screenshots
 from chromium import By, Chromium
 from tables import PANEL, compare_file, compare_segments, compare_tables, symbol_form
@@ -257,14 +257,23 @@ def try_resize(test):
         time.sleep(0.2)
         at = page.texts(f"{PANEL} [role=columnheader]").index("Check") + 1
         test.same(f"the check in {tab}", page.run(IN_VIEW % (f"{PANEL} .row > div:nth-child({at})", PANEL)), True)
+    page.resize(1280, 900)
+    time.sleep(0.2)
     test.go("offset", 0x12345)
-    for width, height in ((500, 900), (1280, 700), (400, 800)):
+    page.keys(*["ARROW_DOWN"] * 8, at="#bytes")
+    for width, height in ((1280, 480), (500, 900), (1280, 900), (400, 800)):
         page.resize(width, height)
         time.sleep(0.4)
-        test.same(f"the byte at {width} pixels", page.run(IN_VIEW % (f"#byte-{0x12345}", "#bytes")), True)
+        test.same(f"the byte at {width} by {height} pixels", page.run(IN_VIEW % (f"#byte-{0x12345 + 8 * 16}", "#bytes")), True)
     for path, tab in ((LIBC, "Symbols"), (test.example, "Sections")):
         test.open(path, tab=tab)
-        test.same(f"the first column of {tab} at 400 pixels", page.texts(f"{PANEL} [role=columnheader]")[0], "Name")
+        # A table that is open has its columns in the other order, and shows its rows in it.
+        for width, first in ((400, "Name"), (1280, "Nr"), (400, "Name")):
+            page.resize(width, 800)
+            time.sleep(0.2)
+            heads, (_, rows) = page.texts(f"{PANEL} [role=columnheader]"), test.rows(20)
+            test.same(f"the first column of {tab} at {width} pixels", heads[0], first)
+            test.same(f"the row 1 of {tab} at {width} pixels", rows[1][heads.index("Nr")], "1")
     page.resize(*SIZE)
 
 

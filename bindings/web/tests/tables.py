@@ -1,7 +1,7 @@
 """Compares the tables of the page with what readelf says of a file."""
 import re
 
-import readelf
+import readelf_rows as readelf
 from comparing import build_ids
 
 # The view that is open.

@@ -23,3 +23,10 @@ pub mod LoadImages
 pub mod LoadAll
 pub mod DynamicRelocations
 pub mod OpenedFiles
+pub mod SizeRows
+pub mod DebugTexts
+pub mod DebugAnswers
+pub mod SearchFiles
+pub mod SearchPaths
+pub mod SearchOrder
+pub mod SearchVersions

@@ -73,7 +73,7 @@ put_other first index k x old other = by_first (nat_le first index) refl
     by_first false is = refl
 
 -- after one more item is stored in its place, the items with it are stored
-rows_with : {T : Type 0} (xs : List T) (first : ℕ) (old new : List T) (x : T) → IsRows xs first old new → IsRows (xs ++ x ∷ []) first old (put_from first (length xs) x new)
+pub rows_with : {T : Type 0} (xs : List T) (first : ℕ) (old new : List T) (x : T) → IsRows xs first old new → IsRows (xs ++ x ∷ []) first old (put_from first (length xs) x new)
 rows_with {T} xs first old new x stored = record {
   long = put_long first (length xs) x new ∙ stored.long;
   each = λ k here below. by_order k here (cases_order (first + k) (length xs)) (omega (arith, below, size));

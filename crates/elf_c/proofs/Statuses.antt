@@ -12,9 +12,12 @@ use Rattle.elf_linking.specs.declared.error.LinkError.TheVariants as link_error
 use Rattle.elf_loading.specs.Message.{load_number}
 use Rattle.elf_loading.specs.declared.error.LoadError.{LoadError}
 use Rattle.elf_loading.specs.declared.error.LoadError.TheVariants as load_error
+use Rattle.elf_search.specs.Message.{search_number}
+use Rattle.elf_search.specs.declared.error.SearchError.{SearchError}
+use Rattle.elf_search.specs.declared.error.SearchError.TheVariants as search_error
 use Rattle.elf_c.specs.Status.{failure_number}
 use Rattle.elf_c.specs.declared.status.AnyError.{AnyError}
-use Rattle.elf_c.specs.declared.status.AnyError.TheVariants.{Elf, Index, Link, Load}
+use Rattle.elf_c.specs.declared.status.AnyError.TheVariants.{Elf, Index, Link, Load, Search}
 
 pub error_above : (error : ElfError) → 0 < error_number error
 error_above ShortPart1 = lit< tt
@@ -24,7 +27,8 @@ pub link_above : (error : LinkError) → 0 < link_number error
 link_above (link_error.Elf error) = error_above error
 link_above _ = lit< tt
 
--- the numbers of `elf_linking` are below 300, those of `elf_loading` below 400, and those of `elf_addresses` above
+-- the numbers of `elf_linking` are below 300, those of `elf_loading` below 400, those of `elf_addresses` above 400 and
+-- below 500
 error_below : (error : ElfError) → error_number error < 300
 error_below ShortPart1 = lit< tt
 error_below _ = lit< tt
@@ -50,6 +54,10 @@ pub index_within : (error : IndexError) → 400 < index_number error
 index_within index_error.ManySymbols = lit< tt
 index_within index_error.FewWords = lit< tt
 
+pub index_below : (error : IndexError) → index_number error < 500
+index_below index_error.ManySymbols = lit< tt
+index_below index_error.FewWords = lit< tt
+
 load_above : (error : LoadError) → 0 < load_number error
 load_above load_error.Type = lit< tt
 load_above (load_error.Link error) = link_above error
@@ -59,9 +67,15 @@ index_above : (error : IndexError) → 0 < index_number error
 index_above index_error.ManySymbols = lit< tt
 index_above index_error.FewWords = lit< tt
 
+search_above : (error : SearchError) → 0 < search_number error
+search_above search_error.FileData = lit< tt
+search_above (search_error.Link error) = link_above error
+search_above _ = lit< tt
+
 pub failure_above : (failure : AnyError) → 0 < failure_number failure
 failure_above (Elf error) = error_above error
 failure_above (Link error) = link_above error
 failure_above (Load error) = load_above error
 failure_above (Index error) = index_above error
+failure_above (Search error) = search_above error
 failure_above _ = lit< tt

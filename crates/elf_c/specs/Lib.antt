@@ -22,3 +22,9 @@ pub mod Pieces
 pub mod LoadObjects
 pub mod LoadImages
 pub mod LoadAll
+pub mod SizeChanges
+pub mod DebugFiles
+pub mod SearchFiles
+pub mod SearchPaths
+pub mod SearchOrder
+pub mod SearchVersions

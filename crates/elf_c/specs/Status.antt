@@ -6,8 +6,9 @@ use Rattle.elf_base.specs.declared.error.ElfError.{ElfError}
 use Rattle.elf_addresses.specs.Message.{index_row}
 use Rattle.elf_linking.specs.Message.{link_row}
 use Rattle.elf_loading.specs.Message.{load_row}
+use Rattle.elf_search.specs.Message.{search_row}
 use Rattle.elf_c.specs.declared.status.AnyError.{AnyError}
-use Rattle.elf_c.specs.declared.status.AnyError.TheVariants.{Elf, Index, Link, Load, ManyObjects, OtherData, NoRecord, NotFound}
+use Rattle.elf_c.specs.declared.status.AnyError.TheVariants.{Elf, Index, Link, Load, ManyObjects, NoBuildId, NoRecord, NotFound, OtherBuildId, OtherChecksum, OtherData, Search}
 
 -- the number and the text of an error of an export
 abbrev pub failure_row : AnyError → ℕ × List ℕ
@@ -15,10 +16,14 @@ failure_row (Elf error) = row_of error
 failure_row (Link error) = link_row error
 failure_row (Load error) = load_row error
 failure_row (Index error) = index_row error
+failure_row (Search error) = search_row error
 failure_row OtherData = (201, codes "A section holds other data than what is asked for")
 failure_row NoRecord = (202, codes "A table has no record with this index")
 failure_row NotFound = (203, codes "Nothing has this name")
 failure_row ManyObjects = (204, codes "There are more than 64 objects")
+failure_row NoBuildId = (211, codes "A debug file has no build id")
+failure_row OtherBuildId = (212, codes "A debug file has another build id")
+failure_row OtherChecksum = (213, codes "A debug file has another CRC")
 
 -- the number of an error of an export
 abbrev pub failure_number : AnyError → ℕ

@@ -7,19 +7,22 @@ ghost use Rattle.elf_linking.specs.Message.{link_number};
 ghost use Rattle.elf_linking.specs.declared.error.LinkError.{LinkError};
 ghost use Rattle.elf_loading.specs.Message.{load_number};
 ghost use Rattle.elf_loading.specs.declared.error.LoadError.{LoadError};
+ghost use Rattle.elf_search.specs.Message.{search_number};
+ghost use Rattle.elf_search.specs.declared.error.SearchError.{SearchError};
 ghost use Rattle.elf_c.specs.Status.{failure_message, failure_number};
 ghost use Rattle.elf_c.specs.Texts.{HasNumber, IsStatusText, error_within, written};
 ghost use Rattle.elf_c.specs.declared.status.AnyError.{AnyError};
-ghost use Rattle.elf_c.specs.declared.status.AnyError.TheVariants.{Index, Link, Load};
+ghost use Rattle.elf_c.specs.declared.status.AnyError.TheVariants.{Index, Link, Load, Search};
 
 use crate::status::AnyError;
 use elf_addresses::IndexError;
 use elf_base::ElfError;
 use elf_linking::LinkError;
 use elf_loading::LoadError;
+use elf_search::SearchError;
 
-// The error of `elf_linking`, `elf_loading` or `elf_addresses` with a number.
-#[tactic(auto, using(crate::proofs::Statuses::link_below, crate::proofs::Statuses::load_below, crate::proofs::Statuses::index_within))]
+// The error of `elf_linking`, `elf_loading`, `elf_addresses` or `elf_search` with a number.
+#[tactic(auto, using(crate::proofs::Statuses::link_below, crate::proofs::Statuses::load_below, crate::proofs::Statuses::index_within, crate::proofs::Statuses::index_below))]
 fn library_failure(number: u32) -> Option<AnyError>
     ensures found { IfSome result (λ failure. (100 < number)
         × (failure_number failure ≡ number)) }
@@ -29,6 +32,8 @@ fn library_failure(number: u32) -> Option<AnyError>
         → result ≡ Some (Load error) }
     ensures index { (error : IndexError) → index_number error ≡ number
         → result ≡ Some (Index error) }
+    ensures search { (error : SearchError) → search_number error ≡ number → 500 < number
+        → result ≡ Some (Search error) }
 {
     if number < 300 {
         let error = LinkError::with_number(number)?;
@@ -38,8 +43,12 @@ fn library_failure(number: u32) -> Option<AnyError>
         let error = LoadError::with_number(number)?;
         return Some(AnyError::Load(error));
     }
-    let error = IndexError::with_number(number)?;
-    Some(AnyError::Index(error))
+    if number < 500 {
+        let error = IndexError::with_number(number)?;
+        return Some(AnyError::Index(error));
+    }
+    let error = SearchError::with_number(number)?;
+    Some(AnyError::Search(error))
 }
 
 // The error with a number; `AnyError::Elf` for an error that `elf_linking` passes on, too.
@@ -108,6 +117,9 @@ fn failure_with(number: u32) -> Option<AnyError>
         202 => Some(AnyError::NoRecord),
         203 => Some(AnyError::NotFound),
         204 => Some(AnyError::ManyObjects),
+        211 => Some(AnyError::NoBuildId),
+        212 => Some(AnyError::OtherBuildId),
+        213 => Some(AnyError::OtherChecksum),
         _ => library_failure(number),
     }
 }
@@ -122,10 +134,14 @@ impl AnyError {
             AnyError::Link(error) => error.message(),
             AnyError::Load(error) => error.message(),
             AnyError::Index(error) => error.message(),
+            AnyError::Search(error) => error.message(),
             AnyError::OtherData => "A section holds other data than what is asked for",
             AnyError::NoRecord => "A table has no record with this index",
             AnyError::NotFound => "Nothing has this name",
             AnyError::ManyObjects => "There are more than 64 objects",
+            AnyError::NoBuildId => "A debug file has no build id",
+            AnyError::OtherBuildId => "A debug file has another build id",
+            AnyError::OtherChecksum => "A debug file has another CRC",
         }
     }
 }

@@ -131,14 +131,14 @@ impl Stored for SymbolPiece {
     }
 }
 
-// Stores the piece at an index of a list, if it has a place in the slice, whose first item is for
-// the piece at `first`.
+// Stores the item at an index of a list, if it has a place in the slice, whose first item is for
+// the one at `first`.
 #[inline(always)]
-fn put(out: &mut [Piece], first: u64, index: u64, piece: Piece)
-    ensures { out.new ≡ put_from first index piece out.old }
+pub(crate) fn put<T: Copy>(out: &mut [T], first: u64, index: u64, item: T)
+    ensures { out.new ≡ put_from first index item out.old }
 {
     if first <= index && index - first < out.len() as u64 {
-        out[(index - first) as usize] = piece;
+        out[(index - first) as usize] = item;
     }
 }
 

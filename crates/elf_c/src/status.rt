@@ -5,13 +5,15 @@ ghost use Rattle.elf_base.specs.Message.{error_number};
 ghost use Rattle.elf_addresses.specs.Message.{index_number};
 ghost use Rattle.elf_linking.specs.Message.{link_number};
 ghost use Rattle.elf_loading.specs.Message.{load_number};
+ghost use Rattle.elf_search.specs.Message.{search_number};
 ghost use Rattle.elf_c.specs.Status.{GivesBy, failure_number};
-ghost use Rattle.elf_c.specs.declared.status.AnyError.TheVariants.{Elf, Index, Link, Load};
+ghost use Rattle.elf_c.specs.declared.status.AnyError.TheVariants.{Elf, Index, Link, Load, Search};
 
 use elf_addresses::IndexError;
 use elf_base::ElfError;
 use elf_linking::LinkError;
 use elf_loading::LoadError;
+use elf_search::SearchError;
 
 /// The status of a successful call.
 pub const OK: u32 = 0;
@@ -27,6 +29,8 @@ pub enum AnyError {
     Load(LoadError),
     /// An error of `elf_addresses`.
     Index(IndexError),
+    /// An error of `elf_search`.
+    Search(SearchError),
     /// A section contains other data than requested.
     OtherData,
     /// A table has no record at this index.
@@ -35,6 +39,12 @@ pub enum AnyError {
     NotFound,
     /// There are more objects than a call takes.
     ManyObjects,
+    /// A file that was found by a build id has none.
+    NoBuildId,
+    /// A file that was found by a build id has another.
+    OtherBuildId,
+    /// The CRC of a file is another than that in the link to it.
+    OtherChecksum,
 }
 
 impl From<ElfError> for AnyError {
@@ -66,6 +76,14 @@ impl From<IndexError> for AnyError {
 
     fn from(error: IndexError) -> Self {
         AnyError::Index(error)
+    }
+}
+
+impl From<SearchError> for AnyError {
+    ghost from_gives = { λ error failure. failure ≡ Search error };
+
+    fn from(error: SearchError) -> Self {
+        AnyError::Search(error)
     }
 }
 
@@ -109,6 +127,14 @@ impl Numbered for IndexError {
     }
 }
 
+impl Numbered for SearchError {
+    ghost number_of = { search_number };
+
+    fn number(self) -> u32 {
+        SearchError::number(&self)
+    }
+}
+
 // The number of an error that was met before.
 impl Numbered for u32 {
     ghost number_of = { λ number. number };
@@ -127,10 +153,14 @@ impl Numbered for AnyError {
             AnyError::Link(error) => error.number(),
             AnyError::Load(error) => error.number(),
             AnyError::Index(error) => error.number(),
+            AnyError::Search(error) => error.number(),
             AnyError::OtherData => 201,
             AnyError::NoRecord => 202,
             AnyError::NotFound => 203,
             AnyError::ManyObjects => 204,
+            AnyError::NoBuildId => 211,
+            AnyError::OtherBuildId => 212,
+            AnyError::OtherChecksum => 213,
         }
     }
 }

@@ -84,7 +84,7 @@ fn version_name(
 
 impl Version {
     // A version whose number nothing has.
-    fn unnamed(number: u16, hidden: bool) -> Version
+    pub(crate) fn unnamed(number: u16, hidden: bool) -> Version
         ensures { result ≡ unnamed number hidden }
     {
         Version {
@@ -134,7 +134,7 @@ impl Version {
     }
 
     // A version whose number a need has.
-    fn needed(
+    pub(crate) fn needed(
         input: &[u8],
         strings: Result<Range, AnyError>,
         number: u16,
@@ -160,13 +160,13 @@ impl Version {
 
 // The version tables of a file, and the range of the string table of the dynamic segment.
 #[derive(Drop)]
-struct Tables<'a> {
-    versions: Versions<'a>,
-    strings: Result<Range, AnyError>,
+pub(crate) struct Tables<'a> {
+    pub(crate) versions: Versions<'a>,
+    pub(crate) strings: Result<Range, AnyError>,
 }
 
 // The version tables of a file with this number of symbols.
-fn tables_of<'a>(file: &ElfFile<'a>, count: u64) -> Result<Tables<'a>, AnyError>
+pub(crate) fn tables_of<'a>(file: &ElfFile<'a>, count: u64) -> Result<Tables<'a>, AnyError>
     ensures { MatchResult result
         (λ it. (file_version_tables file.now count ≡ Ok (version_tables it.versions))
         × (it.strings ≡ strings_range_of file.now))
