@@ -89,10 +89,5 @@ if [ "$does" = test ]; then
     /usr/bin/python3 bindings/web/tests/page.py
 elif [ "$does" = serve ]; then
     echo "web: http://127.0.0.1:$port (stop with Ctrl-C)"
-    python3 -m http.server --bind 127.0.0.1 --directory "$site" "$port" > /dev/null 2> "$web/out/served" &
-    running=$!
-    wait "$running" || {
-        echo "web: port $port can't be served: $(tail -n 1 "$web/out/served"). Another is taken by --port N" >&2
-        exit 1
-    }
+    python3 -m http.server --bind 127.0.0.1 --directory "$site" "$port" > /dev/null
 fi
