@@ -228,6 +228,17 @@ def spread(count: int, largest: int) -> list[pathlib.Path]:
     return found[:: max(1, len(found) // count)][:count]
 
 
+def asked_of(elfsym: str, names: list[str], *words: str) -> Finished:
+    """What elfsym says of names behind these words, some hundreds in one run; it ends where a run fails."""
+    found = Finished(0, "", "")
+    for some in (names[at : at + 300] for at in range(0, len(names), 300)):
+        said = run([elfsym, *words, *some])
+        found = Finished(said.status, found.output + said.output, found.errors + said.errors)
+        if said.status:
+            break
+    return found
+
+
 def stripped(content: bytes) -> bytes:
     """The same file without section headers."""
     copy = Headers(bytearray(content))

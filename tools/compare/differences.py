@@ -1,20 +1,21 @@
 #!/usr/bin/env python3
-"""Compare what `elfsize --diff` prints of two files with the difference of its reports of each, and with `size -A` and `nm -S`.
+"""Compare what `elfsize --diff` prints of two files with the difference of its reports of each, and with `size -A` and `nm`.
 
-    tools/compare/differences.py [--elfsize PATH] [--pairs N] [--seed S] [FILE..]
+    tools/compare/differences.py [--elfsize PATH] [--pairs N] [--versions N] [--seed S] [FILE..]
 
-Pairs are N builds of a made up C program with two sets of options, and each FILE beside the next one. `size -A` names the sections
-whose sizes differ, `nm -S` the symbols of pairs whose names are given once.
+Pairs are N builds of three C programs with two sets of options, the libraries in two versions of the first N of PACKAGES, and each
+FILE beside the next one. `size -A` names the sections whose sizes differ, `nm` the symbols with names and places of their own.
 """
 import collections
 import pathlib
 import random
 import re
+import shutil
 import subprocess
 import sys
 import tempfile
 
-from comparing import Tally, parser_of, run
+from comparing import ROOT, Tally, parser_of, read_elf, run
 
 KINDS = ["section", "segment", "symbol", "ELF header", "program headers", "section headers", "between parts", "after all parts"]
 
@@ -53,36 +54,46 @@ def difference(old: bytes, new: bytes) -> str:
         f"{after - before:+} -> {after} {name}\n" for before, after, name in totals)
 
 
-OPTIONS = ["-O0", "-O1", "-O2", "-O3", "-Os", "-g", "-fPIC", "-fno-inline", "-fno-asynchronous-unwind-tables", "-ffunction-sections", "-DMORE"]
-
-
-def source(chance: random.Random) -> str:
-    """A C file with functions and data, some of them static and of the same name in another."""
-    lines = []
-    for index in range(chance.randrange(3, 30)):
-        scope, size = chance.choice(["static __attribute__((used)) ", ""]), chance.randrange(1, 200)
-        if chance.random() < 0.5:
-            lines.append(f"{scope}int data_{index}[{size}] = {{{size}}};")
-        else:
-            more = f"\n#ifdef MORE\n  x ^= x << {size % 31};\n#endif\n" * (size % 3)
-            lines.append(f"{scope}int work_{index}(int x) {{ for (int i = 0; i < {size}; i++) x = x * {size} + i; {more} return x; }}")
-    return "\n".join(lines)
+OPTIONS = ["-O0", "-O1", "-O2", "-O3", "-Os", "-g", "-fPIC", "-fno-inline", "-fno-asynchronous-unwind-tables", "-ffunction-sections", "-fstack-protector-all"]
 
 
 def built(room: pathlib.Path, chance: random.Random) -> list:
-    """Two builds of an object of three files."""
-    texts = [source(chance), *(f"static __attribute__((used)) int twice(int x) {{ return x / {chance.randrange(3, 99)}; }}" for _ in range(2))]
-    found = []
+    """Two builds of an object of three sources of this repository, which have static functions of the same name."""
+    sources, found = chance.sample(sorted(ROOT.glob("bindings/c/*.c")), 3), []
     for name in ("old.o", "new.o"):
-        parts = []
-        options = chance.sample(OPTIONS, 4)
-        for place, text in enumerate(texts):
-            part = room / f"{place}.{name}"
-            subprocess.run(["gcc", "-c", "-x", "c", *options, "-o", part, "-"], input=text, text=True, check=True)
-            parts.append(part)
+        parts, options = [room / f"{place}.{name}" for place in range(3)], chance.sample(OPTIONS, 4)
+        for place, (part, source) in enumerate(zip(parts, sources)):
+            subprocess.run(["gcc", "-c", *options, f"-Dmain=main_{place}", "-I", ROOT / "bindings/include", "-o", part, source], check=True)
         subprocess.run(["ld", "-r", "-o", room / name, *parts], check=True)
-        found.append(room / name)
+        found.append(str(room / name))
     return found
+
+
+# Packages of which Debian 12 has a version with corrections too, and where they are kept.
+PACKAGES = """libexpat1 libssl3 libxml2 libcurl4 libpng16-16 libarchive13 liblzma5 libde265-0 libssh2-1 libssh-4 libxslt1.1 libpq5
+    libmariadb3 libsystemd0 libcurl3-gnutls libnss3 libzstd1 libaprutil1 libblkid1 libmount1 libpam0g libaom3 libraw20 libwbclient0
+    libglib2.0-0 librsvg2-2 libunbound8 libpoppler126 libperl5.36 libgstreamer-plugins-base1.0-0""".split()
+KEPT = pathlib.Path(tempfile.gettempdir(), "xmas-elf-versions")
+
+
+def unpacked(package: str, version: str) -> dict:
+    """The libraries of a version of a package, by their names up to the first number."""
+    folder = KEPT / f"{package}={version}"
+    if not folder.exists():
+        folder.mkdir(parents=True)
+        subprocess.run(["apt-get", "download", "-qq", folder.name], cwd=folder, capture_output=True, check=False)
+        for archive in folder.glob("*.deb"):
+            subprocess.run(["dpkg-deb", "-x", archive, folder], check=True)
+    return {re.sub(r"(\.so\.\d+).*", r"\1", it.name): it for it in sorted(folder.rglob("*.so*")) if not it.is_symlink() and read_elf(str(it))}
+
+
+def versions(package: str) -> list:
+    """The libraries in the oldest and in the newest version of a package that apt-get offers, in pairs."""
+    there = re.findall(r"^ *\S+ \| *(\S+) \|", run(["apt-cache", "madison", package]).output, re.M)
+    if len(set(there)) < 2:
+        return []
+    new, old = unpacked(package, there[0]), unpacked(package, there[-1])
+    return [(str(old[name]), str(new[name])) for name in old if name in new]
 
 
 def once(pairs) -> dict:
@@ -97,36 +108,57 @@ def listed(text: str, kind: str) -> dict:
     return once([(name, (int(growth), int(size))) for growth, size, name in lines])
 
 
-def outside(tally: Tally, pair: str, text: str, kind: str, olds: dict, news: dict) -> None:
-    """Counts the parts of a kind whose sizes differ in lines, and by another tool."""
-    lines = listed(text, kind)
-    for name in {**olds, **news}:
+def sections(path: str) -> tuple:
+    """The sizes of sections with bytes by `size -A`, and the names of all."""
+    said = re.findall(r"^(\.\S+) +(\d+) +\d+$", run(["size", "-A", "-d", path]).output, re.M)
+    none = re.findall(r"\] (\S+) +NOBITS ", run(["readelf", "-SW", path]).output)
+    return {name: int(size) for name, size in once(said).items() if name not in none}, {name for name, _ in said}
+
+
+def symbols(path: str) -> tuple:
+    """The sizes of symbols with bytes and a place of their own by `nm`, and the names of all."""
+    said = re.findall(r"^(\S+) *\|([0-9a-f]+)\| +(\S) +\|[^|]*\|([0-9a-f]+)\|[^|]*\|(\S+)$", run(["nm", "--format=sysv", path]).output, re.M)
+    places = collections.Counter((value, section) for _, value, _, _, section in said)
+    own = {name for name, value, letter, _, section in said if letter not in "bB" and places[value, section] == 1}
+    return {name: size for name, size in once([(it[0], int(it[3], 16)) for it in said]).items() if name in own}, {it[0] for it in said}
+
+
+def outside(tally: Tally, pair: str, text: str, kind: str, old: tuple, new: tuple) -> None:
+    """Compares the parts of a kind whose sizes differ in lines, and by another tool; those that it knows of both files."""
+    lines, (olds, all_old), (news, all_new) = listed(text, kind), old, new
+    for name in olds.keys() | news.keys():
+        is_known = all(name in some or name not in all for some, all in ((olds, all_old), (news, all_new)))
         wanted = news.get(name, 0) - olds.get(name, 0), news.get(name, 0)
-        if wanted[0]:
+        if is_known and wanted[0]:
             tally[f"{kind}s"] += 1
             if lines.get(name) != wanted:
                 tally.fault(f"{pair}: {kind} {name}: elfsize says {lines.get(name)}, and wanted is {wanted}")
 
 
 def compare(tally: Tally, program: str, old: str, new: str) -> None:
-    tally["pairs"] += 1
     for options in ([], ["--segments"], ["--symbols"]):
         reports = [run([program, *options, path]).output.encode("utf-8", "surrogateescape") for path in (old, new)]
         text = run([program, "--diff", *options, old, new]).output
         if text != difference(*reports):
             tally.fault(f"{old} {new} {options}: not the difference of the reports")
         if not options:
-            sizes = [once(re.findall(r"^(\.\S+) +(\d+) +\d+$", run(["size", "-A", "-d", it]).output, re.M)) for it in (old, new)]
-            none = [set(re.findall(r"\] (\S+) +NOBITS ", run(["readelf", "-SW", it]).output)) for it in (old, new)]
-            outside(tally, f"{old} {new}", text, "section", *({name: int(size) for name, size in one.items() if name not in skip} for one, skip in zip(sizes, none)))
+            outside(tally, f"{old} {new}", text, "section", sections(old), sections(new))
+        if options == ["--symbols"]:
+            outside(tally, f"{old} {new}", text, "symbol", symbols(old), symbols(new))
 
 
 if __name__ == "__main__":
-    given = parser_of(__doc__, "elfsize", files="*", pairs=30, seed=1).parse_args()
-    tally, chance = Tally("elfsize", "pairs", "sections"), random.Random(given.seed)
+    given = parser_of(__doc__, "elfsize", files="*", pairs=30, versions=30, seed=1).parse_args()
+    tally, chance = Tally("elfsize", "pairs of builds", "pairs of versions", "sections", "symbols"), random.Random(given.seed)
     for _ in range(given.pairs):
+        tally["pairs of builds"] += 1
         with tempfile.TemporaryDirectory() as room:
-            compare(tally, given.elfsize, *map(str, built(pathlib.Path(room), chance)))
-    for old, new in zip(given.files, given.files[1:]):
-        compare(tally, given.elfsize, str(old), str(new))
+            compare(tally, given.elfsize, *built(pathlib.Path(room), chance))
+    for package in PACKAGES[: given.versions]:
+        for pair in versions(package) if shutil.which("apt-get") else ():
+            tally["pairs of versions"] += 1
+            compare(tally, given.elfsize, *pair)
+    for pair in zip(given.files, given.files[1:]):
+        tally["pairs of files"] += 1
+        compare(tally, given.elfsize, *pair)
     sys.exit(tally.ended())

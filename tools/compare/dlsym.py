@@ -1,90 +1,96 @@
 #!/usr/bin/env python3
-"""Compare the symbols that the static library finds by name and version with those of dlsym and dlvsym.
+"""Compare the symbols that elfsym finds by name and version with those of dlsym and dlvsym.
 
-    tools/compare/dlsym.py [--jobs N] [FILE..]
+    tools/compare/dlsym.py [--elfsym PATH] [--scope N] [--jobs N] [FILE..]
 
-Takes the shared libraries FILE, else those of the system, N side by side (2), each loaded in a process of its own. Asked for are each
-name without a version, with each of its versions, and with two versions of other names. Compared are whether a symbol is found in the
-library itself, and its address there; what can't be compared is counted apart (`verdict`). The static library is called by way of
-bindings/python, whose shared object bindings/python/wheel_backend.py links.
+Takes the shared libraries FILE, else those of the system, N side by side (2), each loaded in a process of its own. Compared is for each
+name without a version, with each of its versions, and with two of other names, whether it is found in the library itself, and where.
+--scope N takes N programs, loaded as libraries, and compares in which file of each and its libraries a name is (elfsym --scope).
 """
 import concurrent.futures
+import functools
 import glob
 import os
+import random
 import sys
+import tempfile
+from pathlib import Path
 
-from comparing import ABSOLUTE, INDIRECT, ROOT, THREAD, UNDEFINED, UNIQUE, Tally, dynamic_symbols, parser_of, read_elf
-from loading import asked
+from comparing import INDIRECT, THREAD, UNDEFINED, UNIQUE, Tally, asked_of, dynamic_symbols, parser_of, read_elf, spread
+from damage import Damage
+from loading import agrees, asked
 
-sys.path.insert(1, str(ROOT / "bindings" / "python"))
-
-# What a look-up counts as, by its verdict.
-FOUND = {"same": "found", "elsewhere": "found in another library", "unique": "of unique symbols", "indirect": "of indirect functions",
-         "thread-local": "of thread-local symbols"}
+# The entry DT_FLAGS_1, and its flag by which glibc doesn't load a program as a library.
+FLAGS_1, PIE = 0x6FFFFFFB, 0x8000000
 
 
-def queries_of(path: str) -> tuple[list[tuple[str, str | None, str]], int]:
-    """What is asked about a file: each name, with a version or none, and what this counts as; and how many names have several
-    versions."""
+def queries_of(path: str, is_scope: bool) -> list[tuple[str, str]]:
+    """What is asked about a file: each name, with a version or none."""
     versions: dict[str, dict[str, None]] = {}
     for it in filter(lambda it: it.name, dynamic_symbols(path)):
-        of_name = versions.setdefault(it.name, {})
-        if it.version and it.section != UNDEFINED:
+        of_name = versions.setdefault(it.name, {"": None})
+        if it.version and (is_scope or it.section != UNDEFINED):
             of_name[it.version] = None
     listed = sorted({version for of_name in versions.values() for version in of_name})
-    queries: list[tuple[str, str | None, str]] = [(name, None, "names") for name in versions]
-    for name, of_name in versions.items():
-        queries += [(name, version, "names with a version") for version in of_name]
-        # The first two versions that the name doesn't have.
-        queries += [(name, version, "names with a version of another") for version in [it for it in listed if it not in of_name][:2] if of_name]
-    return queries, sum(len(of_name) > 1 for of_name in versions.values())
+    # The first two versions that a name with versions doesn't have.
+    others = lambda of_name: [it for it in listed if it not in of_name][:2] if len(of_name) > 1 else []
+    return [(name, version) for name, of_name in versions.items() for version in (*of_name, *others(of_name))]
 
 
-def verdict(symbol, loaded: str) -> str:
-    """What the two results are beside each other: `same`, `different`, or why they aren't compared."""
-    place, _, numbers = loaded.partition(" ")
-    if symbol is None:
-        return "same" if place == "none" else "elsewhere" if place in ("elsewhere", "nowhere") else "different"
-    if symbol.info % 16 in (INDIRECT, THREAD):
-        return "indirect" if symbol.info % 16 == INDIRECT else "thread-local"
-    if place == "none":
-        return "different"
-    offset, address = (int(part, 16) for part in numbers.split())
-    if symbol.shndx == ABSOLUTE:
-        return "same" if symbol.value == address else "different"
-    if symbol.info >> 4 == UNIQUE and place == "elsewhere":
-        return "unique"
-    return "same" if symbol.value == offset and place != "elsewhere" else "different"
+def as_library(path: str, room: str) -> str:
+    """A copy of a program that glibc loads as a library."""
+    held = Damage(read_elf(path), random)
+    for place, tag, value in held.dynamic():
+        if tag == FLAGS_1:
+            held.layout.put(held.data, place + 8, (0, "Q"), value & ~PIE)
+    copy = Path(room, os.path.basename(path))
+    copy.write_bytes(held.data)
+    return str(copy)
 
 
-def compare(path: str) -> Tally:
-    from xmas_elf import ElfError, ElfFile
+@functools.lru_cache(maxsize=64)
+def other_names(path: str) -> set[str]:
+    """The names of symbols whose address isn't that in the file: of indirect functions, thread-local or unique."""
+    return {it.name for it in dynamic_symbols(path) if it.kind in (INDIRECT, THREAD) or it.binding == UNIQUE}
 
-    (queries, several), tally = queries_of(path), Tally()
-    loaded = asked(path, [query[:2] for query in queries])
-    if loaded is None:
-        tally["libraries not loaded"] += 1
-        return tally
-    tally.update({"libraries": 1, "names with several versions": several})
-    with ElfFile.load_from_path(path) as file:
-        for (name, version, kind), said in zip(queries, loaded):
-            try:
-                symbol = file._found(name, version or "")
-                found = verdict(symbol, said)
-            except ElfError as error:
-                symbol, found = error, "different"
-            tally[kind] += 1
-            if found == "different":
-                tally.fault(f"{path}: {name} {version or ''}: {'dlvsym' if version else 'dlsym'} {said}, find_symbol {symbol}")
-            elif found != "same" or said != "none":
-                tally[f"{kind} {FOUND[found]}"] += 1
+
+def compare(elfsym: str, is_scope: bool, path: str) -> Tally:
+    tally = Tally()
+    with tempfile.TemporaryDirectory() as room:
+        file = as_library(path, room) if is_scope else path
+        queries = queries_of(file, is_scope)
+        loaded = asked(file, queries)
+        tally["files not loaded" if loaded is None else "files"] += 1
+        if loaded is not None:
+            texts = [f"{name}@{version}" if version else name for name, version in queries]
+            lines = asked_of(elfsym, texts, *["--scope"] * is_scope, file).output.split("\n")[:-1]
+            compare_lines(path, is_scope, queries, lines, loaded, tally)
     return tally
 
 
+def compare_lines(path: str, is_scope: bool, queries: list[tuple[str, str]], lines: list[str], loaded: list[str], tally: Tally) -> None:
+    if len(lines) != len(queries):
+        tally.fault(f"{path}: {len(lines)} lines for {len(queries)} names")
+    for (name, version), line, said in zip(queries, lines, loaded):
+        kind = "names with a version" if version else "names"
+        tally[kind] += 1
+        tally[f"{kind} found"] += said != "none"
+        place, _, found = said.rpartition(" ") if said != "none" else (said, "", "")
+        # With a scope a line ends in the file that has the symbol.
+        own, _, holds = line.rpartition(" ") if is_scope and not line.endswith(": none") else (line, "", found)
+        if found and name in other_names(found):
+            tally["of indirect functions, thread-local or unique"] += 1
+        elif not is_scope and own.endswith(": none") and place.startswith(("elsewhere", "nowhere")):
+            tally[f"{kind} found in another library"] += 1
+        elif not agrees(own, place, is_scope) or found and os.path.realpath(holds) != os.path.realpath(found):
+            tally.fault(f"{path}: {name} {version}: elfsym {line}, {'dlvsym' if version else 'dlsym'} {said}")
+
+
 if __name__ == "__main__":
-    given, total = parser_of(__doc__, files="*", jobs=2).parse_args(), Tally("", "libraries")
-    files = given.files or sorted({os.path.realpath(path) for path in glob.glob("/usr/lib/x86_64-linux-gnu/*.so.*")})
+    given, total = parser_of(__doc__, "elfsym", files="*", jobs=2, scope=0).parse_args(), Tally("", "files")
+    libraries = sorted({os.path.realpath(path) for path in glob.glob("/usr/lib/x86_64-linux-gnu/*.so.*")})
+    files = given.files or (map(str, spread(given.scope, 1 << 24)) if given.scope else filter(read_elf, libraries))
     with concurrent.futures.ThreadPoolExecutor(given.jobs) as pool:
-        for tally in pool.map(compare, filter(read_elf, files)):
+        for tally in pool.map(functools.partial(compare, given.elfsym, bool(given.scope)), files):
             total.update(tally)
     sys.exit(total.ended())

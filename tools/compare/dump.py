@@ -3,8 +3,7 @@
 
     tools/compare/dump.py [FILE..]
 
-Takes FILE, else 300 files spread over the small ones of the system, and of each a copy without section headers. For up to 200 names
-with a version the symbol is compared that is found by both, and by the name alone where the version is the default one. A file without
+Takes FILE, else 300 files spread over the small ones of the system, and of each a copy without section headers. A file without
 sections, of debugging data alone, or with a dynamic segment without symbols, is passed over. XMAS_ELF_ARCHIVE: another archive.
 """
 import concurrent.futures

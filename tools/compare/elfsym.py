@@ -4,9 +4,8 @@
     tools/compare/elfsym.py [--elfsym PATH] FILE..
 
 It is asked for each name that `llvm-readelf --dyn-syms` lists, and for NAME@VERSION of each version listed with it, in a file and in
-its copy without section headers. Right are the value and the size of a symbol that a dynamic linker takes (`Listing`), without a
-version or with that one, or for a name the only one that isn't hidden (`wanted_of`); otherwise `none`. `elfsym --needed` must print
-what `readelf -dW` lists as needed. A FILE without dynamic symbols is passed over.
+its copy without section headers. `wanted_of` says which symbols are right. `elfsym --needed` must print what `readelf -dW` lists as
+needed. A FILE without dynamic symbols is passed over.
 """
 import functools
 import sys
@@ -14,13 +13,11 @@ import tempfile
 from collections import defaultdict
 from pathlib import Path
 
-from comparing import ABSOLUTE, LOCAL, THREAD, UNDEFINED, Symbol, Tally, compare_all, dynamic_symbols, read_elf, run, stripped, texts_of
+from comparing import (
+    ABSOLUTE, LOCAL, THREAD, UNDEFINED, Symbol, Tally, asked_of, compare_all, dynamic_symbols, read_elf, run, stripped, texts_of)
 
 # The types that a dynamic linker takes: none, an object, a function, a common block, thread-local, an indirect function.
 TYPES = {0, 1, 2, 5, 6, 10}
-
-# How many names are asked for in one run.
-AT_ONCE = 300
 
 
 class Listing:
@@ -48,20 +45,18 @@ def compare_file(path: str, file: str, elfsym: str, reads: Listing, tally: Tally
     """Compares all that elfsym says of a file, which may be a copy, with what readelf lists."""
     tally["files"] += 1
     names = [f"{name}@{it}" if it else name for name in sorted(reads.names) for it in sorted(reads.names[name])]
-    for asked in (names[at : at + AT_ONCE] for at in range(0, len(names), AT_ONCE)):
-        status, own, said = run([elfsym, file, *asked])
-        lines = own.split("\n")[:-1]
-        if status != 0 or len(lines) != len(asked):
-            tally.differ(path, "names", f"status {status}: {said.strip()}", f"{len(asked)} names")
-            break
-        for reference, line in zip(asked, lines):
-            name, _, version = reference.partition("@")
-            symbols = reads.symbols.get(name, [])
-            wanted = wanted_of(symbols, version)
-            tally["names without a symbol" if not wanted else "names with a version that has a symbol" if version else "names with a symbol"] += 1
-            tally["of them with several values"] += bool(wanted) and not version and len({(it.value, it.size) for it in symbols}) > 1
-            if line not in ({f"{reference} {value:#x} {size:#x}" for value, size in wanted} or {f"{reference}: none"}):
-                tally.differ(path, reference, line, sorted(wanted) or "none")
+    status, own, said = asked_of(elfsym, names, file)
+    lines = own.split("\n")[:-1]
+    if status != 0 or len(lines) != len(names):
+        tally.differ(path, "names", f"status {status}: {said.strip()}", f"{len(names)} names")
+    for reference, line in zip(names, lines):
+        name, _, version = reference.partition("@")
+        symbols = reads.symbols.get(name, [])
+        wanted = wanted_of(symbols, version)
+        tally["names without a symbol" if not wanted else "names with a version that has a symbol" if version else "names with a symbol"] += 1
+        tally["of them with several values"] += bool(wanted) and not version and len({(it.value, it.size) for it in symbols}) > 1
+        if line not in ({f"{reference} {value:#x} {size:#x}" for value, size in wanted} or {f"{reference}: none"}):
+            tally.differ(path, reference, line, sorted(wanted) or "none")
     status, own, said = run([elfsym, "--needed", file])
     needed = own.split("\n")[:-1]
     tally["needed libraries"] += len(needed)

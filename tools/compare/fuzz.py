@@ -1,24 +1,19 @@
 #!/usr/bin/env python3
-"""Runs the built programs on damaged files, under limits of time and memory.
+"""Runs elfinfo and elfanswers on damaged files, under limits of time and memory (docs/TESTS.md, "Damaged files").
 
     tools/compare/fuzz.py --seed S --count N
 
-File K of a seed is `damage.damaged(S, K)`, the same each time; the long files of `long_files` come first. Wanted of `elfinfo` and
-`elfanswers`: each ends with status 0 or 1, and writes the same where either compiler built it, in 512 MB. As built by LLVM it
-takes no more than 2 seconds of a processor for a file below 1 MB, but for three of the long files, which are told of with the
-cause. What isn't so is printed with the number of the file, and the status is then 1.
+File K of a seed is `damage.damaged(S, K)`; the long files of `long_files` come first, of which three may take longer.
 """
-import collections
 import os
 import pathlib
 import resource
 import subprocess
 import sys
 import tempfile
-import time
 
 import damage
-from comparing import ROOT, parser_of
+from comparing import ROOT, Tally, parser_of
 
 ROOM = 512 * 2**20
 SECONDS = 2.0
@@ -68,20 +63,15 @@ def long_files():
     yield "15,000 section headers, of which each is a table of 40,000 symbols", bytes(data)
 
 
-class Fuzzing:
+class Fuzzing(Tally):
     def __init__(self, room):
-        self.room, self.faults, self.files = room, 0, 0
-        self.statuses, self.slowest = collections.Counter(), {}
+        super().__init__("", "files")
+        self.room = room
         # Each program as LLVM builds it, and as Rattle's own compiler does.
         built = {name: [ROOT / "crates" / name / "out" / it for it in (name, f"{name}.by-rattle")] for name in ("elfinfo", "elfanswers")}
         if missing := [it.name for some in built.values() for it in some if not it.exists()]:
             print(f"not built, so not run: {', '.join(missing)}")
         self.programs = {name: [it for it in some if it.exists()] for name, some in built.items()}
-
-    def fault(self, name, said):
-        self.faults += 1
-        if self.faults <= 50:
-            print(f"NOT AS IT MUST: {name}: {said}", flush=True)
 
     def check(self, program, names, paths):
         """Runs each build on these files at once, and each of them alone where something isn't as it must."""
@@ -95,19 +85,18 @@ class Fuzzing:
             for name, path in zip(names, paths):
                 self.check(program, [name], [path])
             return
-        self.statuses[program, ends[0][0]] += len(paths)
-        self.slowest[program] = max(self.slowest.get(program, (0, "")), (worst, names[0]))
+        self[f"files in runs of {program} with status {ends[0][0]}"] += len(paths)
         for build, (status, _, seconds) in zip(self.programs[program], ends):
             took = f"{build.name} took {seconds:.2f} s"
             if status not in (0, 1):
-                self.fault(names[0], f"{build.name} ended with {status}")
+                self.fault(f"{names[0]}: {build.name} ended with {status}")
             if seconds > SECONDS and build.suffix != ".by-rattle":
                 if SLOW in names[0] and program != "elfinfo":
                     print(f"{took}: {names[0]}", flush=True)
                 else:
-                    self.fault(names[0], took)
+                    self.fault(f"{names[0]}: {took}")
         if not same:
-            self.fault(names[0], f"the two builds of {program} differ")
+            self.fault(f"{names[0]}: the two builds of {program} differ")
 
     def files_at_once(self, held):
         paths = [pathlib.Path(self.room, str(k)) for k in range(len(held))]
@@ -115,13 +104,12 @@ class Fuzzing:
             path.write_bytes(data)
             self.check("elfinfo", [name], [path])
         self.check("elfanswers", [name for name, _ in held], paths)
-        self.files += len(held)
+        self["files"] += len(held)
 
 
 if __name__ == "__main__":
     options = parser_of(__doc__, seed=1, count=500).parse_args()
     resource.setrlimit(resource.RLIMIT_AS, (ROOM, ROOM))
-    began = time.monotonic()
     with tempfile.TemporaryDirectory(dir="/dev/shm" if os.path.isdir("/dev/shm") else None) as room:
         fuzzing = Fuzzing(room)
         if not any(fuzzing.programs.values()):
@@ -133,10 +121,4 @@ if __name__ == "__main__":
         fuzzing.check("elfinfo", ["200,000 buckets that share one chain of 200,000 names"], [f"{room}/shared"])
         for some in (range(options.count)[at : at + AT_ONCE] for at in range(0, options.count, AT_ONCE)):
             fuzzing.files_at_once([(f"damage.damaged({options.seed}, {k})", damage.damaged(options.seed, k)) for k in some])
-    print(f"{time.monotonic() - began:.0f} s")
-    print(f"{fuzzing.files} files, {fuzzing.faults} not as they must be")
-    for (program, status), count in sorted(fuzzing.statuses.items()):
-        print(f"{program}: {count} files in runs that ended with {status}")
-    for program, (worst, name) in fuzzing.slowest.items():
-        print(f"{program}: at most {worst:.2f} s for one run: {name}")
-    sys.exit(1 if fuzzing.faults else 0)
+    sys.exit(fuzzing.ended())

@@ -3,9 +3,8 @@
 
     tools/compare/fuzz_bindings.py [--elfbind PATH] [--elfsym PATH] [--seed N] [--count N]
 
-docs/TESTS.md says what is changed at random from the seed, and what isn't compared. N copies of a program or of one of its libraries
-are compared as by tools/compare/bindings.py, as far as the linker gets. Of N copies of a library elfsym, dlsym and dlvsym are asked
-for each name, alone, with each version, and with an absent one. None has an indirect function, whose resolver dlsym would run.
+docs/TESTS.md ("With changed bytes") says what is changed at random from the seed, and what isn't compared: bindings of N copies of a
+program or of one of its libraries, as far as the linker gets, and names in N copies of a library.
 """
 import random
 import struct
@@ -19,24 +18,16 @@ from typing import Callable, Iterable
 from bindings import BINDINGS, Program, read_elfbind, read_linker
 from comparing import INDIRECT, LOAD, ROOT, THREAD, UNIQUE, Tally, parser_of, run
 from damage import Headers
-from loading import asked
+from loading import agrees, asked
 
 DATA = ROOT / "crates"
 SCOPE = ("caller", "libfirst.so", "libsecond.so")
 FIRST = DATA / "elfbind/data/libfirst.so"
 LINKER = "/lib64/ld-linux-x86-64.so.2"
 
-# What is compiled here, as for `worked_files::linked::versions`, whose pages are too small for a linker: a source, its versions,
-# the name of the library, and one that it needs.
-COMPILED = (
-    ("int outer(int x) { return x; }", "w1 { outer; };", "libw.so", ()),
-    ("""__asm__(".symver first_ab, ab@V1");
-        __asm__(".symver second_ab, ab@@V2");
-        int first_ab(void) { return 1; }
-        int second_ab(void) { return 2; }
-        extern int outer(int);
-        int call(int x) { return outer(x); }""", "V1 { global: ab; local: *; }; V2 { global: call; } V1;", "libv.so", ("libw.so",)),
-)
+# What is compiled of tools/compare/sources, as for `worked_files::linked::versions`, whose pages are too small for a linker: a library,
+# and one that it needs.
+COMPILED = (("libw", ()), ("libv", ("libw.so",)))
 
 # The flag DF_SYMBOLIC of the entry DT_FLAGS.
 FLAGS, SYMBOLIC = 30, 2
@@ -267,19 +258,9 @@ class Comparison(namedtuple("Comparison", "elfbind elfsym room tally")):
                 self.tally["results in a library that the file needs"] += 1
             else:
                 self.tally["results compared"] += 1
-                if not self.agree(line, other, name in threads):
+                if not ((other == "none") == line.endswith(": none") if name in threads else agrees(line, other)):
                     asked_for, call = (f"{name}@{version}", "dlvsym") if version else (name, "dlsym")
                     self.tally.fault(f"{path.name}: {asked_for}: elfsym says {line!r}, {call} {other}: {changes}")
-
-    @staticmethod
-    def agree(line: str, other: str, is_thread: bool) -> bool:
-        """Whether a line of elfsym and one of the linker's are the same."""
-        if other == "none" or line.endswith(": none"):
-            return other == "none" and line.endswith(": none")
-        _, value, _ = line.rsplit(" ", 2)
-        place, offset, address = other.split()
-        # The value of an absolute symbol is its address.
-        return is_thread or (place != "elsewhere" and int(value, 16) in (int(offset, 16), int(address, 16)))
 
 
 def compare_bindings(comparison: Comparison, chance: random.Random, count: int) -> None:
@@ -298,11 +279,11 @@ def compare_bindings(comparison: Comparison, chance: random.Random, count: int) 
 
 def compare_symbols(comparison: Comparison, chance: random.Random, count: int) -> None:
     """Compares what is found by name and version in changed copies of libraries."""
-    for source, versions, name, needed in COMPILED:
-        Path(comparison.room, "versions.map").write_text(versions, encoding="utf-8")
-        linked = f"-Wl,--version-script=versions.map,-soname={name}"
-        words = ["-Os", "-fPIC", "-shared", "-nostdlib", linked, "-o", name, "-x", "c", "-", "-x", "none"]
-        subprocess.run(["gcc", *words, *needed], cwd=comparison.room, input=source.encode(), check=True)
+    sources = ROOT / "tools/compare/sources"
+    for name, needed in COMPILED:
+        linked = f"-Wl,--version-script={sources}/{name}.map,-soname={name}.so"
+        words = ["-Os", "-fPIC", "-shared", "-nostdlib", linked, "-o", f"{name}.so", f"{sources}/{name}.c"]
+        subprocess.run(["gcc", *words, *needed], cwd=comparison.room, check=True)
     for _ in range(count):
         comparison.tally["copies"] += 1
         path = chance.choice((FIRST, Path(comparison.room, "libv.so")))

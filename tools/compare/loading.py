@@ -4,7 +4,7 @@
     named("/usr/lib/x86_64-linux-gnu/libm.so.6", [0x10000])
 
 `asked` calls dlsym and dlvsym. For each name the result is `none`, or where it is found (`here`, `elsewhere` in another
-library, or `nowhere`), its offset in the library, and its address. `named` calls dladdr. For each address of the file the
+library, or `nowhere`), its offset in that library, its address, and the path of the library. `named` calls dladdr. For each address of the file the
 result is a name with an offset, `none`, or `outside` where the address is in no or in another library. Of a library that can't
 be loaded, or whose process doesn't end by itself, both are None.
 """
@@ -14,7 +14,7 @@ import resource
 import subprocess
 import sys
 import tempfile
-from typing import Iterator, List, Optional, Sequence, Tuple
+from typing import Iterator, Sequence
 
 # The numbers RTLD_DI_LINKMAP and RTLD_DL_LINKMAP.
 LINK_MAP = 2
@@ -26,15 +26,15 @@ class Found(ctypes.Structure):
     _fields_ = [("path", ctypes.c_char_p), ("base", ctypes.c_void_p), ("name", ctypes.c_char_p), ("address", ctypes.c_void_p)]
 
 
-def asked(path: str, names: Sequence[Tuple[str, Optional[str]]], seconds: int = 240, **variables: str) -> Optional[List[str]]:
+def asked(path: str, names: Sequence[tuple[str, str | None]], seconds: int = 240, **variables: str) -> list[str] | None:
     return said_of(path, [f"{name} {version or ''}" for name, version in names], seconds, variables)
 
 
-def named(path: str, addresses: Sequence[int]) -> Optional[List[str]]:
+def named(path: str, addresses: Sequence[int]) -> list[str] | None:
     return said_of(path, [f"{it:x}" for it in addresses], 300, {})
 
 
-def said_of(path: str, lines: List[str], seconds: int, variables: dict) -> Optional[List[str]]:
+def said_of(path: str, lines: list[str], seconds: int, variables: dict) -> list[str] | None:
     """What the process says of each line: a name with a blank and its version, or an address."""
     text = "".join(f"{it}\n" for it in lines).encode("utf-8", "surrogateescape")
     with tempfile.TemporaryDirectory() as room:
@@ -49,6 +49,15 @@ def said_of(path: str, lines: List[str], seconds: int, variables: dict) -> Optio
     return said[: len(lines)] if said[len(lines) :] == ["end", ""] else None
 
 
+def agrees(line: str, said: str, is_anywhere: bool = False) -> bool:
+    """Whether a line of elfsym and what dlsym says are the same: that of the library itself, or of any."""
+    if said == "none" or line.endswith(": none"):
+        return said == "none" and line.endswith(": none")
+    place, *numbers = said.split()[:3]
+    # The value of an absolute symbol is its address.
+    return (is_anywhere or place != "elsewhere") and int(line.rsplit(" ", 2)[1], 16) in [int(it, 16) for it in numbers]
+
+
 class Library:
     """A library that is loaded."""
 
@@ -60,23 +69,25 @@ class Library:
             os._exit(3)
         self.map, self.start = found.value, ctypes.c_ulong.from_address(found.value or 0).value
 
-    def at(self, address: int) -> Tuple[Found, str]:
-        """What dladdr finds at an address, and where."""
+    def at(self, address: int) -> tuple[Found, bytes, int]:
+        """What dladdr finds at an address, where, and the base there."""
         info, other = Found(), ctypes.c_void_p()
-        is_known = self.libc.dladdr1(ctypes.c_void_p(address), ctypes.byref(info), ctypes.byref(other), LINK_MAP)
-        return info, "nowhere" if not is_known else "here" if other.value == self.map else "elsewhere"
+        if not self.libc.dladdr1(ctypes.c_void_p(address), ctypes.byref(info), ctypes.byref(other), LINK_MAP):
+            return info, b"nowhere", self.start
+        return info, b"here" if other.value == self.map else b"elsewhere", ctypes.c_ulong.from_address(other.value or 0).value
 
     def line_of(self, line: bytes) -> bytes:
         name, is_name, version = line.partition(b" ")
         if not is_name:
             address = self.start + int(name, 16)
-            info, place = self.at(address)
-            return b"outside" if place != "here" else b"none" if info.name is None else info.name + b"+0x%x" % (address - info.address)
+            info, place, _ = self.at(address)
+            return b"outside" if place != b"here" else b"none" if info.name is None else info.name + b"+0x%x" % (address - info.address)
         self.libc.dlerror()
         address = (self.libc.dlvsym(self.library, name, version) if version else self.libc.dlsym(self.library, name)) or 0
         if self.libc.dlerror():
             return b"none"
-        return b"%s %x %x" % (self.at(address)[1].encode(), (address - self.start) % 2**64, address)
+        info, place, base = self.at(address)
+        return b"%s %x %x %s" % (place, (address - base) % 2**64, address, info.path or b"")
 
 
 def lines_of(path: str) -> Iterator[bytes]:

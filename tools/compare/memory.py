@@ -4,11 +4,9 @@
     tools/compare/memory.py [--elfload PATH] [--lazy 1] [--root FOLDER] [--step N] PROGRAM..
 
 Each dynamically linked program among the files and folders, with --step each Nth, is stopped by ptrace before the first constructor
-(`to_relocated`). Compared are each word that elfload prints of the files of the linker's list, with their bases and the numbers of
-thread-local storage that glibc chooses (`thread_offsets`), and each byte of memory (`image_of`). Jump slots get their symbols at once
-(LD_BIND_NOW), or with --lazy 1 when they are called first. --root names a folder with the files of another system: programs of AArch64
-are run by qemu-aarch64 (`processes.py`), those of 386 by this system's linker. docs/TESTS.md lists the causes by which differences are
-counted; another is a line, and the exit status is then 1. Where processes can't be traced, the script says so, and passes.
+(`to_relocated`). Compared are each word that elfload prints of the files of the linker's list, and each byte of memory (`image_of`).
+With --lazy 1 jump slots get their symbols when they are called first. --root names a folder with the files of another system. The
+causes by which differences are counted are in docs/TESTS.md. Where processes can't be traced, the script says so, and passes.
 """
 import functools
 import os
@@ -16,7 +14,7 @@ import re
 import struct
 import sys
 from collections import namedtuple
-from typing import Dict, Iterator, List, Optional, Set, Tuple
+from typing import Iterator
 
 from comparing import LOAD, UNIQUE, Tally, dynamic_symbols, parser_of, run
 from damage import Headers, Segment
@@ -60,16 +58,16 @@ def is_aarch64(path: str) -> bool:
 
 
 @functools.lru_cache(maxsize=None)
-def segments_of(path: str) -> Tuple[Segment, ...]:
+def segments_of(path: str) -> tuple[Segment, ...]:
     return tuple(Headers(content_of(path)).program_headers())
 
 
-def last_of(path: str, kind: int) -> Optional[Segment]:
+def last_of(path: str, kind: int) -> Segment | None:
     return next((it for it in reversed(segments_of(path)) if it.type == kind and it.memsz), None)
 
 
 @functools.lru_cache(maxsize=None)
-def entries_of(path: str) -> Tuple[Tuple[int, int], ...]:
+def entries_of(path: str) -> tuple[tuple[int, int], ...]:
     """The tags and values of the dynamic segment."""
     return tuple((tag, value) for _, tag, value in Headers(content_of(path)).dynamic())
 
@@ -95,14 +93,14 @@ def image_of(file: File, load: Segment) -> bytearray:
     return held
 
 
-def storages_of(files: List[File]) -> Iterator[Storage]:
+def storages_of(files: list[File]) -> Iterator[Storage]:
     for index, file in enumerate(files):
         if segment := last_of(file.path, THREAD_LOCAL):
             align = max(segment.align, 1)
             yield Storage(index, segment.memsz, align, -segment.vaddr % align)
 
 
-def thread_offsets(files: List[File]) -> Dict[int, int]:
+def thread_offsets(files: list[File]) -> dict[int, int]:
     """How far below the thread pointer glibc puts thread-local storage, by the index of its file (_dl_determine_tlsoffset)."""
     found, end, free, free_end = {}, 0, 0, 0
     for index, size, align, first in storages_of(files):
@@ -117,7 +115,7 @@ def thread_offsets(files: List[File]) -> Dict[int, int]:
     return found
 
 
-def thread_offsets_above(files: List[File]) -> Dict[int, int]:
+def thread_offsets_above(files: list[File]) -> dict[int, int]:
     """The same for AArch64, where it is above the thread pointer."""
     found, end, free, free_end = {}, BLOCK, 0, 0
     for index, size, align, first in storages_of(files):
@@ -137,13 +135,13 @@ def thread_offsets_above(files: List[File]) -> Dict[int, int]:
 class Numbers:
     """The numbers of words by the files of a process."""
 
-    def __init__(self, files: List[File]) -> None:
+    def __init__(self, files: list[File]) -> None:
         is_above = is_aarch64(files[0].path)
         threads = thread_offsets_above(files) if is_above else {index: -it for index, it in thread_offsets(files).items()}
         self.files, self.modules = files, {index: number for number, index in enumerate(threads, 1)}
         self.terms = {"base": [it.base for it in files], "thread": threads}
 
-    def of(self, word: Word) -> Optional[int]:
+    def of(self, word: Word) -> int | None:
         """The number of a word, if it has one."""
         if found := NUMBER.fullmatch(word.value):
             plus, minus = ((self.terms[name][int(index)] if name else 0) for name, index in (found.group(1, 2), found.group(4, 5)))
@@ -154,7 +152,7 @@ class Numbers:
             raise ValueError(word.value)
         return None
 
-    def bytes_of(self, process: Stopped, word: Word) -> Optional[bytes]:
+    def bytes_of(self, process: Stopped, word: Word) -> bytes | None:
         """The bytes of a word, if they are known; of a copy those that the process has at its source."""
         if copied := COPY.fullmatch(word.value):
             return process.memory(self.terms["base"][int(copied[1])] + int(copied[2], 16), int(copied[3]))
@@ -162,9 +160,9 @@ class Numbers:
         return None if number is None else number.to_bytes(word.width, "little")
 
 
-def words_of(text: str) -> List[List[Word]]:
+def words_of(text: str) -> list[list[Word]]:
     """The words of each file that elfload prints."""
-    found: List[List[Word]] = []
+    found: list[list[Word]] = []
     for line in text.split("\n"):
         if line.startswith("words "):
             found.append([])
@@ -195,7 +193,7 @@ def file_of(process: Stopped, name: str) -> str:
     return real(own if os.path.isfile(own) else name)
 
 
-def to_relocated(process: Stopped, program: str) -> Optional[Tuple[str, int]]:
+def to_relocated(process: Stopped, program: str) -> tuple[str, int] | None:
     """Runs up to where relocation is done and no constructor has run; the linker and its base, if the process gets there."""
     if isinstance(process, Emulated):
         return process.to_relocated(file_of(process, linker_of(program) or ""))
@@ -221,7 +219,7 @@ def is_early(file: File) -> bool:
     return os.path.basename(file.path).startswith("libc.so")
 
 
-def cause_of_word(files: List[File], of: int, word: Word, linker: str) -> Optional[str]:
+def cause_of_word(files: list[File], of: int, word: Word, linker: str) -> str | None:
     found = NUMBER.fullmatch(word.value)
     if found and found[1] == "base":
         symbols = dynamic_symbols(files[int(found[2])].path)
@@ -230,7 +228,7 @@ def cause_of_word(files: List[File], of: int, word: Word, linker: str) -> Option
     return "linker" if files[of].path == linker else "early libc" if is_early(files[of]) else None
 
 
-def cause_of_byte(file: File, address: int, is_writable: bool, held: bytes, linker: str) -> Optional[str]:
+def cause_of_byte(file: File, address: int, is_writable: bool, held: bytes, linker: str) -> str | None:
     """Why a byte that is of no word is another; `held` are the bytes of the address in whose middle it may be."""
     entries, dynamic, size = dict(entries_of(file.path)), last_of(file.path, DYNAMIC), len(held)
     if dynamic and dynamic.vaddr <= address < dynamic.vaddr + dynamic.memsz:
@@ -242,7 +240,7 @@ def cause_of_byte(file: File, address: int, is_writable: bool, held: bytes, link
     return "linker" if file.path == linker else "early libc" if is_writable and is_early(file) else None
 
 
-def compare_words(of: Process, index: int, words: List[Word], tally: Tally) -> Dict[int, bytes]:
+def compare_words(of: Process, index: int, words: list[Word], tally: Tally) -> dict[int, bytes]:
     """Compares the words of a file, and returns the bytes that memory has for each, by its address."""
     file, found = of.files[index], {}
     at_once = {it.address: it for it in of.at_once[index]} if of.at_once else {}
@@ -272,7 +270,7 @@ def differing(one: bytes, other: bytes) -> Iterator[int]:
 
 
 def compare_load(
-    of: Process, file: File, load: Segment, words: Dict[int, bytes], calls: bool, compared: Set[Tuple[str, int]], tally: Tally
+    of: Process, file: File, load: Segment, words: dict[int, bytes], calls: bool, compared: set[tuple[str, int]], tally: Tally
 ) -> None:
     """Compares the bytes of a load segment; of one without words that can't be written once for all processes."""
     start, wanted, size = down(load.vaddr), image_of(file, load), address_size(file.path)
@@ -302,7 +300,7 @@ def compare_load(
             tally.fault(f"{of.program}: {file.path}: byte at {start + place:x}: {wanted[place]:02x} is wanted, memory has {memory[place]:02x}")
 
 
-def compare_memory(of: Process, text: str, compared: Set[Tuple[str, int]], tally: Tally) -> None:
+def compare_memory(of: Process, text: str, compared: set[tuple[str, int]], tally: Tally) -> None:
     words = words_of(text)
     if len(words) != len(of.files):
         tally.fault(f"{of.program}: {len(of.files)} files, elfload says words of {len(words)}")
@@ -318,7 +316,7 @@ def compare_memory(of: Process, text: str, compared: Set[Tuple[str, int]], tally
     tally["files"] += len(of.files)
 
 
-def compare(program: str, root: Root, is_lazy: bool, compared: Set[Tuple[str, int]], tally: Tally) -> None:
+def compare(program: str, root: Root, is_lazy: bool, compared: set[tuple[str, int]], tally: Tally) -> None:
     process = root.start(program, is_lazy)
     try:
         linker = to_relocated(process, program)
@@ -346,7 +344,7 @@ if __name__ == "__main__":
         sys.exit(0)
     root = Root(given.root and real(given.root))
     tally = Tally(given.elfload, "programs", "programs not loaded", "files", "words", "words equal", "words without a number", "bytes")
-    compared: Set[Tuple[str, int]] = set()
+    compared: set[tuple[str, int]] = set()
     for program in [it for it in programs_in(given.files) if root.holds(it)][:: given.step]:
         if is_aarch64(program) and not can_emulate():
             tally["left for want of an emulator"] += 1

@@ -5,8 +5,7 @@
     process.to_read_only(), to_debug_state(process)            where the linker makes pages read-only, and where relocation is done
     process.maps(), process.memory(address, 8)
 
-The folder `root` holds the files of a system of AArch64. qemu maps each file at the same addresses in a process of its own
-(without -B and -R its base is 0), so the memory is that of /proc/PID/mem. A breakpoint of the stub changes no byte.
+The folder `root` holds the files of a system of AArch64. qemu maps each file at the same addresses in a process of its own.
 """
 import contextlib
 import ctypes

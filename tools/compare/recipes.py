@@ -3,10 +3,13 @@
 
     tools/compare/recipes.py [--elfrecipes PATH] [FILE..]
 
-The recipe in Python is run where tools/exports/python.sh has built the package. Without files it takes the programs and libraries of
-SYSTEM, and what gcc makes of a small source here (MADE). Files that `elfrecipes` doesn't read count as differences.
+The recipes in Python are run where tools/exports/python.sh has built the package: that of the largest functions over each file, those
+of libraries over a made root and over PACKAGE, which needs no other packages than those that dpkg says. Without files it takes the
+programs and libraries of SYSTEM, and what gcc makes of a small source (MADE). Files that `elfrecipes` doesn't read count as
+differences.
 """
 import re
+import shutil
 import subprocess
 import sys
 import tempfile
@@ -19,15 +22,7 @@ from sizes import Symbol, runs_of
 SYSTEM = ["/bin/ls", "/usr/bin/readelf", "/bin/bash", "/lib/x86_64-linux-gnu/libc.so.6", "/lib/x86_64-linux-gnu/libm.so.6"]
 OURS = ["crates/elfnm/data/add.o", "crates/elfrecipes/data/prog", "crates/elfsym/data/stripped.so"]
 
-SOURCE = """
-extern int far(int);
-int shared_number = 3;
-static int hidden(int x) { return far(x) + shared_number; }
-int near(int x) { return hidden(x) * 2; }
-"""
-MAIN = "int far(int x) { return x; } int near(int); int main(void) { return near(0) & 1; }"
-
-# What is made of SOURCE, by the arguments of gcc.
+# What is made of tools/compare/sources, by the arguments of gcc.
 MADE = {
     "object_64.o": ["-c", "near.c"],
     "program_64": ["near.c", "main.c"],
@@ -40,9 +35,11 @@ MADE = {
 
 NO_BITS, FUNCTION, EXECUTED, NAMED = 8, 2, 4, (0, 1, 2, 10)
 
-# The recipe of docs/RECIPES.md in Python.
-LARGEST = re.search(r"^```python$(.*?)^```$", (ROOT / "docs/RECIPES.md").read_text(), re.M | re.S)[1]
-PACKAGE = ROOT / "bindings/python"
+# The recipes of docs/RECIPES.md in Python.
+LARGEST, STARTS, NEEDS = re.findall(r"^```python$(.*?)^```$", (ROOT / "docs/RECIPES.md").read_text(), re.M | re.S)
+PYTHON = ROOT / "bindings/python"
+ROOTED, NOT_STARTED = ROOT / "crates/elftree/data", "/bin/prog: no: /bin/prog: /lib64/ld-linux-x86-64.so.2 not found\n"
+PACKAGE = "coreutils"
 
 
 def symbols(said: list, is_dynamic: bool) -> list:
@@ -129,14 +126,41 @@ def largest(path: str) -> list:
     return sorted(found.values(), reverse=True)[:10]
 
 
+def needed_packages(package: str) -> set:
+    """The packages that dpkg says that a package needs, with those that these need, and itself."""
+    found, left = set(), [package]
+    while left:
+        name = left.pop()
+        if name not in found:
+            found.add(name)
+            said = subprocess.run(["dpkg-query", "-W", "-f", "${Depends}, ${Pre-Depends}", name], capture_output=True, text=True, check=False).stdout
+            left += re.findall(r"(?:^|[,|]) *([a-z0-9.+-]+)", said)
+    return found
+
+
+def compare_libraries(tally: Tally) -> None:
+    """Compares what the recipes of libraries print."""
+    run = lambda recipe, it: subprocess.run([sys.executable, "-c", recipe, str(it)], cwd=PYTHON, capture_output=True, text=True, check=False)
+    done = run(STARTS, ROOTED)
+    if done.stdout != NOT_STARTED:
+        tally.differ(str(ROOTED), "what would not start", done.stdout or done.stderr[-200:], NOT_STARTED)
+    if shutil.which("dpkg-query"):
+        done = run(NEEDS, PACKAGE)
+        ours, theirs = set(re.findall(rf"^{PACKAGE} needs ([^:\n]*)", done.stdout, re.M)), needed_packages(PACKAGE)
+        if "libc6" not in ours or not ours <= theirs:
+            tally.differ(PACKAGE, "needed packages", sorted(ours - theirs) or done.stderr[-200:], sorted(theirs))
+
+
 if __name__ == "__main__":
     given, tally = parser_of(__doc__, "elfrecipes", files="*").parse_args(), Tally("elfrecipes", "files", "addresses")
-    is_built = (PACKAGE / "xmas_elf/libxmas_elf.so").exists()
+    is_built = (PYTHON / "xmas_elf/libxmas_elf.so").exists()
     if not is_built:
         print("recipes: the package for Python is not built: its recipe is not run")
+    else:
+        compare_libraries(tally)
     with tempfile.TemporaryDirectory() as room:
-        Path(room, "near.c").write_text(SOURCE)
-        Path(room, "main.c").write_text(MAIN)
+        for name in ("near.c", "main.c"):
+            shutil.copy(ROOT / "tools/compare/sources" / name, room)
         made = []
         for name, arguments in MADE.items():
             done = subprocess.run(["gcc", "-O1", *arguments, "-o", name], cwd=room, capture_output=True, text=True)
@@ -147,7 +171,7 @@ if __name__ == "__main__":
         for path in files:
             compare(tally, given.elfrecipes, path)
             if is_built:
-                done = subprocess.run([sys.executable, "-c", LARGEST, path], cwd=PACKAGE, capture_output=True, text=True)
+                done = subprocess.run([sys.executable, "-c", LARGEST, path], cwd=PYTHON, capture_output=True, text=True)
                 ours = [int(line.split()[0]) for line in done.stdout.splitlines()]
                 if done.returncode or ours != largest(path):
                     tally.differ(path, "the largest functions", ours or done.stderr[-200:], largest(path))

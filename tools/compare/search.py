@@ -4,15 +4,10 @@
     tools/compare/search.py [--elftree PATH] [--trees N] [--seed N] [FILE..]
 
 Each dynamically linked program and library among the files, and in the folders among them, is given to ld.so, which lists its
-libraries and runs nothing (LD_TRACE_LOADED_OBJECTS). Compared are the paths in the order of the scope, missing names, messages of
-versions and errors; and, where strace can trace elftree, each path tried, which ld.so says with LD_DEBUG=libs.
-
---trees N makes N trees of small programs and libraries, at random from the seed: with RPATH, RUNPATH, tokens, links, other classes,
-sonames of other files, filters, versions, damaged headers, and a cache, of which half are damaged. Their ld.so is a copy that reads
-this cache. A program that misses nothing is also run, for the order of initialisers (LD_DEBUG=files).
-
-Where ld.so crashes or trips over an assertion of its own, the tree is counted, and not compared. The exit status is 1 if something
-differs. On another machine than x86-64 the script says so, and passes.
+libraries and runs nothing (LD_TRACE_LOADED_OBJECTS). --trees N makes N trees of small programs and libraries, at random from the
+seed: with RPATH, RUNPATH, tokens, links, other classes, sonames of other files, filters, versions, damaged headers, and a cache, of
+which half are damaged. Their ld.so is a copy that reads this cache. A program that misses nothing is also run, for the order of
+initialisers (LD_DEBUG=files). Where ld.so crashes or trips over an assertion of its own, the tree is counted, and not compared.
 """
 import os
 import pathlib

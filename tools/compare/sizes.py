@@ -3,10 +3,9 @@
 
     tools/compare/sizes.py [--elfsize PATH] [--damaged N] [--seed S] [--most N] [--symbols] [FILE..]
 
-Of each ELF file of the files and folders FILE (/usr), the lines are to be the largest first, and to sum to the size of the file. The
-owner of each byte is that of docs/SIZES.md (`Definition`), in files with at most 3000 sections and segments. --symbols compares
-`elfsize --symbols` beside `nm -S`, whose symbols with the same range and section are counted once. Other sizes are counted by cause.
---damaged N compares N damaged files (tools/compare/damage.py), at random from the seed S. --most N stops after N files.
+Of each ELF file of the files and folders FILE (/usr), the owner of each byte is that of docs/SIZES.md (`Definition`), if the file has
+at most 3000 sections and segments. --symbols compares `elfsize --symbols` beside `nm -S`, whose symbols with the same range and section
+are counted once. --damaged N compares N damaged files (tools/compare/damage.py) of the seed S. --most N stops after N files.
 """
 import collections
 import heapq
@@ -17,7 +16,7 @@ import re
 import struct
 import sys
 import tempfile
-from typing import Dict, Iterator, List, Optional, Tuple
+from typing import Iterator
 
 import damage
 from comparing import CONTROLS, Tally, files_of, llvm, parser_of, parts, read_elf, run
@@ -45,18 +44,18 @@ class Symbol(collections.namedtuple("Symbol", "index section value size type bin
     def names_addresses(self) -> bool:
         return self.type in (0, 1, 2, 10) and self.has_name
 
-    def order(self) -> Tuple[int, ...]:
+    def order(self) -> tuple[int, ...]:
         """The first of several that cover an address is the least."""
         kind = {1: 1, 2: 0, 10: 0}.get(self.type, 2)
         return -self.value, self.size, kind, {1: 0, 10: 0, 2: 1}.get(self.binding, 2), self.index
 
 
-def runs_of(symbols: List[Symbol]) -> List[Part]:
+def runs_of(symbols: list[Symbol]) -> list[Part]:
     """The runs of addresses that belong to one symbol, in order."""
     waiting = sorted(symbols, key=lambda it: it.value, reverse=True)
     ends = sorted({edge for it in symbols for edge in (it.value, it.value + it.size)})
-    heap: List[Tuple[Tuple[int, ...], int]] = []
-    found: List[Part] = []
+    heap: list[tuple[tuple[int, ...], int]] = []
+    found: list[Part] = []
     for begin, end in zip(ends, ends[1:]):
         while waiting and waiting[-1].value == begin:
             symbol = waiting.pop()
@@ -94,7 +93,7 @@ class Definition(damage.Headers):
         start = self.header(f"{letters}off")
         return self.cut(name, start, self.header(f"{letters}entsize") * self.count(letters) if start else 0)
 
-    def table(self, kind: str, letters: str, fields: dict, least: int) -> List[Part]:
+    def table(self, kind: str, letters: str, fields: dict, least: int) -> list[Part]:
         """The parts of a table that is there and has entries that can be read."""
         start, size, count = self.header(f"{letters}off"), self.header(f"{letters}entsize"), self.count(letters)
         if not start or size < least or start + size * count > len(self.content) or count >= 2**32:
@@ -117,21 +116,21 @@ class Definition(damage.Headers):
             free = "between parts" if begin < last else "after all parts"
             yield Part(next((it.name for it in order if it.begin <= begin < it.end), free), begin, end)
 
-    def owned(self) -> Dict[str, int]:
+    def owned(self) -> dict[str, int]:
         """The number of bytes of each part that owns some."""
-        found: Dict[str, int] = collections.Counter()
+        found: dict[str, int] = collections.Counter()
         for name, begin, end in self.pieces():
             found[name] += end - begin
         return dict(found)
 
-    def owned_by_symbols(self) -> Dict[str, int]:
+    def owned_by_symbols(self) -> dict[str, int]:
         """The same with the bytes of sections by symbol."""
-        by_section: Dict[int, List[Symbol]] = collections.defaultdict(list)
+        by_section: dict[int, list[Symbol]] = collections.defaultdict(list)
         for symbol in self.symbols():
             if symbol.names_addresses:
                 by_section[symbol.section].append(symbol)
         runs = {f"section {section}": runs_of(all) for section, all in by_section.items()}
-        found: Dict[str, int] = collections.Counter()
+        found: dict[str, int] = collections.Counter()
         for name, begin, end in self.pieces():
             low, high = (self.address(name, offset) for offset in (begin, end)) if name in runs else (0, 0)
             for owner, first, last in runs.get(name, []):
@@ -189,7 +188,7 @@ class Definition(damage.Headers):
         return not (second and second in MAPPING.get(machine, b"") and third in (b"", b"\0", b"."))
 
 
-def lines_of(output: str) -> Iterator[Tuple[int, str, str, str]]:
+def lines_of(output: str) -> Iterator[tuple[int, str, str, str]]:
     """The size, the share, the part and its name of each line, with the sum as the last."""
     for line in output.split("\n")[:-1]:
         matched = LINE.match(line)
@@ -198,7 +197,7 @@ def lines_of(output: str) -> Iterator[Tuple[int, str, str, str]]:
         yield int(matched[1]), matched[2], matched[3] or matched[5], matched[4] or ""
 
 
-def sizes_of(path: str, program: str, length: int, tally: Tally, *options: str) -> Optional[Sizes]:
+def sizes_of(path: str, program: str, length: int, tally: Tally, *options: str) -> Sizes | None:
     """The sizes that elfsize prints of a file, once their order, their shares and their sum have been compared."""
     output = tally.output(path, program, *options, path)
     if not output:
@@ -219,7 +218,7 @@ def sizes_of(path: str, program: str, length: int, tally: Tally, *options: str) 
     return Sizes({part: size for size, _, part, _ in lines}, {part: name for _, _, part, name in lines})
 
 
-def compare_names(path: str, names: Dict[str, str], tally: Tally) -> None:
+def compare_names(path: str, names: dict[str, str], tally: Tally) -> None:
     """The names of sections beside those of llvm-readelf."""
     for section in parts(llvm(path, "-S"), "Sections", "Section"):
         name, own = section["Name"]["Value"].translate(CONTROLS), names.get(f"section {section['Index']}")
@@ -228,7 +227,7 @@ def compare_names(path: str, names: Dict[str, str], tally: Tally) -> None:
             tally.differ(path, f"name of section {section['Index']}", own, name)
 
 
-def beside_definition(path: str, sizes: Dict[str, int], content: bytes, tally: Tally, by_symbols: bool = False) -> None:
+def beside_definition(path: str, sizes: dict[str, int], content: bytes, tally: Tally, by_symbols: bool = False) -> None:
     definition = Definition(content)
     if len(definition.sections) + len(definition.segments) > MOST_PARTS:
         tally["files too large for the definition"] += 1
@@ -242,7 +241,7 @@ def beside_definition(path: str, sizes: Dict[str, int], content: bytes, tally: T
         tally[f"bytes of {part.split(' ')[0] + 's' if part[-1].isdigit() else part}"] += size
 
 
-def beside_readelf(path: str, sizes: Dict[str, int], content: bytes, tally: Tally) -> None:
+def beside_readelf(path: str, sizes: dict[str, int], content: bytes, tally: Tally) -> None:
     sections = Definition(content).sections
     for index, kind, text in HEADER.findall(run(["readelf", "-SW", "--", path]).output):
         size, own = int(text, 16), sizes.get(f"section {int(index)}", 0)
@@ -259,13 +258,13 @@ def beside_readelf(path: str, sizes: Dict[str, int], content: bytes, tally: Tall
             tally.differ(path, f"section {index}", own, size)
 
 
-def beside_nm(path: str, sizes: Dict[str, int], content: bytes, tally: Tally) -> None:
+def beside_nm(path: str, sizes: dict[str, int], content: bytes, tally: Tally) -> None:
     """The sizes of symbols beside those of nm, whose aliases are taken out."""
     definition = Definition(content)
     told = collections.Counter((int(value, 16), int(size, 16)) for value, size in SIZED.findall(run(["nm", "-S", "--", path]).output))
     tally["symbols of nm"] += sum(told.values())
     tally["bytes of these symbols"] += sum(size * count for (_, size), count in told.items())
-    aliases: Dict[Tuple[int, int, int], List[Symbol]] = collections.defaultdict(list)
+    aliases: dict[tuple[int, int, int], list[Symbol]] = collections.defaultdict(list)
     for symbol in definition.symbols():
         if (symbol.value, symbol.size) in told:
             aliases[symbol.section, symbol.value, symbol.size].append(symbol)
@@ -274,14 +273,14 @@ def beside_nm(path: str, sizes: Dict[str, int], content: bytes, tally: Tally) ->
         own = sum(sizes.get(f"symbol {it.index}", 0) for it in all)
         tally["bytes of these ranges"] += size
         tally["bytes that their symbols own"] += own
-        cause = "ranges of the same size" if own == size else cause_of(definition, section, value, size, all, aliases)
+        cause = "ranges of the same size" if own == size else cause_of(definition, section, value, size, all)
         if cause:
             tally[cause] += 1
         else:
             tally.differ(path, f"symbols {[it.index for it in all]}", own, size)
 
 
-def cause_of(definition: Definition, section: int, value: int, size: int, all: List[Symbol], aliases: Dict) -> Optional[str]:
+def cause_of(definition: Definition, section: int, value: int, size: int, all: list[Symbol]) -> str | None:
     """Why the symbols of a range own fewer bytes than it has."""
     part = definition.sections[section] if section < len(definition.sections) else Part("", 0, 0)
     if part.begin == part.end:
@@ -302,7 +301,7 @@ def cause_of(definition: Definition, section: int, value: int, size: int, all: L
 
 def compare(path: str, program: str, by_symbols: bool, tally: Tally) -> None:
     content = read_elf(path)
-    found = sizes_of(path, program, len(content), tally, *(["--symbols"] if by_symbols else []))
+    found = sizes_of(path, program, len(content), tally, *(["--no-debug", "--symbols"] if by_symbols else []))
     if found is not None:
         tally["files"] += 1
         beside_definition(path, found.sizes, content, tally, by_symbols)
