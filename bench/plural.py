@@ -147,6 +147,7 @@ CALLS = {
     "symbols of addresses": (shared, "address_index, symbols_at", lambda it: records_of(it.symbols_at([symbol.value for symbol in it.dynamic_symbols()]))),
     "pieces": (sectioned, "pieces", lambda it: records_of(it.pieces())),
     "symbol pieces of all sections": (sectioned, "symbol_pieces", lambda it: sum(records_of(it.symbol_pieces(section)) for section in it.sections())),
+    "changes of parts": (sectioned, "size_changes", lambda it: len(xmas_elf.size_diff(xmas_elf.ElfFile(sectioned(2)), it, symbols=True))),
     "relocations of a section": (tables_of, "relocations", lambda it: records_of(it.section(".rela").relocations())),
     "packed relocations of a section": (tables_of, "packed_relocations", lambda it: records_of(it.section(".relr").packed_relocations())),
     "dynamic entries of a section": (tables_of, "dynamics", lambda it: records_of(it.dynamic())),

@@ -2,13 +2,12 @@
 """What the gate costs, in processor minutes by part.
 
     tools/gate/budget.py run COMMAND..   runs a part of `.ci/run`, and says behind its output what it took
-    tools/gate/budget.py write OUTPUT..  writes the part of docs/GATE.md between `<!-- gate -->` and `<!-- /gate -->` from the
-                                         stored output of `.ci/run`, or of its parts, and into README.md the kit that it names
+    tools/gate/budget.py write OUTPUT..  writes the table of docs/GATE.md from the stored output of `.ci/run`, or of its parts, and
+                                         into README.md the kit that it names
     tools/gate/budget.py check           fails where that table's total passes the budget, or its numbers don't add up, and where
                                          README.md names another kit than that of the table; warns where this is another
 
 While `rt ci` runs, the processes below it are looked at twice a second (`part_of`); what lies between two looks counts as `rest`.
-Other load may double the seconds, so a short loop is timed now and then, and the page says what it took.
 """
 import collections
 import contextlib
@@ -31,14 +30,12 @@ BUDGET = 190
 
 TICKS = os.sysconf("SC_CLK_TCK")
 LOOKS = 0.5  # seconds between two looks
-SAMPLES = 10  # seconds between two loops that are timed
 SMALL = 120  # seconds: parts that take less have one row together
 
 TOOK = re.compile(r"^-- (.+): (\d+) s, (\d+) processor s$", re.M)
 PART = re.compile(r"^--   (proof|tests|must-fail|batches|rest) of (\S+): (\d+) processor s$", re.M)
 BATCHES = re.compile(r"^([\w-]+|the crates as they are): (\d+) processor seconds$", re.M)
 PAGES = re.compile(r"^-- huge pages: (\w+)$", re.M)
-LOOP = re.compile(r"^--   a loop: ([\d.]+) ms in (\d+) times, ([\d.]+) at best$", re.M)
 DONE = re.compile(r"done in this run: (\d+ of the \d+) proofs")
 KIT = re.compile(r"^-- kit: (.*)$", re.M)
 MACHINE = re.compile(r"^-- (\d+) processors, (.*)$", re.M)
@@ -85,33 +82,22 @@ class Looks:
         return found if process == self.top else None
 
 
-def loop() -> float:
-    """How long a loop takes, in milliseconds of its processor, while something else runs."""
-    began, number = time.thread_time(), 0
-    for at in range(200_000):
-        number += at
-    return 1000 * (time.thread_time() - began)
-
-
 def run(words: list) -> int:
     """Runs a command, and says what it took, and of `rt ci` what each of its parts did."""
-    began, is_done, took = time.monotonic(), threading.Event(), []
+    began, is_done = time.monotonic(), threading.Event()
 
-    def repeat(seconds: float, call):
-        while not is_done.wait(seconds):
-            call()
+    def watch(looks: Looks):
+        while words[0] == "rt" and not is_done.wait(LOOKS):
+            looks.look()
 
     with subprocess.Popen(words) as started:
         looks = Looks(started.pid)
-        repeated = [(SAMPLES, lambda: took.append(loop())), *([(LOOKS, looks.look)] if words[0] == "rt" else [])]
-        watching = [threading.Thread(target=repeat, args=it) for it in repeated]
-        for it in watching:
-            it.start()
+        watching = threading.Thread(target=watch, args=[looks])
+        watching.start()
         _, status, used = os.wait4(started.pid, 0)
         started.returncode = os.waitstatus_to_exitcode(status)
         is_done.set()
-        for it in watching:
-            it.join()
+        watching.join()
     whole, sums = used.ru_utime + used.ru_stime, collections.Counter()
     for part, seconds in looks.taken.values():
         sums[part] += seconds
@@ -119,8 +105,6 @@ def run(words: list) -> int:
         print(f"--   {part}: {seconds:.0f} processor s")
     if sums:
         print(f"--   rest of rt: {max(whole - sum(sums.values()), 0):.0f} processor s")
-    if took:
-        print(f"--   a loop: {sum(took) / len(took):.1f} ms in {len(took)} times, {min(took):.1f} at best")
     print(f"-- {' '.join(words)}: {time.monotonic() - began:.0f} s, {whole:.0f} processor s", flush=True)
     return started.returncode if started.returncode >= 0 else 1
 
@@ -173,10 +157,6 @@ def measured(output: str) -> str:
     where = ", then ".join(f"{processors} processors" for processors, _ in machines) or "a machine"
     how = "in one run" if len(machines) < 2 else "in parts, one after the other"
     share = f" Of the proofs {done[1]} were done in this run; the others had been done on the machine before." if done else ""
-    loops = [(float(mean), int(count), float(best)) for mean, count, best in LOOP.findall(output)]
-    if loops:
-        mean = sum(it[0] * it[1] for it in loops) / sum(it[1] for it in loops)
-        share += f" A fixed loop, run beside it to see other load, took {min(it[2] for it in loops):.0f} ms at best, {mean:.0f} ms on average."
     commit, kit = said("git", "rev-parse", "--short", "HEAD"), kit_of(output).split(" ")[0]
     huge = f", with transparent huge pages `{pages[1]}`" if pages else ""
     took = f"{minutes(wall)} minutes, {how}{huge}; {kit}, {datetime.date.today()}."

@@ -366,18 +366,6 @@ class Room:
         self.seconds += ran.seconds
         return ran
 
-    def uncompiled(self, edits) -> list:
-        """Those of the edits that don't compile, each with the error."""
-        tried = self.crate.tried(edits, self.is_whole)
-        self.make(tried)
-        # A check of a function that isn't there ends once the crate is compiled.
-        ran = check(self.folder, "--jobs", "1", "--only", "no_such::function")
-        if NO_FUNCTION.search(ran.said):
-            return []
-        if len(edits) > 1:
-            return [it for part in self.apart(edits, tried, ran) for it in self.uncompiled(part)]
-        return [(edits[0], ran.fault())]
-
     def check_only(self, functions) -> Checked:
         """A check of some functions, by their paths, and of what they call; of none: of the whole crate."""
         words = ["--jobs", "1", *self.words, *(word for name in functions for word in ("--only", name))]

@@ -3,9 +3,8 @@
 
     tools/gate/little_memory.py [PROGRAM..]     at the top of the repository, once the programs are built
 
-Over some files and each build of a program, until a run makes no more such calls: the last is as if nothing failed. `is_well` says how
-a run may end; what was written before a failed write is the front of the output. The runs make as few reads and writes as they like,
-or a few bytes each. gcc makes a library of `failing.c` that takes the C library's calls.
+Over some files and each build of a program, until a run makes no more such calls. `is_well` says how a run may end. The runs make as
+few reads and writes as they like, or a few bytes each. gcc makes a library of `failing.c` that takes the C library's calls.
 """
 import collections
 import itertools

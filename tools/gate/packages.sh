@@ -1,16 +1,12 @@
 #!/usr/bin/env bash
 # Says of each program that the scripts of the gate call whether it is here. Where one is missing that `.ci/run` can't do
 # without, root installs it by apt-get; anyone else is told the package, and this fails. A line each.
-#   tools/gate/packages.sh           checks, and installs as root
-#   tools/gate/packages.sh --all     installs the optional ones too
-#   tools/gate/packages.sh --check   only checks
 set -euo pipefail
-mode="${1:-}"
 missing=0 updated=
 
 # Whether these packages could be installed: by root alone, over lists that are fetched once.
 install() {
-    [ "$mode" != --check ] && [ "$(id -u)" = 0 ] && command -v apt-get > /dev/null || return 1
+    [ "$(id -u)" = 0 ] && command -v apt-get > /dev/null || return 1
     [ -n "$updated" ] || { apt-get update -qq > /dev/null 2>&1 || true; updated=yes; }
     DEBIAN_FRONTEND=noninteractive apt-get install -y -qq --no-install-recommends "$@" > /dev/null 2>&1
 }
@@ -45,7 +41,7 @@ while IFS='|' read -r program packages kind for; do
     [ "$program" != cargo ] || older=" with Rust $rust or newer"
     if is_here "$program"; then
         echo "$program: $(command -v "$program" || echo there)"
-    elif [ "$kind$mode" != optional ] && bring "$program" "$packages"; then
+    elif [ "$kind" != optional ] && bring "$program" "$packages"; then
         :
     elif [ "$kind" = needed ]; then
         echo "$program$older: MISSING, of the Debian package ${packages//\// or }; needed by $for"

@@ -84,6 +84,22 @@ def larger_report(start: int, count: int) -> bytes:
     return report.replace(b"sh_offset:        52\n", b"sh_offset:        %d\n" % start).replace(first, lines)
 
 
+def escaped(name: bytes) -> bytes:
+    """The bytes of a name with its control characters escaped, as `readelf` shows names of sections and symbols."""
+    return b"".join(b"^%c" % (byte + 0x40) if byte < 0x20 or byte == 0x7F else b"%c" % byte for byte in name)
+
+
+def replaced(text: bytes, parts: dict) -> bytes:
+    """A text with each of these parts replaced, which must be in it."""
+    for old, new in parts.items():
+        if old not in text:
+            sys.exit(f"{old!r} isn't in {text[:400]!r}")
+        text = text.replace(old, new)
+    return text
+
+
+# Names of a section and a symbol of places.so, and other ones.
+ODD_NAMES = {b".data\0": b'.\x01"\xff\\\0', b"value\0": b"v\t\x7f\xc3\xa9\0"}
 # A program and its two libraries of either class, as crates/elfbind/data/make.sh makes them.
 WIDE_BOUND, NARROW_BOUND = "caller libfirst.so libsecond.so", "caller_32 libfirst_32.so libsecond_32.so"
 # The name of a file that can be read.
@@ -92,6 +108,8 @@ FILES = {
     NOT_UTF8: STRTAB, "strtab.elf": STRTAB, "empty.elf": b"", "zeros.elf": bytes(16), "three.elf": STRTAB[:3],
     "link.elf": debug_link(), "hash.elf": hash_file(), "far.elf": larger(FAR, 2), "long.elf": larger(52, MANY),
     "linked.so": LINKED, "needs.so": NEEDS, "stripped.so": data("elfsym/data/stripped.so"), "places.so": PLACES,
+    # The same file with names that have quotation marks, control characters and bytes that are not UTF-8.
+    "odd.so": replaced(PLACES, ODD_NAMES),
     # The same file with a symbol table of 239 bytes.
     "parts.so": PLACES[:1648] + bytes([239]) + PLACES[1649:],
     # Sections 1 and 7 have a type without a meaning and that of `.relr.dyn`; `readelf -SW` shows their names.
@@ -182,19 +200,14 @@ INFO.prints({
     "further arguments": ("strtab.elf missing.elf", REPORT)})
 
 # What is said of the options of a search for libraries.
-SEARCH_USAGE, SEARCH_HELP = "[--root DIR] [--library-path LIST] [--cache FILE | --no-cache]", """\
---root DIR           the program and its libraries are under DIR, the root of another system
---library-path LIST  the value of LD_LIBRARY_PATH
---cache FILE         another cache than /etc/ld.so.cache
---no-cache           no cache
-"""
+SEARCH_USAGE = "[--root DIR] [--library-path LIST] [--cache FILE | --no-cache]"
 
 ASKED = data("elfsym/args").decode().split()[1:]
 SYM = Program(
-    "elfsym", "elfsym <binary_path> <name>[@<version>].. | elfsym --needed <binary_path> | "
-    f"elfsym --scope {SEARCH_USAGE} <binary_path> <name>[@<version>]..", ["ab"], ["linked.so", *ASKED], SYMBOLS, LINKED)
+    "elfsym", "elfsym [--json] <binary_path> <name>[@<version>].. | elfsym [--json] --needed <binary_path> | "
+    f"elfsym [--json] --scope {SEARCH_USAGE} <binary_path> <name>[@<version>]..", ["ab"], ["linked.so", *ASKED], SYMBOLS, LINKED)
 SYM.misused({
-    "no name": "linked.so", "nothing whose libraries are asked for": "--needed",
+    "no name": "linked.so", "no file after the form": "--json", "nothing whose libraries are asked for": "--needed",
     "two files whose libraries are asked for": "--needed linked.so linked.so"})
 SYM.fails({
     "a file without a dynamic segment": ("strtab.elf ab", "strtab.elf: No dynamic segment"),
@@ -210,7 +223,11 @@ SYM.prints({
     "a second at": ("linked.so ab@@V2 ab@ @V1", "ab@@V2: none\nab@: none\n@V1: none\n"),
     "a name of a file whose definitions are cut": ("cut.so ab", "ab 0x2f6 0x6\n"),
     "names of a file that needs a library": ("needs.so ab cd outer ef", "ab 0x230 0xa\ncd 0x240 0x3\nouter: none\nef 0x23a 0x6\n"),
-    "a name like an option": ("linked.so --needed", "--needed: none\n")})
+    "a name like an option": ("linked.so --needed", "--needed: none\n"),
+    "names as JSON": (
+        "--json linked.so ab@V1 \"\\", '{"name":"ab@V1","value":752,"size":6}\n{"name":"\\"\\\\","value":null,"size":null}\n'),
+    "a name like the option for JSON": ("linked.so --json", "--json: none\n"),
+    "a needed library as JSON": ("--json --needed needs.so", '{"needed":"libneed.so"}\n')})
 SYM.misused({
     "no program in whose scope to look": "--scope", "no name to look up in a scope": "--scope caller", "no root of a scope": "--scope --root",
     "another option of a scope": "--scope --loan caller own"})
@@ -232,14 +249,19 @@ second@V1 0x4bf 0x34 ./libsecond.so
 unseen: none
 """
 SCOPE_NAMES = " ".join(re.findall("(?m)^[^ :]+", SCOPE_LINES))
-SYM.prints({"names in a program and its libraries": (f"--scope --no-cache --library-path .:folder caller {SCOPE_NAMES}", SCOPE_LINES)})
+SYM.prints({
+    "names in a program and its libraries": (f"--scope --no-cache --library-path .:folder caller {SCOPE_NAMES}", SCOPE_LINES),
+    "such names as JSON": (
+        "--json --scope --no-cache --library-path .:folder caller own second@V1 unseen",
+        '{"name":"own","value":4195328,"size":6,"file":"caller"}\n{"name":"second@V1","value":1215,"size":52,"file":"./libsecond.so"}\n'
+        '{"name":"unseen","value":null,"size":null,"file":null}\n')})
 SYM.add("a name where a library is missing", "--scope --no-cache counter shared", 1, "shared: none\n", "elfsym: counter: library.so not found\n")
 for file, library, reason in (("cut.so", "libw.so", "Version record is cut off"), (f"damaged-{0x128}.so", "libneed.so", NEEDS_ERRORS[-1][2])):
     SYM.add(f"{file}, where a library is missing", f"--scope --no-cache {file} ab", 1, "", f"elfsym: {file}: {library} not found\nelfsym: {file}: {reason}\n")
 
 # What crates/elfaddr/data/places.s says of these addresses.
 ADDR = Program(
-    "elfaddr", "elfaddr [--debug DIR | --no-debug] (--stack | [--dynamic | --dladdr] <binary_path> (<address>.. | -))", ["0"],
+    "elfaddr", "elfaddr [--debug DIR | --no-debug] (--stack | [--json] [--dynamic | --dladdr] <binary_path> (<address>.. | -))", ["0"],
     ["places.so", "206", "0x208", "20A", "20c", "20f", "2c8"], b"outer+0x0\ninner+0x0\nouter+0x4\nlabel+0x0\n?\n.data+0x8\n", PLACES)
 ADDR.misused({
     "no address": "places.so", "a word that is no address": "places.so 206 main", "an option without a path": "--dladdr",
@@ -254,7 +276,12 @@ ADDR.prints({
     "sections of other types": ("types.so 120 2c8", ".gnu.hash+0x0\n.data+0x8\n"),
     "a file without section headers": ("needs.so 230 243", "ab+0x0\n?\n"),
     "what dladdr finds in a file without section headers": ("--dladdr needs.so 242 243", "cd+0x2\n?\n")})
-ADDR.misused({"a stack with a file": "--stack places.so", "no folder of debug files": "--debug", "no file after a folder": "--debug ids"})
+ADDR.prints({"lines as JSON": ("--json places.so 208 2c8 20f", """\
+{"address":520,"symbol":"inner","offset":0}
+{"address":712,"section":".data","offset":8}
+{"address":527,"symbol":null,"section":null}
+""")})
+ADDR.misused({"a stack as JSON": "--json --stack", "JSON of no file": "--json", "a stack with a file": "--stack places.so", "no folder of debug files": "--debug", "no file after a folder": "--debug ids"})
 # What these addresses are by the debug file of `bare.so`, and by its dynamic symbols.
 BARE_WORDS, BARE_NAMES = "256 25c 318 25f", "outer+0x0\nlabel+0x0\n.data+0x8\n?\n"
 BARE_PLACES = BARE_NAMES.replace("label+0x0", ".text+0x6")
@@ -301,11 +328,11 @@ def finds(program: Program, output: str, missing):
 
 
 BIND = Program(
-    "elfbind", f"elfbind [--unresolved | --check] [--alone | {SEARCH_USAGE}] <binary_path>..", [], WIDE_BOUND.split(),
+    "elfbind", f"elfbind [--json] [--unresolved | --check] [--alone | {SEARCH_USAGE}] <binary_path>..", [], WIDE_BOUND.split(),
     data("elfbind/stdout"), data("elfbind/data/caller"))
 CHAINED = f"damaged-{0x128}.so"
 finds(BIND, data("elfbind/stdout").decode(), "counter shared -> unresolved\n")
-BIND.misused({"no file to check": "--check", "no file for what is unresolved": "--unresolved"})
+BIND.misused({"no file to check": "--check", "no file after the form": "--json", "no file for what is unresolved": "--unresolved"})
 BIND.fails({
     "a missing second file": ("caller missing.so", "cannot read missing.so"),
     "a second file with an error": ("caller zeros.elf", f"zeros.elf: {NO_MAGIC}"),
@@ -319,6 +346,7 @@ BIND.prints({
     "a program and two libraries of class 32": (NARROW_BOUND, data("elfbind/data/bound_32.txt")),
     "files of which nothing is missing": (f"--unresolved {WIDE_BOUND}", ""),
     "good files to check": ("--check caller libfirst.so", "caller: ok\nlibfirst.so: ok\n"),
+    "a good file to check, as JSON": ("--json --check caller", '{"file":"caller","error":null}\n'),
     "libraries to check that are found": ("--check --library-path . caller", "caller: ok\n./libfirst.so: ok\n./libsecond.so: ok\n"),
     "libraries that are found, of which nothing is missing": ("--unresolved --library-path . caller", "")})
 # All but `absent`, which is weak, are missing in the library by itself.
@@ -327,6 +355,9 @@ BIND.add("references that get no symbol", "libsecond.so", 1, "libsecond.so only 
     f"libsecond.so {name} -> unresolved{' (weak)' * (name == 'absent')}\n" for name in UNBOUND))
 BIND.add("only those that are missing", "--unresolved --alone libsecond.so", 1, "".join(
     f"libsecond.so {name} -> unresolved\n" for name in UNBOUND if name != "absent"))
+BIND.add("the same as JSON", "--json --unresolved --alone libsecond.so", 1, "".join(
+    f'{{"from":"libsecond.so","name":"{name}","version":null,"weak":false,"file":null,"value":null}}\n' for name in UNBOUND if name != "absent"))
+BIND.add("such a table to check, as JSON", f"--json --check {CHAINED}", 1, f'{{"file":"{CHAINED}","error":"Chain index is out of range"}}\n')
 BIND.add("such a table to check", f"--check {CHAINED} caller", 1, f"{CHAINED}: Chain index is out of range\ncaller: ok\n")
 BIND.add("such definitions to check", "--check --alone cut.so", 1, "cut.so: Version record is cut off\n")
 
@@ -399,10 +430,20 @@ LOAD.add("files between which glibc does not map two", "--glibc counter zeros.el
 # places.so without its section headers, by what `readelf -lW` shows of its segments; the same with the bytes of sections by symbol,
 # by `readelf -SW` and `-sW`: `alias` has the range of `last`; and a file whose section headers are cut off, by `readelf -hlW`.
 PLACES_SEGMENTS, PLACES_SYMBOLS, SHORT_SIZES = expected("places_segments"), expected("places_symbols"), expected("short")
+ODD_SIZES = replaced(PLACES_SYMBOLS.replace("places.so", "odd.so").encode(), {old[:-1]: escaped(new[:-1]) for old, new in ODD_NAMES.items()})
+# bare.so with the symbols of bare.debug, by `readelf -SW` of the one and `readelf -sW` of the other, whose sections have the same
+# indices; and without them.
+BARE_SYMBOLS = expected("bare_symbols").encode()
+BARE_SIZES = replaced(BARE_SYMBOLS, {
+    b"8 0.49% section 8 .data\n8 0.49% symbol 9 value\n4 0.24% symbol 8 outer\n": b"9 0.55% section 5 .text\n",
+    b"16 0.98% section 9": b"16 0.98% section 8 .data\n16 0.98% section 9",
+    b"2 0.12% symbol 5 last\n2 0.12% symbol 6 inner\n": b"", b"1 0.06% section 5 .text\n": b""})
 SIZE = Program(
-    "elfsize", "elfsize [--diff [--fail-above BYTES]] [--segments | --symbols] <binary_path>..", [], ["places.so"], PLACES_SIZES, PLACES)
+    "elfsize", "elfsize [--json] [--diff [--fail-above BYTES]] [--segments | --symbols [--debug DIR | --no-debug]] <binary_path>..", [],
+    ["places.so"], PLACES_SIZES, PLACES)
 SIZE.misused({
     "segments of no file": "--segments", "symbols of no file": "--symbols", "the difference of one file": "--diff places.so",
+    "no file as JSON": "--json", "no folder of debug files": "--debug", "a limit without a difference": "--fail-above 1 places.so counter",
     "the difference of three": "--diff places.so places.so places.so",
     "a limit that is no number": "--diff --fail-above x places.so places.so", "no limit": "--diff --fail-above"})
 SIZE.prints({
@@ -429,6 +470,18 @@ SIZE.fails({
     "no new file": ("--diff places.so missing.so", "cannot read missing.so"),
     "an old file of zeros": ("--diff zeros.elf places.so", f"zeros.elf: {NO_MAGIC}"),
     "such symbols of a new file": ("--diff --symbols places.so parts.so", "parts.so: Data is not a whole number of records")})
+SIZE.prints({
+    "the symbols of a debug file": ("--symbols bare.so", BARE_SYMBOLS),
+    "the symbols of a debug file in .debug": ("--symbols sub/bare.so", b"sub/" + BARE_SYMBOLS),
+    "the symbols of a debug file by its build id": ("--debug ids --symbols alone/bare.so", b"alone/" + BARE_SYMBOLS),
+    "a debug file without --symbols": ("bare.so", BARE_SIZES),
+    "no debug file for symbols": ("--symbols alone/bare.so", b"alone/" + BARE_SIZES),
+    "a debug file that is not looked for": ("--symbols --no-debug bare.so", BARE_SIZES),
+    "a difference by a debug file": ("--diff --symbols bare.so places.so", difference(BARE_SYMBOLS, PLACES_SYMBOLS.encode())),
+    "a difference by the debug file of the second": ("--symbols --diff places.so bare.so", difference(PLACES_SYMBOLS.encode(), BARE_SYMBOLS)),
+    "names that JSON has escapes for": ("--symbols odd.so", ODD_SIZES)})
+SIZE.add("another file by the build id for symbols", "--debug others --symbols bare.so", 0, BARE_SYMBOLS,
+    f"elfsize: others/{BY_ID}: not the debug file: no build id\n")
 SIZE.add("a file with an error between others", "places.so zeros.elf counter", 1, SIZES, f"elfsize: zeros.elf: {NO_MAGIC}\n")
 
 # The texts of errors and the paths are those of `ld.so`, with LD_LIBRARY_PATH and LD_TRACE_LOADED_OBJECTS=1.
@@ -463,6 +516,45 @@ def told_ends(program, built, room):
     """Each end with what was wanted and what came."""
     for name, (arguments, *wanted) in program.ends.items():
         yield name, wanted, run(built, arguments, room, program.given)
+
+
+def name_of(record: dict):
+    """A name in a JSON object, as bytes; None for null."""
+    name = record.get("name")
+    return bytes.fromhex(record["name_bytes"]) if "name_bytes" in record else name if name is None else name.encode()
+
+
+def sizes_text(records: list) -> bytes:
+    """What elfsize prints as text, by its lines as JSON."""
+    text, before = b"", None
+    for it in records:
+        words = [it["kind"].encode(), *(b"%d" % place for place in [it["index"]] if place is not None), name_of(it)]
+        part = b" ".join(escaped(word) for word in words if word is not None)
+        if "total" in it:
+            heading = b"all parts\n" if it["total"] and not (before and before["total"]) else b""
+            state = b"" if it["state"] is None else it["state"].encode() + b" "
+            line = b"%+d -> %d %s%s" % (it["difference"], it["size"], state, part)
+        else:
+            begins = before is None or before["kind"] == "sum"
+            heading = b"" if not begins else b"all files\n" if it["file"] is None else it["file"].encode() + b"\n"
+            share = b"" if it["share"] is None else b"%d.%02d%% " % divmod(it["share"], 100)
+            line = b"%d %s%s" % (it["size"], share, part)
+        text, before = text + heading + line + b"\n", it
+    return text
+
+
+# By the name of a program what it prints as text, by its lines as JSON.
+TEXT_OF = {"elfsize": sizes_text}
+
+
+def same_facts(program, built, room):
+    """Each end with `--json`: the same status and error text, and lines that Python's json reads, with the facts of the text."""
+    for name, (arguments, status, output, said) in program.ends.items():
+        if name not in ("its version", "help"):
+            came = run(built, ["--json", *arguments], room, program.given)
+            if not output.startswith(b"usage: "):
+                came[1] = TEXT_OF[program.name]([json.loads(line) for line in came[1].splitlines()])
+            yield f"{name}, as JSON", [status, output, said], came
 
 
 def unwritten_ends(program, built, room):
@@ -540,7 +632,7 @@ def unlike(program, built: pathlib.Path) -> int:
             path.parent.mkdir(parents=True, exist_ok=True)
             path.write_bytes(held)
         more = {"elfinfo": [long_ends], "elfaddr": [stack_ends, debug_ends]}
-        kinds = [told_ends, unwritten_ends, *more.get(program.name, [])]
+        kinds = [told_ends, unwritten_ends, *[same_facts][: program.name in TEXT_OF], *more.get(program.name, [])]
         return sum(is_unlike(built, *end) for ends in kinds for end in ends(program, built, room))
 
 
@@ -551,20 +643,6 @@ NAMES = (
     ("elfnm", ["names.elf"], "elfnm/data/add.o", "-sSW", {b".data": b".\x01\x7f\xc3\xff", b".bss": b"\x1f\x80\xa9_",
         b"twice": b"t\t\xfe\ne", b"total": b"\xc3\xa9\x02\x7f\x1b"}, data("elfnm/stdout")),
     ("elfsym", ["--needed", "names.elf"], "elfsym/data/needs.so", "-dW", {b"libneed.so": b"l\x01\x1f\x7f\x80\xff\xc3\t\n."}, b"libneed.so\n"))
-
-
-def escaped(name: bytes) -> bytes:
-    """The bytes of a name with its control characters escaped, as `readelf` shows names of sections and symbols."""
-    return b"".join(b"^%c" % (byte + 0x40) if byte < 0x20 or byte == 0x7F else b"%c" % byte for byte in name)
-
-
-def replaced(text: bytes, parts: dict) -> bytes:
-    """A text with each of these parts replaced, which must be in it."""
-    for old, new in parts.items():
-        if old not in text:
-            sys.exit(f"{old!r} isn't in {text[:400]!r}")
-        text = text.replace(old, new)
-    return text
 
 
 def odd_names(name, words, file, option, names, kept, builds) -> int:

@@ -43,7 +43,6 @@ FLAGS = {
     "all": "all, and stores the commit there if each is rejected",
     "store": "after --gate too: what it leaves out has not changed since the commit before",
     "proved": "after `rt ci`: no crate is checked first as it is",
-    "compile": "only whether each edit compiles, some ten seconds a batch",
     "right": "whether each right body is proved beside itself, as the wrong ones are tried",
     "compiler": "whether the compiler rejects each edit of crates/*/does-not-compile, with the error of its line `want:`",
     "doubled": "names those outside of docs/wrong_bodies.txt whose clause another edit of the function breaks, and tries nothing",
@@ -153,13 +152,13 @@ class Trial:
         print(f"{len(self.rejected)} rejected, {len(self.failed)} failed")
         return 1 if self.failed or not (self.rejected or self.may_be_empty) else 0
 
-    def alone(self, faults, what: str) -> int:
-        """Prints the faults that a function finds in a copy of each crate, one crate after the other."""
+    def try_right(self) -> int:
+        """Tries the right bodies in a copy of each crate, one crate after the other."""
         for task in self.tasks:
             with tempfile.TemporaryDirectory(prefix="wrong-bodies-") as rooms:
-                for edit, fault in faults(task, Room(self.root, task.crate, task.below, pathlib.Path(rooms, task.crate.name))):
+                for edit, fault in unproved(task, Room(self.root, task.crate, task.below, pathlib.Path(rooms, task.crate.name))):
                     self.tell(edit, "", fault)
-            print(f"{task.crate.name}: {what}", flush=True)
+            print(f"{task.crate.name}: its right bodies were tried", flush=True)
         print(f"{len(self.failed)} failed")
         return 1 if self.failed else 0
 
@@ -365,11 +364,8 @@ def main() -> int:
         return sources.ended(found, f"{len(found)} edits break a clause that another edit of the function breaks")
     since = of_gate() if given.gate else Since(given.since) if given.since else None
     trial = Trial(ROOT, given.names, max(given.jobs, 1), since, given.proved)
-    if given.compile:
-        faults = lambda task, room: ((edit, f"it does not compile: {why}") for some in task.batches for edit, why in room.uncompiled(some))
-        return trial.alone(faults, "its edits were compiled")
     if given.right:
-        return trial.alone(unproved, "its right bodies were tried")
+        return trial.try_right()
     return trial.run() or (store() if (given.all or given.gate and given.store) and not given.names else 0)
 
 

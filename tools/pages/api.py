@@ -5,13 +5,14 @@
     tools/pages/api.py --check    fails where a page isn't what the sources give, where a public item is on none, where a file of
                                   definitions doesn't say what it defines, and where crates/xmas_elf/specs/Types.antt lacks a name
 
-An item is on the page of the crate that declares it, under its public path there. At the end of elf_base's page is which
-calls return which error (tools/pages/errors.py). The clauses of other crates import the types, constants and errors of xmas_elf from Types.antt. A `pub use` passes on what a lower
-crate declares, but nothing that xmas_elf itself declares: such a name counts only where Types.antt has an `abbrev pub` of it.
+An item is on the page of the crate that declares it, under its public path there. At the end of elf_base's page is which calls return
+which error (tools/pages/errors.py). The clauses of other crates import the types, constants and errors of xmas_elf from Types.antt, where
+a `pub use` passes on nothing that xmas_elf itself declares: such a name counts only with an `abbrev pub`.
 """
 import pathlib
 import re
 import sys
+import tomllib
 
 sys.path.insert(0, str(pathlib.Path(__file__).resolve().parents[1]))
 from exports import listing
@@ -24,48 +25,9 @@ PAGES = ROOT / "docs" / "api"
 # The libraries that have a page: first those that a user names.
 LIBRARIES = ("xmas_elf", "elf_linking", "elf_library", "elf_addresses", "elf_debug", "elf_loading", "elf_search", "elf_base", "elf_records", "elf_c")
 
-TITLE = {"struct": "a struct", "enum": "an enum", "trait": "a trait", "type": "a type"}
-
-HEAD = """# The public items of `{crate}`
-
-{about}
-
-In a clause `result` is what the call returns, `self.now` the value that it is called on, `x.now` what a reference `x` points to. [CONTRACTS.md](../CONTRACTS.md#words-of-clauses) explains the other words, [MODEL.md](../MODEL.md) says where definitions are. A call with no `requires` can be called with anything. The other pages: {others}.
-"""
-
-ERRORS = """## Errors
-
-Which calls return which error, with its text. The description of a call says when it returns an error, and its clause `exact` in which order the errors are tested.
-
-`report::report` returns the error of `ElfFile::new` as `ReportFault::Elf`. The iterators over headers, `find_section_by_name`, `shstr_is` and the calls of `Extensions` return no error: they don't say why there is nothing. `SectionStrings::next` returns its errors as items.
-
-| Error | Text | Calls |
-|---|---|---|"""
-
-# What is said above the files of definitions, and of lemmas: their folder, the heads of the table, and the head.
-FILES = (
-    ("specs", ("File", "What it defines, and by which source"), """## Definitions
-
-The files of `specs`: what clauses say. A comment above each definition says what it means."""),
-    ("proofs/lemmas", ("File", "What its lemmas say", "Lemmas"), """## Lemmas
-
-For proofs of callers ([how](../../CALLING.md#lemmas)), by file of `proofs/lemmas`."""))
-
+TEXTS = tomllib.loads(pathlib.Path(__file__).with_suffix(".toml").read_text(encoding="utf-8"))
 SPECS = ROOT / "crates" / "xmas_elf" / "specs"
 TYPES, PRELUDE = SPECS / "Types.antt", SPECS / "Prelude.antt"
-
-# The enums that are called `Type`, by their module, as TYPES names them.
-TYPE_OF = {"header": "Header", "program": "Segment", "symbol_table": "Symbol"}
-
-# What xmas_elf makes public and TYPES doesn't have, and why. Traits are named by a bound alone.
-NOT_IN_TYPES = {
-    "P32": "a clause writes ℕ",
-    "P64": "a clause writes ℕ",
-    "SymbolTable": "an abbreviation can't name what its bounds mean; other crates import it from its module",
-}
-
-# What TYPES has besides, and why.
-ONLY_IN_TYPES = {"HashVerdict": "clauses on a report speak of it, and no public path leads to it"}
 
 
 def declaration(item) -> str:
@@ -167,7 +129,7 @@ class CratePage:
         if item.kind == "fn":
             self.function("###", label, item.source, item.at, "")
             return
-        self.head(f"### `{label}`, {TITLE[item.kind]}", item.doc, declaration(item), item.source, item.at)
+        self.head(f"### `{label}`, {TEXTS['title'][item.kind]}", item.doc, declaration(item), item.source, item.at)
         (self.trait if item.kind == "trait" else self.methods)(item, label)
 
     def constants(self, module: str, found: list):
@@ -194,10 +156,10 @@ class CratePage:
         if self.crate == "elf_base":
             texts, calls = errors.texts(), errors.calls_by_error()
             rows = [f"| `{name}` | {texts[name]} | {', '.join(f'`{it}`' for it in of) or 'none'} |" for name, of in calls.items()]
-            self.lines += [ERRORS, *rows, ""]
+            self.lines += [TEXTS["errors"], *rows, ""]
         self.lines += files(self.crate)
         others = ", ".join(f"[`{it}`]({it}.md)" for it in LIBRARIES if it != self.crate)
-        head = HEAD.format(crate=self.crate, about=self.sources[self.crate, ""].about(), others=others)
+        head = TEXTS["head"].format(crate=self.crate, about=self.sources[self.crate, ""].about(), others=others)
         found = re.findall(r"^## (`[\w:]+`|Errors|Definitions|Lemmas)$", "\n".join(self.lines), re.M)
         contents = "\n".join(f"- [{it}](#{anchor(it)})" for it in found)
         return re.sub(r"\n{3,}", "\n\n", "\n".join([head, contents, "", *self.lines])).rstrip() + "\n"
@@ -218,7 +180,7 @@ class CratePage:
 def files(crate: str) -> list:
     """The lines of the files of definitions and of lemmas, with the comment at the head of each."""
     lines = []
-    for folder, heads, said in FILES:
+    for folder, heads, said in (it.values() for it in TEXTS["files"]):
         rows = []
         for path in sorted(it for it in (ROOT / "crates" / crate / folder).glob("*.antt") if it.stem != "Lib"):
             text = path.read_text(encoding="utf-8")
@@ -233,8 +195,8 @@ def faults_of_types(sources: dict) -> list:
     """The names that TYPES lacks, those that it shouldn't have, and those that reach no other crate."""
     # The structs, enums, types and constants that xmas_elf makes public, as TYPES is to name them.
     found = [path.split("::")[-2:] for path, item in public_items(sources, "xmas_elf") if item.kind in ("struct", "enum", "type", "const")]
-    public = {TYPE_OF[module] + name if name in ("Type", "Type_") else name for module, name in found}
-    wanted = public - set(NOT_IN_TYPES) | set(ONLY_IN_TYPES) | set(errors.texts())
+    public = {TEXTS["type_of"][module] + name if name in ("Type", "Type_") else name for module, name in found}
+    wanted = public - set(TEXTS["not_in_types"]) | set(TEXTS["only_in_types"]) | set(errors.texts())
     # The names that their `pub use` lines pass on, each with the path behind it.
     lines = ("\n".join(re.findall(r"^pub use .*", it.read_text(encoding="utf-8"), re.M)) for it in (TYPES, PRELUDE))
     origins, behind = ({name: path for name, (path, _) in uses_in(it).items()} for it in lines)

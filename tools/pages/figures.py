@@ -4,13 +4,12 @@ measures (PATHS, by the first word of the command). The gate runs it last, and f
 
     tools/pages/figures.py
 
-A figure names its commit, its command and its machine in one line, after which more may come:
-
-    Measured at COMMIT by `COMMAND` on MACHINE.
+A figure is a line "Measured at COMMIT by `COMMAND` on MACHINE.", after which more may come.
 """
 import pathlib
 import re
 import sys
+import tomllib
 
 sys.path.insert(0, str(pathlib.Path(__file__).resolve().parents[1]))
 from compare.all import ORACLES
@@ -18,36 +17,17 @@ from pages.sources import below, crates, git
 
 PAGES = ("README.md", "CONTRIBUTING.md", "CALLING.md", "docs/*.md", "bindings/*.md", "bench/*.md")
 
-# The crate whose program or archive a comparison runs, by the name of its script.
-PROGRAMS = {it.script or name: it.needs[0].split("/")[1] for name, it in ORACLES.items() if it.needs}
 
-
-def of(crate: str, *others: str) -> tuple:
+def of(crate: str = "", others: tuple = ()) -> tuple:
     """The sources of a crate and of those below it, and other files."""
-    return (*(f"crates/{it}/src" for it in [*below(crates(), crate), crate]), f"crates/{crate}/data", *others)
+    own = (*(f"crates/{it}/src" for it in [*below(crates(), crate), crate]), f"crates/{crate}/data") if crate else ()
+    return (*own, *others)
 
 
 # What each command measures, besides a script itself.
-PATHS = {
-    "bench/run.sh": of("elf_c", "bench", "bindings/c/speed.c"),
-    "bench/layouts.sh": of("xmas_elf", "bench/here", "bench/peers"),
-    "bench/relocate.py": of("elf_c", "bench/relocate.c"),
-    "bench/library.sh": of("xmas_elf", "bench/here"),
-    "bench/plural.py": of("elf_c", "bindings/rust/src"),
-    "bench": of("xmas_elf", "bench/here", "bench/peers"),
-    "elfinfo": of("elfinfo", "bench/hostile.py"),
-    "elfsize": of("elfsize"),
-    **dict.fromkeys((r"\time", "rt"), ("crates/elf_base", "crates/elf_records", "crates/xmas_elf")),
-    **{f"tools/compare/{name}.py": of(crate) for name, crate in PROGRAMS.items()},
-    "tools/compare/rust.py": of("elfanswers", "oracle"),
-    "tools/compare/fuzz.py": of("elfanswers", "crates/elfinfo/src", "tools/compare/damage.py"),
-    "tools/compare/fuzz_bindings.py": of("elfbind", "crates/elfsym/src"),
-    **dict.fromkeys(("tools/exports/bindings.sh", "bindings/c/tests/tasks.py"), of("elf_c", "bindings/rust/src", "bindings/compare/src")),
-    "tools/exports/python.sh": of("elf_c", "bindings/python/xmas_elf", "bindings/python/speed.py"),
-    **dict.fromkeys(("tools/web/web.sh", "bindings/web/tests/page.py"), of("elf_c", "bindings/web/*.js", "bindings/web/tests", "tools/web")),
-    "tools/gate/wrong_bodies.py": ("crates", "tools/gate/edits.py"),
-    ".ci/run": ("crates", "tools"),
-}
+MEASURED = {f"tools/compare/{it.script}.py": {"crate": it.runs.split()[0]} for it in ORACLES.values()}
+MEASURED |= tomllib.loads(pathlib.Path(__file__).with_suffix(".toml").read_text(encoding="utf-8"))
+PATHS = {command: of(**it) for command, it in MEASURED.items()}
 
 FIGURE = re.compile(r"Measured at ([0-9a-f]{7,40}) by `([^`]+)` on (.+?)(?=[.:;](?:\s|$)| \(|$)")
 OTHER = r"\b[Mm]easured (at|by)\b"

@@ -1,11 +1,9 @@
 #!/usr/bin/env python3
 """Wants each code block of the pages to be in a file of the repository that the gate proves, and each link to lead somewhere.
 
-The paragraphs of a block, `rust` or `antt`, must all be in one source file of crates/, but for how their lines are broken. Of a
-paragraph of imports, `ghost use PATH.{NAME, NAME}`, the file must import each name by that path. The pages of docs/api have a script
-of their own for their blocks. A link may name a heading, or a line of a file, as `specs/Text.antt#L12`. A path to a caller that a page
-names, as `callers::first::data_named`, must lead to one; without a crate before it, it is one of elf_callers. Each caller has a doc of
-its own, which says what it shows.
+The paragraphs of a block, `rust` or `antt`, must all be in one source file of crates/, but for how their lines are broken; of imports
+the file must import each name by that path. The pages of docs/api have a script of their own. A path to a caller that a page names, as
+`callers::first::data_named`, must lead to one, by default of elf_callers. Each caller has a doc of its own, which says what it shows.
 """
 import pathlib
 import re

@@ -4,13 +4,14 @@
     tools/pages/reading.py            writes the definitions and the bytes into the page
     tools/pages/reading.py --check    fails where they aren't what the sources give; writes nothing
 
-Both print how many definitions the contracts of some calls lead to, and fail where there are more than BOUNDS has, and where no
-contract leads to a definition of a library's specs/. `<!-- read CRATE::MODULE CALL .. -->` takes each definition that the clauses of
-these calls lead to, and links to those above; `<!-- bytes FILE FIRST COUNT -->` bytes of a file, up to `<!-- end -->`.
+Both fail where the contract of a call leads to more definitions than in reading.toml, and where none leads to a definition of specs/.
+`<!-- read CRATE::MODULE CALL .. -->` takes each definition that the clauses of these calls lead to, and links to those above;
+`<!-- bytes FILE FIRST COUNT -->` bytes of a file, up to `<!-- end -->`.
 """
 import pathlib
 import re
 import sys
+import tomllib
 
 sys.path.insert(0, str(pathlib.Path(__file__).resolve().parents[1]))
 from pages.definitions import Reader
@@ -18,30 +19,7 @@ from pages.sources import ROOT, anchor, differing, ended, parser_of
 
 PAGE = ROOT / "docs" / "READING.md"
 
-# How many definitions the contract of a call may lead to, and how many lines they may have.
-BOUNDS = {
-    "xmas_elf::hash::lookup HashTable::lookup_in": (85, 290),
-    "xmas_elf::hash::check HashTable::check_in": (80, 285),
-    "elf_linking::gnu_hash::lookup GnuHashTable::lookup_in": (95, 295),
-    "elf_linking::object DynamicObject::read": (150, 600),
-    "elf_linking::object DynamicObject::find": (155, 600),
-    "elf_linking::scope Scope::bind": (210, 825),
-    "elf_linking::checked CheckedObject::find": (40, 135),
-    "elf_linking::checked::scope CheckedScope::bind": (65, 280),
-    "elf_linking::values value_by_name": (220, 900),
-    "elf_loading::plan LoadPlan::check_load": (76, 325),
-    "elf_loading::bytes LoadPlan::byte_at": (56, 200),
-    "elf_loading::bytes LoadPlan::fill": (51, 230),
-    "elf_loading::checked::image CheckedImage::relocate": (125, 550),
-    "elf_loading::checked::image CheckedImage::loads": (240, 900),
-    "elf_loading::load_scope LoadScope::words": (150, 560),
-    "elf_loading::load_scope LoadScope::check_image": (395, 1525),
-    "elf_loading::load_scope LoadScope::relocate": (390, 1525),
-    "elf_search::candidates Candidates::new": (80, 310),
-    "elf_search::cache Cache::look_up": (55, 190),
-    "elf_search::start start_order": (12, 45),
-    "elf_search::versions missing_versions": (70, 355),
-}
+BOUNDS = tomllib.loads(pathlib.Path(__file__).with_suffix(".toml").read_text(encoding="utf-8"))
 ROOM = re.compile(r"(<!-- (read|bytes) ([^>]*) -->\n).*?(<!-- end -->)", re.S)
 
 

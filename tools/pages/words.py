@@ -1,11 +1,8 @@
 #!/usr/bin/env python3
-"""Fails where a page or a comment has a word that it should not use, and prints each with its line.
+"""Fails where a page or a comment of the crates and exports has a word of WORDS, and prints each with its line. Code blocks, text in
+backquotes, link targets, comments and the generated parts of pages are not counted, since a word may be a name there.
 
     tools/pages/words.py
-
-The words are those of WORDS. A page says instead that a call returns a value or an error, that the prover rejects a body, or that
-code follows a chain. Code blocks, text in backquotes, link targets, comments and the generated parts of pages are not counted,
-since a word may be a name there. The comments of each crate count too, and those of the exports, which the header has.
 """
 import re
 import sys

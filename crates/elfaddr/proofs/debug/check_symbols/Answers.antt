@@ -1,4 +1,0 @@
-use Rattle.elfaddr.proofs.debug.check_symbols.Goals as goal
-
-pub returns-in-Ok : goal.returns-in-Ok
-returns-in-Ok c = (c.in-Some._index, c.in-Some.ensures)
