@@ -78,7 +78,7 @@ def compare_lines(path: str, is_scope: bool, queries: list[tuple[str, str]], lin
         place, _, found = said.rpartition(" ") if said != "none" else (said, "", "")
         # With a scope a line ends in the file that has the symbol.
         own, _, holds = line.rpartition(" ") if is_scope and not line.endswith(": none") else (line, "", found)
-        if found and name in other_names(found):
+        if any(name in other_names(it) for it in (found, holds if is_scope else path) if it and os.path.exists(it)):
             tally["of indirect functions, thread-local or unique"] += 1
         elif not is_scope and own.endswith(": none") and place.startswith(("elsewhere", "nowhere")):
             tally[f"{kind} found in another library"] += 1

@@ -55,7 +55,7 @@ def compare_lines(tally: Tally, path: str, text_of: Callable[[dict], str], progr
     tally["lines"] += len(objects)
     if any([*it] not in MEMBERS[text_of] for it in objects):
         tally.differ(path, f"members of {words[:2]}", {(*it,) for it in objects}, MEMBERS[text_of])
-    elif [text_of(it) for it in objects] != text.split("\n")[:-1]:
+    elif "".join(text_of(it) + "\n" for it in objects) != text:
         tally.differ(path, f"{words[:2]} as JSON", own.output, text)
     read = run(["jq", "-r", "keys_unsorted[0]"], given=own.output.encode("utf-8", "surrogateescape"))
     if read.output.splitlines() != [next(iter(it)) for it in objects]:

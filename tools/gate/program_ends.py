@@ -6,6 +6,7 @@
 Each build runs on files that are good, with an error, missing or unreadable, and into outputs that fail. elfsym must also write names of any
 bytes with the escapes of `readelf`, and elfnm as they are.
 """
+import json
 import os
 import pathlib
 import re
@@ -346,7 +347,7 @@ BIND.prints({
     "a program and two libraries of class 32": (NARROW_BOUND, data("elfbind/data/bound_32.txt")),
     "files of which nothing is missing": (f"--unresolved {WIDE_BOUND}", ""),
     "good files to check": ("--check caller libfirst.so", "caller: ok\nlibfirst.so: ok\n"),
-    "a good file to check, as JSON": ("--json --check caller", '{"file":"caller","error":null}\n'),
+    "a good file to check, as JSON": ("--json --check --alone caller", '{"file":"caller","error":null}\n'),
     "libraries to check that are found": ("--check --library-path . caller", "caller: ok\n./libfirst.so: ok\n./libsecond.so: ok\n"),
     "libraries that are found, of which nothing is missing": ("--unresolved --library-path . caller", "")})
 # All but `absent`, which is weak, are missing in the library by itself.
@@ -357,7 +358,7 @@ BIND.add("only those that are missing", "--unresolved --alone libsecond.so", 1, 
     f"libsecond.so {name} -> unresolved\n" for name in UNBOUND if name != "absent"))
 BIND.add("the same as JSON", "--json --unresolved --alone libsecond.so", 1, "".join(
     f'{{"from":"libsecond.so","name":"{name}","version":null,"weak":false,"file":null,"value":null}}\n' for name in UNBOUND if name != "absent"))
-BIND.add("such a table to check, as JSON", f"--json --check {CHAINED}", 1, f'{{"file":"{CHAINED}","error":"Chain index is out of range"}}\n')
+BIND.add("such a table to check, as JSON", f"--json --check --alone {CHAINED}", 1, f'{{"file":"{CHAINED}","error":"Chain index is out of range"}}\n')
 BIND.add("such a table to check", f"--check {CHAINED} caller", 1, f"{CHAINED}: Chain index is out of range\ncaller: ok\n")
 BIND.add("such definitions to check", "--check --alone cut.so", 1, "cut.so: Version record is cut off\n")
 
@@ -443,7 +444,7 @@ SIZE = Program(
     ["places.so"], PLACES_SIZES, PLACES)
 SIZE.misused({
     "segments of no file": "--segments", "symbols of no file": "--symbols", "the difference of one file": "--diff places.so",
-    "no file as JSON": "--json", "no folder of debug files": "--debug", "a limit without a difference": "--fail-above 1 places.so counter",
+    "no file as JSON": "--json", "a limit without a difference": "--fail-above 1 places.so counter",
     "the difference of three": "--diff places.so places.so places.so",
     "a limit that is no number": "--diff --fail-above x places.so places.so", "no limit": "--diff --fail-above"})
 SIZE.prints({
