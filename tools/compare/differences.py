@@ -136,14 +136,14 @@ def outside(tally: Tally, pair: str, text: str, kind: str, old: tuple, new: tupl
 
 
 def compare(tally: Tally, program: str, old: str, new: str) -> None:
-    for options in ([], ["--segments"], ["--symbols"]):
+    for options in ([], ["--segments"], ["--symbols", "--no-debug"]):
         reports = [run([program, *options, path]).output.encode("utf-8", "surrogateescape") for path in (old, new)]
         text = run([program, "--diff", *options, old, new]).output
         if text != difference(*reports):
             tally.fault(f"{old} {new} {options}: not the difference of the reports")
         if not options:
             outside(tally, f"{old} {new}", text, "section", sections(old), sections(new))
-        if options == ["--symbols"]:
+        if "--symbols" in options:
             outside(tally, f"{old} {new}", text, "symbol", symbols(old), symbols(new))
 
 

@@ -44,7 +44,7 @@ def compare(old, new, symbols):
         assert sum(it.difference for it in changes) == len(other.input) - len(one.input)
         assert [abs(it.difference) for it in changes] == sorted((abs(it.difference) for it in changes), reverse=True)
     if ELFSIZE.exists():
-        assert [str(it) for it in changes] == lines_of_elfsize(*["--symbols"] * symbols, old, new), (old, new)
+        assert [str(it) for it in changes] == lines_of_elfsize(*["--symbols", "--no-debug"] * symbols, old, new), (old, new)
     return changes
 
 
