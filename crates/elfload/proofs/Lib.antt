@@ -1,5 +1,4 @@
 mod Inputs
-pub mod Quiet
 mod MappingLines
 mod Written
 mod Loaded
@@ -13,6 +12,3 @@ pub mod FilePlans
 pub mod WordsEnds
 pub mod Statuses
 pub mod Prefixes
-pub mod StartSteps
-pub mod StartValues
-pub mod StartParts

@@ -1,11 +1,10 @@
 -- The program ends without a fault only for a file that would be loaded.
-use Rattle.std.proofs.Common.{◌≡◌, ℕ, Bool, List, Result, Ok, Err}
+use Rattle.std.proofs.Common.{◌≡◌, ℕ, List, Result, Ok, Err}
 use Rattle.std.specs.Borrow.{Bor}
 use Rattle.std.specs.Prelude.{IsOkAnd}
 use Rattle.elf_base.specs.FileHeader.{header_of}
 use Rattle.elfload.specs.Ends.{IsEnd}
-use Rattle.elfload.proofs.Quiet.{quiet_zero}
-use Rattle.program_ends.specs.Ends.{quiet_status_of, status_of}
+use Rattle.program_ends.specs.Ends.{status_of}
 use Rattle.elfload.specs.Plans.{IsFilePlan, IsInputLoaded, IsInputPlan, IsLoaded}
 use Rattle.elfload.specs.declared.plans.AnyError.{AnyError}
 use Rattle.program_ends.specs.declared.Fault.{Fault}
@@ -19,11 +18,7 @@ by_header page path input text (Err error) never = never
 input_loaded : (page : ℕ) (path input : Bor (List ℕ)) (text : List ℕ) → IsInputPlan page path input text → IsInputLoaded page input
 input_loaded page path input text planned = by_header page path input text (header_of input.now) planned
 
-loaded_of : (page : ℕ) (path input : Bor (List ℕ)) (end : Result (Unit {0}) (Fault AnyError))
+pub ended_loaded : (page : ℕ) (path input : Bor (List ℕ)) (end : Result (Unit {0}) (Fault AnyError))
     → IsEnd page path input end → status_of end ≡ 0 → IsInputLoaded page input
-loaded_of page path input (Ok done) is zero_is = input_loaded page path input is.0 is.1
-loaded_of page path input (Err fault) is zero_is = absurd (cc)
-
-pub ended_loaded : (page : ℕ) (path input : Bor (List ℕ)) (end : Result (Unit {0}) (Fault AnyError)) (closed : Bool)
-    → IsEnd page path input end → quiet_status_of end closed ≡ 0 → IsInputLoaded page input
-ended_loaded page path input end closed is zero_is = loaded_of page path input end is (quiet_zero end closed zero_is)
+ended_loaded page path input (Ok done) is zero_is = input_loaded page path input is.0 is.1
+ended_loaded page path input (Err fault) is zero_is = absurd (cc)

@@ -14,9 +14,3 @@ pub record IsFoundGood (narrow_record wide_record : _) (page : ℕ) (files : Lis
   pub inputs_are : AreListed files tree inputs
   pub loaded : AreLoaded page inputs
   pub checked : HasStatic inputs ⊎ AreImagesGood narrow_record wide_record page inputs
-
--- the same for the start of the program: the checks of the symbols and of the images of all files pass
-pub record IsStartGood (narrow_record wide_record : _) (page : ℕ) (files : List StoredFile) (tree : Tree) : Type 0 where
-  pub inputs : List Input
-  pub inputs_are : AreListed files tree inputs
-  pub checked : AreImagesGood narrow_record wide_record page inputs

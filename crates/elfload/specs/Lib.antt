@@ -3,8 +3,6 @@ pub mod Files
 pub mod Found
 pub mod Images
 pub mod Plans
-pub mod Records
-pub mod Starts
 pub mod Texts
 pub mod Types
 pub mod Verdicts

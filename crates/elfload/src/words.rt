@@ -149,7 +149,7 @@ fn write_item<'s, E: LinkedSymbol, W: Write>(
 }
 
 // Whether nothing is written.
-pub(crate) fn is_unchanged(value: &Value) -> bool
+fn is_unchanged(value: &Value) -> bool
     ensures { result ≡ is_unchanged value.now }
 {
     matches!(value, Value::Unchanged)
@@ -228,7 +228,7 @@ fn without_prefix(prefix: &'static str, text: &'static str) -> &'static str
 
 // What is written to a word of the object at an index.
 #[derive(Clone, Copy)]
-pub(crate) struct Written(pub(crate) usize, pub(crate) Value);
+struct Written(usize, Value);
 
 impl Display for Written {
     ghost output = { λ written. Some (value_text written.0 written.1) };
