@@ -15,7 +15,7 @@ PAGES = ("*.md", "docs/*.md", "bindings/**/*.md", "bench/*.md", "oracle/*.md", "
 OTHERS = {"node_modules", "target", "out"}
 
 WORDS = re.compile(
-    r"\b(answer(s|ed)?|refus(e|es|ed|als?)|lend(s|ing)?|lent|bears?|stands?(?! for )|judge|headlines?|walk(s|ed|ing)?|behind|roads?|houses?)\b",
+    r"\b(answer(s|ed)?|refus(e|es|ed|als?)|lend(s|ing)?|lent|bears?|stands?|judge|headlines?|walk(s|ed|ing)?|behind|roads?|houses?)\b",
     re.IGNORECASE)
 
 # A line of a comment that pages or headers may print.

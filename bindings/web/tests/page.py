@@ -273,7 +273,7 @@ def try_resize(test):
             time.sleep(0.2)
             heads, (_, rows) = page.texts(f"{PANEL} [role=columnheader]"), test.rows(20)
             test.same(f"the first column of {tab} at {width} pixels", heads[0], first)
-            test.same(f"the row 1 of {tab} at {width} pixels", rows[1][heads.index("Nr")], "1")
+            test.same(f"the number of the second line of {tab} at {width} pixels", rows[1][heads.index("Nr")], "1")
     page.resize(*SIZE)
 
 

@@ -2,7 +2,7 @@
 use Rattle.std.specs.Prelude.{◌≡◌, ◌≢◌, ◌<◌, ◌≤◌, ◌⊎◌, ℕ, ◌+◌, ◌*◌, false, List, [], ◌∷◌, ◌++◌, codes}
 use Rattle.std.specs.Fmt.{digit_glyph}
 
--- no character; or a byte that stands for itself, from 0x20 on, and neither the quotation mark nor the reverse solidus; or
+-- no character; or a byte from 0x20 on, which means itself, and neither the quotation mark nor the reverse solidus; or
 -- one of these two after a reverse solidus; or a number in four hexadecimal digits, after `\u`
 pub data Spells : List ℕ → List ℕ → Type 0 where
   empty : Spells [] []
