@@ -9,6 +9,7 @@ system and of this repository, at N addresses of each (--each). Names are counte
 A copy without symbols must have the same lines by its debug file; it, and files of the system with debug files, are compared with the
 tools at N addresses (--stripped). --changed N: N times another byte in what leads to a debug file (`compare_changed`).
 """
+import bisect
 import collections
 import glob
 import os
@@ -104,6 +105,14 @@ def by_gdb(path: str, addresses: list[int], folder: str = DEBUG) -> list[str]:
     return ["" if it.startswith("No symbol") else re.split(r" \+ \d+ in section | in section ", it)[0] for it in kept]
 
 
+def by_nm(path: str, addresses: list[int]) -> list[str]:
+    """The last symbol of `nm -n` up to the address."""
+    # Of one value they stay in the order of their names, as by `nm -n`.
+    rows = sorted(((value, name) for value, _, letter, name in nm(path) if letter not in "aANU"), key=lambda row: row[0])
+    places = [bisect.bisect_right(rows, it, key=lambda row: row[0]) - 1 for it in addresses]
+    return [rows[place][1] if place >= 0 else "" for place in places]
+
+
 def by_lines(*command: str) -> Callable[[str, list[int]], list[str]]:
     """A tool that writes two lines for each address: a name with an offset where there is one, and the source."""
 
@@ -117,7 +126,7 @@ def by_lines(*command: str) -> Callable[[str, list[int]], list[str]]:
 TOOLS = {
     "eu-addr2line": by_lines("eu-addr2line", "-S", "-e"), "gdb": by_gdb,
     "llvm-symbolizer": by_lines("llvm-symbolizer", "--functions=linkage", "--no-demangle", "--no-inlines", "--output-style=GNU", "-e"),
-    "addr2line": by_lines("addr2line", "-f", "-e")}
+    "nm": by_nm, "addr2line": by_lines("addr2line", "-f", "-e")}
 
 
 def covering(symbols: list[Symbol], name: str, address: int) -> Symbol | None:
@@ -163,7 +172,8 @@ def compare_others(elfaddr: list[str], path: str, image: Image, count: int, tabl
     tally["debug files beside tools" if is_bare else "files beside tools"] += 1
     tally["addresses by debug files beside tools" if is_bare else "addresses beside tools"] += len(addresses)
     for tool, ask in TOOLS.items():
-        if not shutil.which(tool):
+        # nm reads no debug file.
+        if not shutil.which(tool) or is_bare and tool == "nm":
             continue
         said = ask(path, addresses)
         if len(said) != len(addresses):
