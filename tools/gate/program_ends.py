@@ -444,7 +444,7 @@ SIZE = Program(
     ["places.so"], PLACES_SIZES, PLACES)
 SIZE.misused({
     "segments of no file": "--segments", "symbols of no file": "--symbols", "the difference of one file": "--diff places.so",
-    "no file as JSON": "--json", "a limit without a difference": "--fail-above 1 places.so counter",
+    "no file as JSON": "--json", "no folder of debug files": "--debug", "a limit without a difference": "--fail-above 1 places.so counter",
     "the difference of three": "--diff places.so places.so places.so",
     "a limit that is no number": "--diff --fail-above x places.so places.so", "no limit": "--diff --fail-above"})
 SIZE.prints({

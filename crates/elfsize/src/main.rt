@@ -316,15 +316,18 @@ fn with_option<'w, S: AsStr>(asked: Asked<'w>, words: &'w [S]) -> Option<(Asked<
         "--no-debug" => asked.debug = None,
         "--segments" => asked.view = View::Segments,
         "--symbols" => asked.view = View::Symbols,
+        // Without a word after it no path is left.
         "--debug" => {
-            let (folder, after) = rest.split_first()?;
-            asked.debug = Some(folder.as_str());
-            rest = after;
+            if let Some((folder, after)) = rest.split_first() {
+                asked.debug = Some(folder.as_str());
+                rest = after;
+            }
         }
         "--fail-above" => {
-            let (limit, after) = rest.split_first()?;
-            asked.limit = Some(limit.as_str());
-            rest = after;
+            if let Some((limit, after)) = rest.split_first() {
+                asked.limit = Some(limit.as_str());
+                rest = after;
+            }
         }
         _ => return None,
     }
