@@ -1,4 +1,5 @@
 mod Inputs
+pub mod Quiet
 mod MappingLines
 mod Written
 mod Loaded
@@ -12,3 +13,6 @@ pub mod FilePlans
 pub mod WordsEnds
 pub mod Statuses
 pub mod Prefixes
+pub mod StartSteps
+pub mod StartValues
+pub mod StartParts

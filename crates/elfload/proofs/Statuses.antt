@@ -10,6 +10,7 @@ use Rattle.elfload.specs.Verdicts.{AreMapped, HasVerdict, IsStatus, IsVerdictEnd
 use Rattle.elfload.specs.declared.plans.AnyError.{AnyError}
 use Rattle.linking_programs.proofs.Objects.{at_index}
 use Rattle.program_ends.specs.Ends.{status_of}
+use Rattle.program_ends.specs.declared.TheConstants.{CLOSED}
 
 module _ (by : Loader) (page : ℕ) where
   pub verdict_read : (bytes : Bor (List ℕ)) (file : ElfFile) (result : Result (Unit {0}) AnyError) → file.input ≡ bytes → header_of bytes.now ≡ Ok file.header → result ≡ verdict_within by page file (header_limit file.header) → HasVerdict by page bytes.now result
@@ -24,6 +25,11 @@ module _ (by : Loader) (page : ℕ) where
     pub whole : (status : ℕ) → ((i : ℕ) → i < length inputs → i < index) → IsStatus by page inputs index status → IsStatus by page inputs (length inputs) status
     whole status within (mapped before) = mapped (λ i below. before i (within i below))
     whole status within (failed i fault before own) = failed i fault before own
+
+    -- it isn't that of a closed output
+    pub status_open : (status : ℕ) → IsStatus by page inputs index status → status ≡ CLOSED → ⊥
+    status_open status (mapped before) is = let never : 0 ≡ 141 = is in omega (arith, never)
+    status_open status (failed i fault before at) is = let never : 1 ≡ 141 = is in omega (arith, never)
 
     module _ (input : Input) (below : index < length inputs) (input_is : input ≡ get_or inputs index input) where
       after : (end : Result (Unit {0}) (Fault AnyError)) → IsVerdictEnd by page input.path input.bytes.items end → AreMapped by page inputs index → IsStatus by page inputs (index + 1) (status_of end)

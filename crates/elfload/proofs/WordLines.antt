@@ -2,6 +2,7 @@
 use Rattle.std.proofs.lemmas.List.{map-append}
 use Rattle.std.proofs.Common.{◌≡◌, ℕ, List, [], ◌∷◌, ◌++◌, map, All, Option, Err, refl, sym, ap, ◌∙◌, subst, append_assoc, append-nil}
 use Rattle.std.specs.Prelude.{IsOk}
+use Rattle.std.specs.Io.KnownBytes.{Appends}
 use Rattle.std.specs.List.{flat_map}
 use Rattle.std.proofs.KnownBytes.{Appends-nil, Appends-trans}
 use Rattle.std.proofs.lemmas.List.Elements.{All-nil, All-push}
@@ -9,10 +10,15 @@ use Rattle.elf_loading.proofs.ImageChecks.{has_word_of}
 use Rattle.elf_loading.specs.WordsLeft.{HasWordOf, IsSame, relocation_of, relocations_left}
 use Rattle.elfload.specs.Types.{LoadError, Relocated, Relocation, Words}
 use Rattle.elfload.specs.Words.{HasKnownWord, IsItemsText, IsWordError, item_text}
+use Rattle.elfload.specs.declared.words.Place.{Place}
 use Rattle.program_ends.specs.Appended.{AppendsSome}
 use Rattle.xmas_elf.specs.Symbol.{SymbolFields}
 
-flat_map_more : {A B : Type 0} (f : A → List B) (xs : List A) (x : A) → flat_map f (xs ++ (x ∷ [])) ≡ flat_map f xs ++ f x
+-- no bytes more
+pub nothing_more : (old : Option (List ℕ)) → Appends old old []
+nothing_more old = Appends-nil old
+
+pub flat_map_more : {A B : Type 0} (f : A → List B) (xs : List A) (x : A) → flat_map f (xs ++ (x ∷ [])) ≡ flat_map f xs ++ f x
 flat_map_more f [] x = append-nil (f x)
 flat_map_more f (y ∷ ys) x = ap (λ rest. f y ++ rest) (flat_map_more f ys x) ∙ sym (append_assoc (f y) (flat_map f ys) (f x))
 
@@ -21,14 +27,14 @@ module _ {E : Type 0} {r : _} (fields : E → SymbolFields) where
   same_then one other next (objects, file, own, index, lazy) (objects2, file2, own2, index2, lazy2) =
       (objects2 ∙ objects, file2 ∙ file, own2 ∙ own, index2 ∙ index, lazy2 ∙ lazy)
 
-  module _ (machine of : ℕ) (words : Words E r) where
+  module _ (place : Place) (words : Words E r) where
     -- with these relocations left, the text is that of those before them
     pub record IsTextSoFar (left : List Relocation) (text : List ℕ) : Type 0 where
       pub items : List (Relocated E)
       pub are : relocations_left words ≡ map relocation_of items ++ left
       pub have_words : All (HasWordOf fields words) items
       pub known : All HasKnownWord items
-      pub text_is : text ≡ flat_map (item_text machine of) items
+      pub text_is : text ≡ flat_map (item_text place) items
 
     -- the same of an iterator that has come this far
     pub record AreLinesSoFar (now : Words E r) (old new : Option (List ℕ)) : Type 0 where
@@ -42,7 +48,7 @@ module _ {E : Type 0} {r : _} (fields : E → SymbolFields) where
     })
 
     module _ (now next : Words E r) (item : Relocated E) (old before : Option (List ℕ)) (so_far : AreLinesSoFar now old before) (first : relocations_left now ≡ relocation_of item ∷ relocations_left next) (is : HasWordOf fields now item) where
-      pub lines_more : (after : Option (List ℕ)) → IsSame now next → IsOk item.word → AppendsSome (λ text. text ≡ item_text machine of item) before after → AreLinesSoFar next old after
+      pub lines_more : (after : Option (List ℕ)) → IsSame now next → IsOk item.word → AppendsSome (λ text. text ≡ item_text place item) before after → AreLinesSoFar next old after
       lines_more after same known (line, line_is, more) =
           let (text, done, grown) = so_far.written in
           record {
@@ -56,8 +62,8 @@ module _ {E : Type 0} {r : _} (fields : E → SymbolFields) where
                     ∙ ap (λ front. front ++ relocations_left next) (sym (map-append relocation_of done.items (item ∷ [])));
                 have_words = All-push (HasWordOf fields words) done.items item done.have_words (has_word_of fields words now item so_far.same is);
                 known = All-push HasKnownWord done.items item done.known known;
-                text_is = ap (λ front. front ++ line) done.text_is ∙ ap (λ last. flat_map (item_text machine of) done.items ++ last) line_is
-                    ∙ sym (flat_map_more (item_text machine of) done.items item);
+                text_is = ap (λ front. front ++ line) done.text_is ∙ ap (λ last. flat_map (item_text place) done.items ++ last) line_is
+                    ∙ sym (flat_map_more (item_text place) done.items item);
               },
               Appends-trans _ _ _ _ _ grown more,
             );
@@ -76,7 +82,7 @@ module _ {E : Type 0} {r : _} (fields : E → SymbolFields) where
             word_is = word;
           }
 
-    pub lines_end : (now : Words E r) (old new : Option (List ℕ)) → relocations_left now ≡ [] → AreLinesSoFar now old new → AppendsSome (IsItemsText fields machine of words) old new
+    pub lines_end : (now : Words E r) (old new : Option (List ℕ)) → relocations_left now ≡ [] → AreLinesSoFar now old new → AppendsSome (IsItemsText fields place words) old new
     lines_end now old new end so_far =
         let (text, done, grown) = so_far.written in (
           text,

@@ -1,8 +1,9 @@
 -- How the program ends for the words of files of one class.
-use Rattle.std.proofs.Common.{◌≡◌, ℕ, List, Result, Ok, Err, sym, subst}
+use Rattle.std.proofs.Common.{◌≡◌, ℕ, Bool, List, Result, Ok, Err, sym, subst}
 use Rattle.std.specs.Prelude.{IfErr, MatchResult, OnOk, ⊤}
 use Rattle.elfload.specs.Ends.{AreFailed, IsWordsEnd, IsWordsEndOf, narrow, stopped, wide, words_fault_of, written}
-use Rattle.program_ends.specs.Ends.{status_of}
+use Rattle.program_ends.specs.Ends.{quiet_status_of, status_of}
+use Rattle.elfload.proofs.Quiet.{quiet_zero}
 use Rattle.elfload.specs.Images as images
 use Rattle.elfload.specs.Images.{AreImagesGood, AreInputsChecked}
 use Rattle.elfload.specs.declared.plans.AnyError.{AnyError}
@@ -26,6 +27,6 @@ good_of : {E : Type 0} (r : _) (fields : E → SymbolFields) (class size : ℕ) 
 good_of r fields class size options inputs end (written checked) zero_is = checked
 good_of r fields class size options inputs end (stopped stop why) zero_is = absurd (cc)
 
-pub ended_good : (narrow_record wide_record : _) (options : Options) (inputs : List Input) (end : Result (Unit {0}) (Fault AnyError)) → IsWordsEnd narrow_record wide_record options inputs end → status_of end ≡ 0 → AreImagesGood narrow_record wide_record options.page inputs
-ended_good narrow_record wide_record options inputs end (narrow is ended) zero_is = images.narrow is (good_of _ _ _ _ options inputs end ended zero_is)
-ended_good narrow_record wide_record options inputs end (wide is ended) zero_is = images.wide is (good_of _ _ _ _ options inputs end ended zero_is)
+pub ended_good : (narrow_record wide_record : _) (options : Options) (inputs : List Input) (end : Result (Unit {0}) (Fault AnyError)) (closed : Bool) → IsWordsEnd narrow_record wide_record options inputs end → quiet_status_of end closed ≡ 0 → AreImagesGood narrow_record wide_record options.page inputs
+ended_good narrow_record wide_record options inputs end closed (narrow is ended) zero_is = images.narrow is (good_of _ _ _ _ options inputs end ended (quiet_zero end closed zero_is))
+ended_good narrow_record wide_record options inputs end closed (wide is ended) zero_is = images.wide is (good_of _ _ _ _ options inputs end ended (quiet_zero end closed zero_is))

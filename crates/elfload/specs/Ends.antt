@@ -1,11 +1,15 @@
 -- How the program ends (this project's own).
-use Rattle.std.specs.Prelude.{◌≡◌, ℕ, true, false, List, Result, Ok, Err, ⊤}
+use Rattle.std.specs.Prelude.{◌≡◌, ℕ, true, false, List, Option, Some, None, Result, Ok, Err, ⊤}
 use Rattle.std.specs.Borrow.{Bor}
-use Rattle.elfload.specs.Types.{DynamicObject, Fault, Input, LinkError, LoadError, LoadPlan, Failed}
+use Rattle.std.specs.List.{flat_map}
+use Rattle.elfload.specs.Types.{Binding, DynamicObject, Fault, Input, LinkError, LoadError, LoadPlan, Failed}
 use Rattle.elf_loading.specs.declared.error.LoadError.TheVariants.{Link}
 use Rattle.elfload.specs.Images.{AreAllChecked, AreInputsChecked, ArePlansOf, IsImageError, IsPlanMissing}
 use Rattle.elfload.specs.Plans.{IsInputLoaded, IsInputPlan, IsInputError as IsPlanError}
-use Rattle.elfload.specs.Words.{IsTextFailed}
+use Rattle.elfload.specs.Starts.{AreStartsFailed, AreStartsOf, start_line}
+use Rattle.elfload.specs.Words.{AreWordsWritten, IsTextFailed}
+use Rattle.elfload.specs.declared.starts.Start.{Start}
+use Rattle.elfload.specs.declared.starts.Step.{Step}
 use Rattle.elfload.specs.declared.Options.{Options}
 use Rattle.elfload.specs.declared.plans.AnyError.{AnyError}
 use Rattle.elfload.specs.declared.plans.AnyError.TheVariants.{Load}
@@ -16,6 +20,7 @@ use Rattle.program_ends.specs.Stops.{HasBegun, IsStop}
 use Rattle.program_ends.specs.declared.Fault.TheVariants as faults_are
 use Rattle.program_ends.specs.declared.Stop as stops
 use Rattle.program_ends.specs.declared.Stop.TheVariants as stops_are
+use Rattle.program_ends.specs.declared.json.Form.{Form}
 use Rattle.xmas_elf.specs.Symbol.{SymbolFields, dyn_entry_32_fields, dyn_entry_64_fields}
 use Rattle.xmas_elf.specs.Types.{DynEntry32, DynEntry64}
 
@@ -28,15 +33,37 @@ IsFault path Fails Written fault =
     (stop : stops.Stop AnyError) × IsStop Fails Written ⊤ stop × (fault ≡ fault_of path stop)
 
 -- how far the program has come when a write fails
-abbrev pub IsBegun : ℕ → Bor (List ℕ) → Bor (List ℕ) → Type 0
-IsBegun page path input = HasBegun (IsInputLoaded page input) (AppendsSome (IsInputPlan page path input))
+abbrev pub IsBegun : Form → ℕ → Bor (List ℕ) → Bor (List ℕ) → Type 0
+IsBegun form page path input = HasBegun (IsInputLoaded page input) (AppendsSome (IsInputPlan form page path input))
 
 -- how the program ends for the file at a path: there is a text of its plan, or the fault
-abbrev pub IsEnd : ℕ → Bor (List ℕ) → Bor (List ℕ) → Result (Unit {0}) (Fault AnyError) → Type 0
-IsEnd page path input (Ok done) = (text : List ℕ) × IsInputPlan page path input text
-IsEnd page path input (Err fault) = IsFault path (IsPlanError page input) (IsBegun page path input) fault
+abbrev pub IsEnd : Form → ℕ → Bor (List ℕ) → Bor (List ℕ) → Result (Unit {0}) (Fault AnyError) → Type 0
+IsEnd form page path input (Ok done) = (text : List ℕ) × IsInputPlan form page path input text
+IsEnd form page path input (Err fault) = IsFault path (IsPlanError page input) (IsBegun form page path input) fault
 
--- The words of all files.
+-- The words of all files, or the functions that run when a program starts.
+
+-- the text of the functions that run in some steps
+pub record IsStartText {E : Type 0} {r : _} (fields : E → SymbolFields) (form : Form) (inputs : List Input) (objects : List (DynamicObject E r)) (steps : List Step) (text : List ℕ) : Type 0 where
+  pub starts : List Start
+  pub starts_are : AreStartsOf fields inputs objects steps starts
+  pub text_is : text ≡ flat_map (start_line form) starts
+
+-- what is written: the words, or the functions of these steps
+abbrev pub IsWrittenBy : {E : Type 0} → {r : _} → (E → SymbolFields) → Binding → Form → List Input → List (DynamicObject E r) → Option (Bor (List Step)) → List ℕ → Type 0
+IsWrittenBy fields when form inputs objects None = AreWordsWritten fields form when inputs objects
+IsWrittenBy fields when form inputs objects (Some steps) = IsStartText fields form inputs objects steps.now
+
+abbrev pub IsWritten : {E : Type 0} → {r : _} → (E → SymbolFields) → Options → List Input → List (DynamicObject E r) → List ℕ → Type 0
+IsWritten fields options inputs objects = IsWrittenBy fields options.when options.form inputs objects options.steps
+
+-- why it is not
+abbrev pub IsFailedBy : {E : Type 0} → {r : _} → (E → SymbolFields) → Binding → List Input → List (DynamicObject E r) → Option (Bor (List Step)) → Failed LoadError → Type 0
+IsFailedBy fields when inputs objects None = IsTextFailed fields when inputs objects
+IsFailedBy fields when inputs objects (Some steps) = AreStartsFailed fields inputs objects steps.now
+
+abbrev pub IsWritingFailed : {E : Type 0} → {r : _} → (E → SymbolFields) → Options → List Input → List (DynamicObject E r) → Failed LoadError → Type 0
+IsWritingFailed fields options inputs objects = IsFailedBy fields options.when inputs objects options.steps
 
 -- what the program says where the words aren't written to their end
 abbrev pub words_fault_of : stops.Stop (Failed LoadError) → Fault AnyError
@@ -64,7 +91,7 @@ pub data AreFailed {E : Type 0} (r : _) (fields : E → SymbolFields) (class siz
       → AreFailed r fields class size options inputs failed
   by_text : (objects : List (DynamicObject E r)) (plans : List LoadPlan) → AreObjectsOf class size inputs objects
       → ArePlansOf options.page objects plans → AreAllChecked size fields objects plans
-      → IsTextFailed fields options.when inputs objects failed
+      → IsWritingFailed fields options inputs objects failed
       → AreFailed r fields class size options inputs failed
 
 -- how the program ends for the words of files of one class: all pass their checks; or what it says

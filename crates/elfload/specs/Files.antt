@@ -1,12 +1,12 @@
 -- The files that the program is given, and their objects (this project's own).
-use Rattle.std.specs.Prelude.{◌≡◌, ℕ, List, IfSome, IsSomeAnd, None, Ok, Err, slice_get}
+use Rattle.std.specs.Prelude.{◌≡◌, ℕ, List, IfSome, IsSomeAnd, is_some, true, None, Ok, Err, slice_get}
 use Rattle.std.specs.Borrow.{Bor}
 use Rattle.elf_base.specs.FileHeader.{header_of}
 use Rattle.elfload.specs.Types.{ElfError, ElfFile, Input}
 use Rattle.elf_linking.specs.DynamicView.{dynamic_segment_of}
 use Rattle.elfload.specs.Plans.{IsInputLoaded}
 
--- Linux and glibc would load the file that these bytes are, with pages of a size
+-- the file that these bytes are has a plan, with pages of a size
 abbrev pub AreBytesLoaded : ℕ → List ℕ → Type 0
 AreBytesLoaded page bytes = (input : Bor (List ℕ)) × (input.now ≡ bytes) × IsInputLoaded page input
 
@@ -19,6 +19,17 @@ pub data AreStatic (bytes : List ℕ) : Type 0 where
   no_file : (error : ElfError) → header_of bytes ≡ Err error → AreStatic bytes
   no_segment : (file : ElfFile) → file.input.now ≡ bytes → header_of bytes ≡ Ok file.header
       → dynamic_segment_of file ≡ None → AreStatic bytes
+
+-- bytes are a file with a dynamic segment
+pub record AreDynamic (bytes : List ℕ) : Type 0 where
+  pub file : ElfFile
+  pub input_is : file.input.now ≡ bytes
+  pub header_is : header_of bytes ≡ Ok file.header
+  pub has_segment : is_some (dynamic_segment_of file) ≡ true
+
+-- the same of each input
+abbrev pub AreAllDynamic : List Input → Type 0
+AreAllDynamic inputs = (i : ℕ) → IfSome (slice_get inputs i) (λ input. AreDynamic input.bytes.items)
 
 -- one of the inputs is no file with a dynamic segment
 pub record HasStatic (inputs : List Input) : Type 0 where

@@ -1,12 +1,12 @@
 -- Whether the words of files can be written to their memory (this project's own).
-use Rattle.std.specs.Prelude.{◌≡◌, ◌<◌, ℕ, true, false, List, length, IsSomeAnd, MatchOption, Some, Ok, Err, slice_get, take}
+use Rattle.std.specs.Prelude.{◌≡◌, ◌<◌, ◌≤◌, ℕ, true, false, List, length, IsSomeAnd, MatchOption, Some, Ok, Err, slice_get, take}
 use Rattle.std.specs.List.{AllZip}
 use Rattle.elf_linking.specs.Checked.{AreChecked}
 use Rattle.elf_linking.specs.DynamicObject.{object_dynamic_symbols, object_file}
 use Rattle.elfload.specs.Types.{DynamicObject, Input, LinkError, LoadError, LoadPlan, Failed}
 use Rattle.elf_loading.specs.FileCheck.{check_file}
 use Rattle.elf_loading.specs.ImageWords.{IsImageCheck}
-use Rattle.elf_loading.specs.Plan.{IsPlanOf}
+use Rattle.elf_loading.specs.Plan.{IsPlanOf, plan_size}
 use Rattle.elf_loading.specs.declared.error.LoadError.TheVariants.{Link, Machine}
 use Rattle.linking_programs.specs.Checks.{IsGood}
 use Rattle.linking_programs.specs.Files.{AreObjectsOf, IsOfInput, is_first_narrow}
@@ -25,7 +25,7 @@ IsPlanFor page object plan = let file = object_file object in
 abbrev pub ArePlansOf : {E : Type 0} → {r : _} → ℕ → List (DynamicObject E r) → List LoadPlan → Type 0
 ArePlansOf page objects plans = AllZip (IsPlanFor page) objects plans
 
--- why a file has no plan: the end of addresses of its machine isn't known, or Linux or glibc would not load it
+-- why a file has no plan: the end of addresses of its machine isn't known, or `check_load` has this error
 abbrev pub LacksPlan : ℕ → ElfFile → LoadError → Type 0
 LacksPlan page file error = MatchOption (header_limit file.header) (error ≡ Machine)
     (λ limit. check_file file page limit ≡ Err error)
@@ -53,11 +53,21 @@ pub record IsChecked {E : Type 0} {r : _} (size : ℕ) (fields : E → SymbolFie
   pub good : IsGood (object_dynamic_symbols fields object)
   pub image : IsImageGood size fields objects plans index
 
--- why the object at an index does not pass: by its symbols, or its words
+-- these marks are enough for the plan at an index
+abbrev pub AreEnough : List LoadPlan → ℕ → ℕ → Type 0
+AreEnough plans index bits = IsSomeAnd (slice_get plans index) (λ plan. plan_size plan ≤ bits)
+
+-- why the image of the object at an index does not pass the check, with as many marks as are enough
+abbrev pub IsWordsError : {E : Type 0} → {r : _} → ℕ → (E → SymbolFields) → List (DynamicObject E r) → List LoadPlan → ℕ → LoadError → Type 0
+IsWordsError size fields objects plans index error =
+    (bits : ℕ) × AreEnough plans index bits × IsImageCheck size fields objects plans index bits (Err error)
+
+-- why the object at an index does not pass: by its symbols; or, if these pass, by its words
 pub data IsCheckError {E : Type 0} {r : _} (size : ℕ) (fields : E → SymbolFields) (objects : List (DynamicObject E r)) (plans : List LoadPlan) (index : ℕ) : LoadError → Type 0 where
   by_symbols : (object : DynamicObject E r) (error : LinkError) → slice_get objects index ≡ Some object
       → AreChecked (object_dynamic_symbols fields object) (Err error) → IsCheckError size fields objects plans index (Link error)
-  by_words : (bits : ℕ) (error : LoadError) → IsImageCheck size fields objects plans index bits (Err error)
+  by_words : (object : DynamicObject E r) (error : LoadError) → slice_get objects index ≡ Some object
+      → IsGood (object_dynamic_symbols fields object) → IsWordsError size fields objects plans index error
       → IsCheckError size fields objects plans index error
 
 -- the error of the input at an index is that of its object

@@ -2,7 +2,10 @@ pub mod Ends
 pub mod Files
 pub mod Found
 pub mod Images
+pub mod PlanRecords
 pub mod Plans
+pub mod Records
+pub mod Starts
 pub mod Texts
 pub mod Types
 pub mod Verdicts

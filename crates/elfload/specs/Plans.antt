@@ -1,5 +1,5 @@
 -- What the program writes of a file (this project's own): its header, and its plan for both loaders.
-use Rattle.std.specs.Prelude.{◌≡◌, ℕ, ◌++◌, ◌==◌, ◌&&◌, ◌||◌, ◌*◌, List, Option, Some, None, Err, codes, IsOk, MatchOption, if◌then◌else◌, option_map}
+use Rattle.std.specs.Prelude.{◌≡◌, ℕ, ◌++◌, ◌==◌, ◌&&◌, ◌||◌, ◌*◌, List, Option, Some, None, Err, codes, IsOk, IsSomeAnd, MatchOption, if◌then◌else◌, option_map}
 use Rattle.std.specs.Borrow.{Bor}
 use Rattle.elf_base.specs.FileHeader.{file_class, header_fields, header_of, machine_number}
 use Rattle.elf_base.specs.Text.{EndsInZero}
@@ -9,12 +9,15 @@ use Rattle.elf_loading.specs.Mappings.{mappings_of}
 use Rattle.elf_loading.specs.Segments.{interpreter_of, loads_of, relro_of, stack_of, tls_of}
 use Rattle.elf_loading.specs.Spans.{relro_span, span_of}
 use Rattle.elf_loading.specs.declared.mapping.Loader.TheVariants.{Glibc, Kernel}
+use Rattle.elfload.specs.PlanRecords.{head_record, mapping_records, rest_record}
 use Rattle.elfload.specs.Texts.{head_text, mappings_text}
 use Rattle.elfload.specs.declared.plans.Head.{Head}
 use Rattle.elfload.specs.declared.plans.AnyError as failures
 use Rattle.elfload.specs.declared.plans.AnyError.TheVariants as failures_are
 use Rattle.linking_programs.specs.Files.{OfHeader}
 use Rattle.program_ends.specs.Names.{escaped}
+use Rattle.program_ends.specs.declared.json.Form.{Form}
+use Rattle.program_ends.specs.declared.json.Form.TheVariants.{Json, Text}
 use Rattle.xmas_elf.specs.Types.{ElfFile, Header}
 
 -- the number of a machine (e_machine)
@@ -69,15 +72,36 @@ pub record IsPlanText (page : ℕ) (path : Bor (List ℕ)) (file : ElfFile) (tex
   pub text_is : text ≡ head_text (head_of page path file)
       ++ (interpreter ++ (codes "\nkernel\n" ++ (lines_by Kernel page file ++ (codes "glibc\n" ++ lines_by Glibc page file))))
 
--- Linux and glibc would load a file, with pages of a size
+-- the path of the interpreter, if there is one
+abbrev pub IsInterpreter : ElfFile → Option (List ℕ) → Type 0
+IsInterpreter file None = interpreter_of file ≡ None
+IsInterpreter file (Some path) = IsSomeAnd (interpreter_of file) (λ segment. EndsInZero file.input.now segment.offset path)
+
+-- the mappings of a file as JSON, as a loader makes them
+abbrev pub records_by : Loader → List ℕ → List ℕ → ℕ → ElfFile → List ℕ
+records_by by path name page file = mapping_records path name (mappings_of page by None (loads_of file))
+
+-- the plan of a file as JSON
+pub record IsPlanRecords (page : ℕ) (path : Bor (List ℕ)) (file : ElfFile) (text : List ℕ) : Type 0 where
+  pub interpreter : Option (List ℕ)
+  pub interpreter_is : IsInterpreter file interpreter
+  pub text_is : text ≡ head_record (head_of page path file) ++ (rest_record (head_of page path file) interpreter
+      ++ (records_by Kernel path.now (codes "kernel") page file ++ records_by Glibc path.now (codes "glibc") page file))
+
+-- the plan of a file in a form
+abbrev pub IsPlanIn : Form → ℕ → Bor (List ℕ) → ElfFile → List ℕ → Type 0
+IsPlanIn Text page path file = IsPlanText page path file
+IsPlanIn Json page path file = IsPlanRecords page path file
+
+-- a file has a plan (`check_load`), with pages of a size
 pub record IsLoaded (page : ℕ) (file : ElfFile) : Type 0 where
   pub limit : ℕ
   pub limit_is : header_limit file.header ≡ Some limit
   pub checked : IsOk (check_file file page limit)
 
--- they would load it, and this is the text of its plan
-abbrev pub IsFilePlan : ℕ → Bor (List ℕ) → ElfFile → List ℕ → Type 0
-IsFilePlan page path file text = IsLoaded page file × IsPlanText page path file text
+-- a file has a plan, and this is its text
+abbrev pub IsFilePlan : Form → ℕ → Bor (List ℕ) → ElfFile → List ℕ → Type 0
+IsFilePlan form page path file text = IsLoaded page file × IsPlanIn form page path file text
 
 -- why a file has no plan: its machine has no limit of addresses here, or an error of its check
 pub data IsFileError (page : ℕ) (file : ElfFile) : failures.AnyError → Type 0 where
@@ -87,11 +111,11 @@ pub data IsFileError (page : ℕ) (file : ElfFile) : failures.AnyError → Type 
 
 -- The same of an input.
 
--- an input is a file that Linux and glibc would load, and this is the text of its plan
-abbrev pub IsInputPlan : ℕ → Bor (List ℕ) → Bor (List ℕ) → List ℕ → Type 0
-IsInputPlan page path input text = OfHeader input (λ file. IsFilePlan page path file text)
+-- an input is a file with a plan, and this is its text
+abbrev pub IsInputPlan : Form → ℕ → Bor (List ℕ) → Bor (List ℕ) → List ℕ → Type 0
+IsInputPlan form page path input text = OfHeader input (λ file. IsFilePlan form page path file text)
 
--- an input is a file that Linux and glibc would load
+-- an input is a file with a plan
 abbrev pub IsInputLoaded : ℕ → Bor (List ℕ) → Type 0
 IsInputLoaded page input = OfHeader input (IsLoaded page)
 

@@ -1,5 +1,5 @@
 -- Whether one loader maps each file (this project's own).
-use Rattle.std.specs.Prelude.{◌≡◌, ◌<◌, ◌++◌, ℕ, List, Option, Some, None, Result, Ok, Err, IfSome, IsSomeAnd, codes, slice_get}
+use Rattle.std.specs.Prelude.{◌≡◌, ◌<◌, ◌++◌, ℕ, true, [], ◌∷◌, List, Option, Some, None, Result, Ok, Err, IfSome, IsSomeAnd, codes, slice_get}
 use Rattle.std.specs.Borrow.{Bor}
 use Rattle.elf_base.specs.FileHeader.{header_of}
 use Rattle.elf_loading.specs.LoaderCheck.{check_by}
@@ -9,6 +9,10 @@ use Rattle.elfload.specs.Types.{ElfError, ElfFile, Fault, Input, LoadError, Load
 use Rattle.elfload.specs.declared.plans.AnyError.{AnyError}
 use Rattle.elfload.specs.declared.plans.AnyError.TheVariants.{Elf, Load, Machine}
 use Rattle.program_ends.specs.declared.Fault.TheVariants as faults
+use Rattle.program_ends.specs.Json.{json_line, member, text_value}
+use Rattle.program_ends.specs.declared.json.Form.{Form}
+use Rattle.program_ends.specs.declared.json.Form.TheVariants.{Json, Text}
+use Rattle.program_ends.specs.declared.json.Value.TheVariants.{Bool}
 use Rattle.xmas_elf.specs.Types.{Header}
 
 -- the option that asks for a loader alone
@@ -36,9 +40,13 @@ abbrev pub HasVerdict : Loader → ℕ → List ℕ → Result (Unit {0}) AnyErr
 HasVerdict by page bytes verdict =
     (input : Bor (List ℕ)) × (input.now ≡ bytes) × (verdict ≡ verdict_of by page input (header_of input.now))
 
--- the line of a file that is mapped
-abbrev pub IsMappedLine : List ℕ → List ℕ → Type 0
-IsMappedLine path text = text ≡ path ++ codes ": loads: yes\n"
+-- the line of a file that is mapped, in a form
+abbrev pub mapped_line : Form → List ℕ → List ℕ
+mapped_line Text path = path ++ codes ": loads: yes\n"
+mapped_line Json path = json_line (member (codes "file") (text_value path) ∷ member (codes "loads") (Bool true) ∷ [])
+
+abbrev pub IsMappedLine : Form → List ℕ → List ℕ → Type 0
+IsMappedLine form path text = text ≡ mapped_line form path
 
 -- how the program ends for the file at a path: it is mapped; or it has this error; or its line can't be written
 abbrev pub IsVerdictEnd : Loader → ℕ → Bor (List ℕ) → List ℕ → Result (Unit {0}) (Fault AnyError) → Type 0

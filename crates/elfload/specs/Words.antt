@@ -1,4 +1,4 @@
--- What the program writes of words (this project's own): a line for each that is written, free of bases.
+-- What the program writes of words (this project's own): a line for each that is written, free of bases, as text or as JSON.
 use Rattle.std.specs.Prelude.{◌≡◌, ℕ, ◌++◌, ◌==◌, nat_eq, Bool, true, false, [], ◌∷◌, List, Option, Some, None, Result, Ok, Err, All, map, codes, decimal, drop, length, slice_get, IsOk, IsSomeAnd, if◌then◌else◌}
 use Rattle.std.specs.Borrow.{Bor}
 use Rattle.std.specs.List.{flat_map, starts_with}
@@ -11,7 +11,13 @@ use Rattle.elf_loading.specs.declared.error.LoadError.TheVariants.{Link}
 use Rattle.elf_loading.specs.declared.value.Origin.TheVariants.{Base, Call, Zero}
 use Rattle.elf_loading.specs.declared.value.Value.TheVariants as values
 use Rattle.linking_programs.specs.Files.{IsOfInput}
+use Rattle.elfload.specs.Records.{text_or_null, value_members}
 use Rattle.elfload.specs.Texts.{hex}
+use Rattle.elfload.specs.declared.words.Place.{Place}
+use Rattle.program_ends.specs.Json.{json_line, member, text_value}
+use Rattle.program_ends.specs.declared.json.Form.{Form}
+use Rattle.program_ends.specs.declared.json.Form.TheVariants.{Json, Text}
+use Rattle.program_ends.specs.declared.json.Value.TheVariants.{Number}
 use Rattle.xmas_elf.specs.Symbol.{SymbolFields}
 
 -- The text of a word.
@@ -57,10 +63,26 @@ abbrev pub name_text : ℕ → ℕ → List ℕ
 name_text machine kind = name_text_of machine kind (relocation_name machine kind)
 
 -- the line of a word of the object at an index, in a file for a machine
-abbrev pub line_text : ℕ → ℕ → ℕ → Word → List ℕ
-line_text machine kind of word =
+abbrev pub word_text : ℕ → ℕ → ℕ → Word → List ℕ
+word_text machine kind of word =
     codes "word 0x" ++ (hex word.address ++ (codes " " ++ (decimal word.width ++ (codes " " ++ (name_text machine kind
     ++ (codes " = " ++ (value_text of word.value ++ codes "\n")))))))
+
+-- the same as JSON, with the path of the file, and the number and the name of the type
+abbrev pub word_record : List ℕ → ℕ → ℕ → Word → List ℕ
+word_record path machine kind word = json_line (member (codes "file") (text_value path)
+    ∷ member (codes "word") (Number word.address) ∷ member (codes "width") (Number word.width)
+    ∷ member (codes "type") (Number kind) ∷ member (codes "name") (text_or_null (relocation_name machine kind))
+    ∷ value_members word.value)
+
+-- the line of a word in a form
+abbrev pub line_in : Form → List ℕ → ℕ → ℕ → ℕ → Word → List ℕ
+line_in Text path machine of kind word = word_text machine kind of word
+line_in Json path machine of kind word = word_record path machine kind word
+
+-- the same, of a relocation of a type
+abbrev pub line_text : Place → ℕ → Word → List ℕ
+line_text place kind word = line_in place.form place.path.now place.machine place.of kind word
 
 -- nothing is written
 abbrev pub is_unchanged : Value → Bool
@@ -68,17 +90,22 @@ is_unchanged values.Unchanged = true
 is_unchanged _ = false
 
 -- the text of a relocation: none if its word is not known
-abbrev pub result_text : ℕ → ℕ → ℕ → Result Word LoadError → List ℕ
-result_text machine kind of (Ok word) = if is_unchanged word.value then [] else line_text machine kind of word
-result_text machine kind of (Err error) = []
+abbrev pub result_text : Place → ℕ → Result Word LoadError → List ℕ
+result_text place kind (Ok word) = if is_unchanged word.value then [] else line_text place kind word
+result_text place kind (Err error) = []
 
 -- the same of an item
-abbrev pub item_text : {E : Type 0} → ℕ → ℕ → Relocated E → List ℕ
-item_text machine of item = result_text machine item.relocation.reference.kind of item.word
+abbrev pub item_text : {E : Type 0} → Place → Relocated E → List ℕ
+item_text place item = result_text place item.relocation.reference.kind item.word
 
 -- the line with the path of a file, before its words
 abbrev pub path_text : List ℕ → List ℕ
 path_text path = codes "words " ++ (path ++ codes "\n")
+
+-- the same in a form: JSON has no such line
+abbrev pub heading_text : Form → List ℕ → List ℕ
+heading_text Text path = path_text path
+heading_text Json path = []
 
 -- What is written of the relocations of an object.
 
@@ -92,11 +119,11 @@ pub record AreItemsOf {E : Type 0} {r : _} (fields : E → SymbolFields) (words 
   pub have_words : All (HasWordOf fields words) items
   pub known : All HasKnownWord items
 
--- the text of the relocations that are left, of the object at index `of` in a file for a machine
-pub record IsItemsText {E : Type 0} {r : _} (fields : E → SymbolFields) (machine of : ℕ) (words : Words E r) (text : List ℕ) : Type 0 where
+-- the text of the relocations that are left
+pub record IsItemsText {E : Type 0} {r : _} (fields : E → SymbolFields) (place : Place) (words : Words E r) (text : List ℕ) : Type 0 where
   pub items : List (Relocated E)
   pub items_are : AreItemsOf fields words items
-  pub text_is : text ≡ flat_map (item_text machine of) items
+  pub text_is : text ≡ flat_map (item_text place) items
 
 -- the first relocation that is left whose word is not known, and why
 pub record IsWordError {E : Type 0} {r : _} (fields : E → SymbolFields) (words : Words E r) (error : LoadError) : Type 0 where
@@ -108,16 +135,21 @@ pub record IsWordError {E : Type 0} {r : _} (fields : E → SymbolFields) (words
   pub has_word : HasWordOf fields words item
   pub word_is : item.word ≡ Err error
 
--- the text of the object at an index: the path of its file, and its words
-pub record IsObjectText {E : Type 0} {r : _} (fields : E → SymbolFields) (when : Binding) (inputs : List Input) (objects : List (DynamicObject E r)) (of : ℕ) (object : DynamicObject E r) (text : List ℕ) : Type 0 where
+-- how the lines of the object at an index are written, in a file at a path for a machine
+abbrev pub place_of : Form → Bor (List ℕ) → ℕ → ℕ → Place
+place_of form path machine of = record { form = form; path = path; machine = machine; of = of }
+
+-- the text of the object at an index: the heading of its file, and its words
+pub record IsObjectText {E : Type 0} {r : _} (fields : E → SymbolFields) (form : Form) (when : Binding) (inputs : List Input) (objects : List (DynamicObject E r)) (of : ℕ) (object : DynamicObject E r) (text : List ℕ) : Type 0 where
   pub lent : Bor (List (DynamicObject E r))
   pub lent_is : lent.now ≡ objects
   pub words : Words E r
   pub words_are : AreWordsOf lent of when words
   pub left : own_relocations (Some object) ≡ Ok (relocations_left words)
   pub items : List ℕ
-  pub items_are : IsItemsText fields (file_machine (object_file object)) of words items
-  pub text_is : IsSomeAnd (slice_get inputs of) (λ input. text ≡ path_text input.path.now ++ items)
+  pub text_is : IsSomeAnd (slice_get inputs of) (λ input.
+      IsItemsText fields (place_of form input.path (file_machine (object_file object)) of) words items
+      × (text ≡ heading_text form input.path.now ++ items))
 
 -- what is written of some items in order: for each, by its index, a text
 pub data AreTexts {A : Type 0} (Is : ℕ → A → List ℕ → Type 0) : List A → List ℕ → Type 0 where
@@ -126,8 +158,8 @@ pub data AreTexts {A : Type 0} (Is : ℕ → A → List ℕ → Type 0) : List A
       → Is (length items) item own → AreTexts Is (items ++ (item ∷ [])) (text ++ own)
 
 -- the text of all objects, which are those of the inputs
-abbrev pub AreWordsWritten : {E : Type 0} → {r : _} → (E → SymbolFields) → Binding → List Input → List (DynamicObject E r) → List ℕ → Type 0
-AreWordsWritten fields when inputs objects = AreTexts (IsObjectText fields when inputs objects) objects
+abbrev pub AreWordsWritten : {E : Type 0} → {r : _} → (E → SymbolFields) → Form → Binding → List Input → List (DynamicObject E r) → List ℕ → Type 0
+AreWordsWritten fields form when inputs objects = AreTexts (IsObjectText fields form when inputs objects) objects
 
 -- why the text ends before the last word: the relocations of the object at an index can't be read, or one of them has a
 -- word that is not known

@@ -1,7 +1,7 @@
 //! Whether the files have dynamic segments.
 
-ghost use Rattle.std.specs.Prelude.{IsFalse};
-ghost use Rattle.elfload.specs.Files.{AreStatic, HasStatic};
+ghost use Rattle.std.specs.Prelude.{IsFalse, IsTrue};
+ghost use Rattle.elfload.specs.Files.{AreAllDynamic, AreDynamic, AreStatic, HasStatic};
 
 use elf_linking::view::dynamic_segment;
 use linking_programs::Input;
@@ -9,7 +9,8 @@ use xmas_elf::ElfFile;
 
 // Whether all files have a dynamic segment.
 pub(crate) fn all_dynamic(inputs: &[Input<'_>]) -> bool
-    ensures { IsFalse result → HasStatic inputs.now }
+    ensures no { IsFalse result → HasStatic inputs.now }
+    ensures yes { IsTrue result → AreAllDynamic inputs.now }
 {
     for input in inputs {
         if !is_dynamic(&input.bytes) {
@@ -21,7 +22,8 @@ pub(crate) fn all_dynamic(inputs: &[Input<'_>]) -> bool
 
 // Whether bytes are a file with a dynamic segment.
 fn is_dynamic(bytes: &[u8]) -> bool
-    ensures { IsFalse result → AreStatic bytes.now }
+    ensures no { IsFalse result → AreStatic bytes.now }
+    ensures yes { IsTrue result → AreDynamic bytes.now }
 {
     match ElfFile::new(bytes) {
         Ok(file) => dynamic_segment(&file).is_some(),

@@ -1,10 +1,12 @@
 //! Whether the words of each file can be written to its memory.
 
-ghost use Rattle.std.specs.Prelude.{◌≡◌, ◌<◌, IfErr, IfOk, MatchResult, length, ⊤};
+ghost use Rattle.std.specs.Prelude.{◌≡◌, ◌<◌, ◌≤◌, ◌-◌, ◌*◌, IfErr, IfNone, IfOk, IfSome, MatchResult, length, ⊤};
 ghost use Rattle.elf_linking.specs.DynamicObject.{object_file};
 ghost use Rattle.elfload.specs.Images.{AreAllChecked, ArePlansOf, IsChecked};
 ghost use Rattle.elfload.specs.Images.{IsImageGood, IsImageError, IsPlanFor, IsPlanMissing};
-ghost use Rattle.elfload.specs.Images.{IsFailedAt, LacksPlan};
+ghost use Rattle.elfload.specs.Images.{IsFailedAt, IsWordsError, LacksPlan};
+ghost use Rattle.elfload.specs.declared.images.TheConstants.{MOST_MARKS};
+ghost use Rattle.linking_programs.specs.Files.{IsOfInput};
 ghost use Rattle.program_ends.specs.Stops.{IsStop};
 
 use crate::plans::limit_of;
@@ -115,7 +117,8 @@ fn check_words<'s, E: LinkedSymbol>(
     requires planned { length plans.now ≡ length objects.now }
     requires below { index < length objects.now }
     ensures { MatchResult result (λ _. IsImageGood E.SIZE E.fields objects.now plans.now index)
-        (IsStop (IsFailedAt E.SIZE E.fields inputs.now objects.now plans.now index) ⊥ ⊤) }
+        (IsStop (λ failed. IsOfInput inputs.now index failed
+        × IsWordsError E.SIZE E.fields objects.now plans.now index failed.error) ⊥ ⊤) }
 {
     let Some(size) = marks_size(plans[index].span()) else {
         return Err(Stop::Memory);
@@ -132,7 +135,10 @@ fn check_words<'s, E: LinkedSymbol>(
 }
 
 // The number of bytes that have a bit for each byte of a span; none for more than 4 GB.
-fn marks_size(span: Span) -> Option<usize> {
+fn marks_size(span: Span) -> Option<usize>
+    ensures enough { IfSome result (λ size. span.end - span.start ≤ 8 * size) }
+    ensures most { IfNone result (8 * MOST_MARKS ≤ span.end - span.start) }
+{
     let size = span.end.saturating_sub(span.start) / 8 + 1;
     if size > MOST_MARKS {
         None

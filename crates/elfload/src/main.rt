@@ -8,31 +8,35 @@
 //! before the other options: jump slots get their symbols when they are called first. `--page SIZE` after
 //! this is the size of a page, 4096 without it.
 //!
+//! `elfload --start PROGRAM` writes which functions run when the program starts, in order.
+//!
 //! `elfload --kernel FILE..` and `elfload --glibc FILE..` write only whether one loader maps each file.
 #![tactic(auto)]
 
-ghost use Rattle.std.specs.Prelude.{◌≡◌, ◌<◌, ◌≤◌, ◌⊎◌, Err, IfErr, IfOk, IfSome, List, MatchResult, Ok};
-ghost use Rattle.std.specs.Prelude.{OnOk, Result, length, ⊤};
+ghost use Rattle.std.specs.Prelude.{◌≡◌, ◌≢◌, ◌<◌, ◌≤◌, ◌⊎◌, Err, IfErr, IfOk, IfSome, List, MatchResult, Ok};
+ghost use Rattle.std.specs.Prelude.{IsFalse, IsTrue, OnOk, Result, length, ⊤};
 ghost use Rattle.elf_linking.specs.declared.object.DynamicObject.{DynamicObject};
-ghost use Rattle.elfload.specs.Ends.{AreFailed, IsBegun, IsEnd, IsFault, IsWordsEnd, load_stop};
-ghost use Rattle.elfload.specs.Ends.{words_fault_of};
+ghost use Rattle.elfload.specs.Ends.{AreFailed, IsBegun, IsEnd, IsFault, IsStartText, IsWordsEnd};
+ghost use Rattle.elfload.specs.Ends.{IsWritingFailed, IsWritten, load_stop, words_fault_of};
 ghost use Rattle.elfload.specs.Files.{AreLoaded, HasStatic};
-ghost use Rattle.elfload.specs.Found.{IsFoundGood};
+ghost use Rattle.elfload.specs.Found.{IsFoundGood, IsStartGood};
 ghost use Rattle.elfload.specs.Images.{AreImagesGood, AreInputsChecked};
 ghost use Rattle.elfload.specs.Plans.{IsInputLoaded, IsInputPlan, IsInputError};
+ghost use Rattle.elfload.specs.Starts.{AreStartsFailed};
 ghost use Rattle.elfload.specs.Verdicts.{option_of};
-ghost use Rattle.elfload.specs.Words.{AreWordsWritten};
 ghost use Rattle.elfload.specs.declared.plans.AnyError.{AnyError};
 ghost use Rattle.linking_programs.specs.Files.{AreObjectsOf};
 ghost use Rattle.program_ends.specs.Appended.{AppendsSome};
-ghost use Rattle.program_ends.specs.Ends.{status_of};
+ghost use Rattle.program_ends.specs.Ends.{quiet_status_of};
 ghost use Rattle.program_ends.specs.Stops.{IsStop};
 ghost use Rattle.program_ends.specs.declared.Fault.{Fault};
+ghost use Rattle.program_ends.specs.declared.TheConstants.{CLOSED};
 ghost use Rattle.program_libraries.specs.Complete.{IsComplete};
 
 use crate::files::all_dynamic;
 use crate::images::{check_images, read_plans};
 use crate::plans::{AnyError, Plan};
+use crate::starts::{StartLines, Step, early_starts, read_starts, start_steps};
 use crate::verdicts::run_verdicts;
 use crate::words::WordsText;
 use elf_base::bytes::Record;
@@ -40,8 +44,10 @@ use elf_linking::view::LinkedSymbol;
 use elf_linking::{DynamicObject, LinkError};
 use elf_loading::{Binding, LoadError, Loader};
 use linking_programs::{Failed, Input, failure, is_first_narrow, read_inputs, read_objects};
+use program_ends::json::{Form, form_asked};
 use program_ends::{
-    Fault, Stop, arguments, exit_code, fault_of, say, status_of, write_about, write_buffered,
+    CLOSED, Fault, Stop, Watched, arguments, exit_code, fault_of, quiet_status_of, say,
+    write_about, write_buffered,
 };
 use program_libraries::{
     Finder, Given, Settings, StoredFile, Tree, given_files, listed_inputs, say_error, say_missing,
@@ -56,6 +62,8 @@ use xmas_elf::symbol_table::{DynEntry32, DynEntry64};
 mod files;
 mod images;
 mod plans;
+mod records;
+mod starts;
 mod verdicts;
 mod words;
 
@@ -63,12 +71,13 @@ mod words;
 const NAME: &str = "elfload";
 
 const USAGE: &str =
-    "elfload [--lazy] [--page <size>] [--alone | [--root DIR] [--library-path LIST] [--cache FILE | --no-cache]] <binary_path>.. | elfload (--kernel | --glibc) [--page <size>] <binary_path>..";
+    "elfload [--json] [--lazy] [--page <size>] [--alone | [--root DIR] [--library-path LIST] [--cache FILE | --no-cache]] <binary_path>.. | elfload [--json] --start [--page <size>] [--root DIR] [--library-path LIST] [--cache FILE | --no-cache] <binary_path> | elfload [--json] (--kernel | --glibc) [--page <size>] <binary_path>..";
 
 const HELP: &str =
     "Prints the header of each file, what else a loader asks for, and what Linux (kernel) and glibc map;
 then, if each has a dynamic segment, what relocations write, for a program and its libraries. The libraries
 of one file are found; several files are in the order in which they are loaded.
+--json               before the other options: a JSON object on each line
 --lazy               jump slots get their symbols when they are called first
 --page <size>        the size of a page in bytes, a power of two; 4096 without it
 --alone              the file without its libraries
@@ -76,40 +85,54 @@ of one file are found; several files are in the order in which they are loaded.
 --library-path LIST  the value of LD_LIBRARY_PATH
 --cache FILE         another cache than /etc/ld.so.cache
 --no-cache           no cache
+--start              only which functions run when a program starts, in order, up to its entry point and by it
 --kernel             only whether Linux maps each file as a program, by its own list of errors
 --glibc              only whether glibc maps each file as a library, by its own list of errors
-Without these two a file must pass a list that is stricter than both.";
+Without --kernel and --glibc a file must pass a list that is stricter than both.";
 
 /// What is asked for.
 #[derive(Clone, Copy, Drop)]
-pub struct Options {
+pub struct Options<'s> {
     /// The size of a page.
     pub page: u64,
     /// When jump slots get their symbols.
     pub when: Binding,
+    /// How the lines are written.
+    pub form: Form,
+    /// The steps of a start, if the functions that run are asked for and not the words.
+    pub steps: Option<&'s [Step]>,
 }
 
 /// Writes the plan of each file to `out` and, if each has a dynamic segment, the words of each, or
 /// the reasons why it can't to `err`, and returns the exit status.
 ///
-/// The status is 0 once all is written and flushed, and 1 otherwise. By the contract it is 0 only if
-/// Linux and glibc would load each file, and if, where each has a dynamic segment, the checks of the
+/// The status is 0 once all is written and flushed; `CLOSED`, and nothing more is written or said, if a
+/// write failed since nobody reads the output; and 1 otherwise. By the contract it is 0 only if
+/// each file has a plan (`check_load`), and if, where each has a dynamic segment, the checks of the
 /// symbols and of the images of all files pass. The contracts of `run_plan` and `run_words` say which
 /// fault there can be otherwise. None says what `out` and `err` hold.
 pub fn run<W: Write, E: Write>(
     alloc: Global,
-    asked: Options,
+    asked: Options<'_>,
     inputs: &[Input<'_>],
-    out: &mut W,
+    out: &mut Watched<W>,
     err: &mut E,
 ) -> u8
     requires { 0 < asked.page }
-    ensures bound { result ≤ 1 }
-    ensures loaded { result ≡ 0 → AreLoaded asked.page inputs.now }
+    ensures bound { result ≢ CLOSED → result ≤ 1 }
+    ensures closed { result ≡ CLOSED → IsTrue out.new.closed }
+    ensures loaded { result ≡ 0 → AreLoaded asked.entry.page inputs.now }
     ensures checked { result ≡ 0 → HasStatic inputs.now
-        ⊎ AreImagesGood ⟦<DynEntry32 as Record>⟧ ⟦<DynEntry64 as Record>⟧ asked.page inputs.now }
+        ⊎ AreImagesGood ⟦<DynEntry32 as Record>⟧ ⟦<DynEntry64 as Record>⟧ asked.entry.page inputs.now }
 {
-    let status = run_plans(alloc, asked.page, inputs, out, err);
+    let status = run_plans(
+        alloc,
+        asked.form,
+        asked.page,
+        inputs,
+        &mut *out,
+        &mut *err,
+    );
     if status != 0 {
         return status;
     }
@@ -128,43 +151,136 @@ pub fn run<W: Write, E: Write>(
 /// auxiliary entry, found an object, and if what `run` says of the status 0 is so.
 pub fn run_found<W: Write, E: Write>(
     alloc: Global,
-    asked: Options,
+    asked: Options<'_>,
     files: &[StoredFile],
     tree: &Tree,
-    out: &mut W,
+    out: &mut Watched<W>,
     err: &mut E,
 ) -> u8
     requires { 0 < asked.page }
-    ensures bound { result ≤ 1 }
+    ensures bound { result ≢ CLOSED → result ≤ 1 }
+    ensures closed { result ≡ CLOSED → IsTrue out.new.closed }
     ensures complete { result ≡ 0 → IsComplete files.now tree.now.objects.items }
     ensures good { result ≡ 0 → IsFoundGood ⟦<DynEntry32 as Record>⟧ ⟦<DynEntry64 as Record>⟧
-        asked.page files.now tree.now }
+        asked.entry.page files.now tree.now }
 {
     let missing = say_missing(alloc, NAME, files, tree, &mut *err);
     match listed_inputs(alloc, files, tree) {
         Some(inputs) => with_missing(missing, run(alloc, asked, &inputs, out, err)),
-        None => say(NAME, &"not enough memory", err),
+        None => say_memory(err),
     }
 }
 
-// The plans of all files, and the status: 1 if that of one is.
-fn run_plans<W: Write, E: Write>(
+/// Writes which functions run when a program starts, whose libraries were found, to `out`, and says to `err` which
+/// libraries and versions are missing; returns the exit status.
+///
+/// The functions are those of the files of the program and its libraries, after the checks of `run_words` with pages of
+/// a size. The status is that of `run_words`; it is 1 if that is 0 and a library or a version is missing, and if there is no memory for
+/// the lists of the files and of the steps. By the contract it is 0 only if each name that these files ask for, other than
+/// by an auxiliary entry, found an object, and if these checks pass.
+pub fn run_start<W: Write, E: Write>(
     alloc: Global,
+    form: Form,
     page: u64,
-    inputs: &[Input<'_>],
-    out: &mut W,
+    files: &[StoredFile],
+    tree: &Tree,
+    out: &mut Watched<W>,
     err: &mut E,
 ) -> u8
     requires { 0 < page }
-    ensures bound { result ≤ 1 }
+    ensures bound { result ≢ CLOSED → result ≤ 1 }
+    ensures closed { result ≡ CLOSED → IsTrue out.new.closed }
+    ensures complete { result ≡ 0 → IsComplete files.now tree.now.objects.items }
+    ensures good { result ≡ 0 → IsStartGood ⟦<DynEntry32 as Record>⟧ ⟦<DynEntry64 as Record>⟧
+        page files.now tree.now }
+{
+    let missing = say_missing(alloc, NAME, files, tree, &mut *err);
+    match listed_inputs(alloc, files, tree) {
+        Some(inputs) => with_missing(
+            missing,
+            run_steps(alloc, form, page, &inputs, tree, out, err),
+        ),
+        None => say_memory(err),
+    }
+}
+
+// Says that memory was short, and returns the status of an error.
+fn say_memory<E: Write>(err: &mut E) -> u8
+    ensures { result ≡ 1 }
+{
+    say(NAME, &"not enough memory", err)
+}
+
+// Writes which functions run when a program starts, of the files of a tree.
+fn run_steps<W: Write, E: Write>(
+    alloc: Global,
+    form: Form,
+    page: u64,
+    inputs: &[Input<'_>],
+    tree: &Tree,
+    out: &mut Watched<W>,
+    err: &mut E,
+) -> u8
+    requires { 0 < page }
+    ensures bound { result ≢ CLOSED → result ≤ 1 }
+    ensures closed { result ≡ CLOSED → IsTrue out.new.closed }
+    ensures checked { result ≡ 0
+        → AreImagesGood ⟦<DynEntry32 as Record>⟧ ⟦<DynEntry64 as Record>⟧ page inputs.now }
+{
+    let early = early_starts(&tree.list, &tree.starts, inputs);
+    match start_steps(alloc, &tree.list, &tree.starts, early) {
+        Some(steps) => {
+            let asked = Options {
+                page,
+                when: Binding::Now,
+                form,
+                steps: Some(&steps),
+            };
+            run_words(alloc, asked, inputs, out, err)
+        }
+        None => say_memory(err),
+    }
+}
+
+// The plans of all files, and the status: 1 if that of one is. Once nobody reads the output, no other plan is written.
+fn run_plans<W: Write, E: Write>(
+    alloc: Global,
+    form: Form,
+    page: u64,
+    inputs: &[Input<'_>],
+    out: &mut Watched<W>,
+    err: &mut E,
+) -> u8
+    requires { 0 < page }
+    ensures bound { result ≢ CLOSED → result ≤ 1 }
+    ensures closed { result ≡ CLOSED → IsTrue out.new.closed }
     ensures loaded { result ≡ 0 → AreLoaded page inputs.now }
 {
     let mut status = 0;
     for input in inputs {
-        let own = run_plan(alloc, page, input.path, &input.bytes, out, err);
+        let own = run_plan(
+            alloc,
+            form,
+            page,
+            input.path,
+            &input.bytes,
+            &mut *out,
+            &mut *err,
+        );
+        if is_shut(own) {
+            return own;
+        }
         status = worse(own, status);
     }
     status
+}
+
+// Whether a status is that of an output that nobody reads.
+pub(crate) fn is_shut(status: u8) -> bool
+    ensures yes { IsTrue result → status ≡ CLOSED }
+    ensures no { IsFalse result → status ≢ CLOSED }
+{
+    status == CLOSED
 }
 
 // The greater of two statuses.
@@ -179,41 +295,44 @@ fn worse(one: u8, other: u8) -> u8
 /// Writes the plan of a file to `out`, with pages of a size, or the reason why it can't to `err`,
 /// and returns the exit status.
 ///
-/// The status is 0 once all is written and flushed, and 1 otherwise. By the contract it is 0 only for
-/// a file that Linux and glibc would load. The contract says which fault there can be otherwise: the
-/// reason why the file has no plan; a write that failed, if it has one; or that memory is short. It
-/// says nothing of what `out` and `err` hold.
+/// The status is 0 once all is written and flushed, `CLOSED` if a write failed since nobody reads the output, and 1
+/// otherwise. By the contract it is 0 only for a file that has a plan (`check_load`). The contract says which fault there
+/// can be otherwise: the reason why the file has no plan; a write that failed, if it has one; or that memory is short.
+/// It says nothing of what `out` and `err` hold.
 #[tactic(auto, using(crate::proofs::Loaded::ended_loaded))]
 pub fn run_plan<W: Write, E: Write>(
     alloc: Global,
+    form: Form,
     page: u64,
     path: &str,
     input: &[u8],
-    out: &mut W,
+    out: &mut Watched<W>,
     err: &mut E,
 ) -> u8
     requires { 0 < page }
-    ensures bound { result ≤ 1 }
+    ensures bound { result ≢ CLOSED → result ≤ 1 }
+    ensures closed { result ≡ CLOSED → IsTrue out.new.closed }
     ensures loaded { result ≡ 0 → IsInputLoaded page input.entry }
     ensures ends { (end : Result (Unit {0}) (Fault AnyError))
-        × IsEnd page path.entry input.entry end × (result ≡ status_of end) }
+        × IsEnd form page path.entry input.entry end × (result ≡ quiet_status_of end out.new.closed) }
 {
-    let ended = answer(alloc, page, path, input, out);
-    status_of(NAME, ended, err)
+    let ended = answer(alloc, form, page, path, input, &mut *out);
+    quiet_status_of(NAME, ended, out.is_closed(), err)
 }
 
 // Writes the plan of a file.
 fn answer<'a, W: Write>(
     alloc: Global,
+    form: Form,
     page: u64,
     path: &'a str,
     input: &[u8],
     out: &mut W,
 ) -> Result<(), Fault<'a, AnyError>>
     requires { 0 < page }
-    ensures { IsEnd page path.entry input.entry result }
+    ensures { IsEnd form page path.entry input.entry result }
 {
-    match print_plan(alloc, page, path, input, &mut *out) {
+    match print_plan(alloc, form, page, path, input, &mut *out) {
         Ok(_) => Ok(()),
         Err(fault) => Err(fault),
     }
@@ -222,60 +341,68 @@ fn answer<'a, W: Write>(
 // Writes the plan of the file that these bytes are, and gives the writer back.
 fn print_plan<'a, W: Write + Drop>(
     alloc: Global,
+    form: Form,
     page: u64,
     path: &'a str,
     input: &[u8],
     out: W,
 ) -> Result<W, Fault<'a, AnyError>>
     requires { 0 < page }
-    ensures written { IfOk result (λ back. AppendsSome (IsInputPlan page path.entry input.entry)
+    ensures written { IfOk result (λ back. AppendsSome (IsInputPlan form page path.entry input.entry)
         (W.contents out) (W.contents back)) }
     ensures fault { IfErr result (IsFault path.entry (IsInputError page input.entry)
-        (IsBegun page path.entry input.entry)) }
+        (IsBegun form page path.entry input.entry)) }
 {
-    let plan = Plan { path, input, page };
+    let plan = Plan {
+        form,
+        path,
+        input,
+        page,
+    };
     match write_buffered(alloc, &plan, out) {
         Ok(out) => Ok(out),
         Err(stop) => Err(fault_of(stop, path)),
     }
 }
 
-/// Writes the words of each file to `out`, or the reason why it can't to `err`, and returns the exit
-/// status.
+/// Writes the words of each file to `out`, or which functions run in these steps of a start, or the reason why it can't
+/// to `err`, and returns the exit status.
 ///
-/// The status is 0 once all is written and flushed, and 1 otherwise. By the contract it is 0 only if
+/// The status is 0 once all is written and flushed, `CLOSED` if a write failed since nobody reads the output, and 1
+/// otherwise. By the contract it is 0 only if
 /// the checks of the symbols and of the images of all files pass. The contract says which fault there
 /// can be otherwise: a file has an error, which file and which error; a write failed, if all checks
 /// pass; or memory is short. It says nothing of what `out` and `err` hold.
 #[tactic(auto, using(crate::proofs::WordsEnds::ended_good))]
 pub fn run_words<W: Write, E: Write>(
     alloc: Global,
-    asked: Options,
+    asked: Options<'_>,
     inputs: &[Input<'_>],
-    out: &mut W,
+    out: &mut Watched<W>,
     err: &mut E,
 ) -> u8
     requires { 0 < asked.page }
-    ensures bound { result ≤ 1 }
+    ensures bound { result ≢ CLOSED → result ≤ 1 }
+    ensures closed { result ≡ CLOSED → IsTrue out.new.closed }
     ensures checked { result ≡ 0
-        → AreImagesGood ⟦<DynEntry32 as Record>⟧ ⟦<DynEntry64 as Record>⟧ asked.page inputs.now }
+        → AreImagesGood ⟦<DynEntry32 as Record>⟧ ⟦<DynEntry64 as Record>⟧ asked.entry.page inputs.now }
     ensures ends { (end : Result (Unit {0}) (Fault AnyError))
-        × IsWordsEnd ⟦<DynEntry32 as Record>⟧ ⟦<DynEntry64 as Record>⟧ asked inputs.now end
-        × (result ≡ status_of end) }
+        × IsWordsEnd ⟦<DynEntry32 as Record>⟧ ⟦<DynEntry64 as Record>⟧ asked.entry inputs.now end
+        × (result ≡ quiet_status_of end out.new.closed) }
 {
-    let ended = print_words(alloc, asked, inputs, out);
-    status_of(NAME, ended, err)
+    let ended = print_words(alloc, asked, inputs, &mut *out);
+    quiet_status_of(NAME, ended, out.is_closed(), err)
 }
 
 // Writes the words of the files, by the class of the first.
 fn print_words<'a, W: Write>(
     alloc: Global,
-    asked: Options,
+    asked: Options<'_>,
     inputs: &'a [Input<'_>],
     out: &mut W,
 ) -> Result<(), Fault<'a, AnyError>>
     requires { 0 < asked.page }
-    ensures { IsWordsEnd ⟦<DynEntry32 as Record>⟧ ⟦<DynEntry64 as Record>⟧ asked inputs.now result }
+    ensures { IsWordsEnd ⟦<DynEntry32 as Record>⟧ ⟦<DynEntry64 as Record>⟧ asked.entry inputs.now result }
 {
     if is_first_narrow(inputs) {
         ended(print::<DynEntry32, _>(alloc, asked, inputs, &mut *out))
@@ -315,20 +442,20 @@ fn words_fault_of(stop: Stop<Failed<'_, LoadError>>) -> Fault<'_, AnyError>
 // Writes the words of files of a class, and gives the writer back.
 fn print<'a, E: LinkedSymbol, W: Write + Drop>(
     alloc: Global,
-    asked: Options,
+    asked: Options<'_>,
     inputs: &'a [Input<'_>],
     out: W,
 ) -> Result<W, Stop<Failed<'a, LoadError>>>
     requires { 0 < asked.page }
     ensures checked { OnOk result
-        (AreInputsChecked {E = E} E.Record E.fields E.CLASS E.SIZE asked.page inputs.now) }
+        (AreInputsChecked {E = E} E.Record E.fields E.CLASS E.SIZE asked.entry.page inputs.now) }
     ensures written { IfOk result (λ back. (objects : List (DynamicObject E E.Record))
         × AreObjectsOf E.CLASS E.SIZE inputs.now objects
-        × AppendsSome (AreWordsWritten E.fields asked.when inputs.now objects)
+        × AppendsSome (IsWritten E.fields asked.entry inputs.now objects)
         (W.contents out) (W.contents back)) }
     ensures stopped { IfErr result
-        (IsStop (AreFailed {E = E} E.Record E.fields E.CLASS E.SIZE asked inputs.now)
-        (AreInputsChecked {E = E} E.Record E.fields E.CLASS E.SIZE asked.page inputs.now) ⊤) }
+        (IsStop (AreFailed {E = E} E.Record E.fields E.CLASS E.SIZE asked.entry inputs.now)
+        (AreInputsChecked {E = E} E.Record E.fields E.CLASS E.SIZE asked.entry.page inputs.now) ⊤) }
 {
     let objects = match read_objects::<E>(alloc, inputs) {
         Ok(objects) => objects,
@@ -340,7 +467,7 @@ fn print<'a, E: LinkedSymbol, W: Write + Drop>(
 // Writes the words of files, of which these are the objects, and gives the writer back.
 fn print_checked<'a, E: LinkedSymbol, W: Write + Drop>(
     alloc: Global,
-    asked: Options,
+    asked: Options<'_>,
     inputs: &'a [Input<'_>],
     objects: &[DynamicObject<'_, E>],
     out: W,
@@ -349,25 +476,72 @@ fn print_checked<'a, E: LinkedSymbol, W: Write + Drop>(
     requires same { length objects.now ≡ length inputs.now }
     requires own { AreObjectsOf E.CLASS E.SIZE inputs.now objects.now }
     ensures checked { OnOk result
-        (AreInputsChecked {E = E} E.Record E.fields E.CLASS E.SIZE asked.page inputs.now) }
+        (AreInputsChecked {E = E} E.Record E.fields E.CLASS E.SIZE asked.entry.page inputs.now) }
     ensures written { IfOk result (λ back. AppendsSome
-        (AreWordsWritten E.fields asked.when inputs.now objects.now) (W.contents out) (W.contents back)) }
+        (IsWritten E.fields asked.entry inputs.now objects.now) (W.contents out) (W.contents back)) }
     ensures stopped { IfErr result
-        (IsStop (AreFailed {E = E} E.Record E.fields E.CLASS E.SIZE asked inputs.now)
-        (AreInputsChecked {E = E} E.Record E.fields E.CLASS E.SIZE asked.page inputs.now) ⊤) }
+        (IsStop (AreFailed {E = E} E.Record E.fields E.CLASS E.SIZE asked.entry inputs.now)
+        (AreInputsChecked {E = E} E.Record E.fields E.CLASS E.SIZE asked.entry.page inputs.now) ⊤) }
 {
     let plans = match read_plans(alloc, asked.page, inputs, objects) {
         Ok(plans) => plans,
         Err(stop) => return Err(stop),
     };
     match check_images(alloc, inputs, objects, &plans) {
-        Ok(()) => {
+        Ok(()) => write_asked(alloc, asked, inputs, objects, out),
+        Err(stop) => Err(stop),
+    }
+}
+
+// Writes what is asked of these objects, and gives the writer back.
+fn write_asked<'a, E: LinkedSymbol, W: Write + Drop>(
+    alloc: Global,
+    asked: Options<'_>,
+    inputs: &'a [Input<'_>],
+    objects: &[DynamicObject<'_, E>],
+    out: W,
+) -> Result<W, Stop<Failed<'a, LoadError>>>
+    requires same { length objects.now ≡ length inputs.now }
+    ensures { MatchResult result (λ back. AppendsSome (IsWritten E.fields asked.entry inputs.now objects.now)
+        (W.contents out) (W.contents back))
+        (IsStop (IsWritingFailed E.fields asked.entry inputs.now objects.now) ⊤ ⊤) }
+{
+    match asked.steps {
+        Some(steps) => write_steps(alloc, asked.form, steps, inputs, objects, out),
+        None => {
             let text = WordsText {
+                form: asked.form,
                 when: asked.when,
                 inputs,
                 objects,
             };
             write_buffered(alloc, &text, out)
+        }
+    }
+}
+
+// Writes which functions run in these steps, and gives the writer back.
+fn write_steps<'a, E: LinkedSymbol, W: Write + Drop>(
+    alloc: Global,
+    form: Form,
+    steps: &[Step],
+    inputs: &'a [Input<'_>],
+    objects: &[DynamicObject<'_, E>],
+    out: W,
+) -> Result<W, Stop<Failed<'a, LoadError>>>
+    requires { length objects.now ≡ length inputs.now }
+    ensures { MatchResult result
+        (λ back. AppendsSome (IsStartText E.fields form inputs.now objects.now steps.now)
+        (W.contents out) (W.contents back))
+        (IsStop (AreStartsFailed E.fields inputs.now objects.now steps.now) ⊤ ⊤) }
+{
+    match read_starts(alloc, steps, inputs, objects) {
+        Ok(starts) => {
+            let lines = StartLines {
+                form,
+                starts: &starts,
+            };
+            write_buffered(alloc, &lines, out)
         }
         Err(stop) => Err(stop),
     }
@@ -391,14 +565,18 @@ fn main(rt: HostRuntime) -> ExitCode {
 // The status, or why the arguments can't be read: for want of memory, or since one is not UTF-8.
 fn run_on_arguments(rt: &HostRuntime) -> io::Result<u8> {
     let words = arguments(rt)?;
-    let (mut out, mut err) = (rt.stdout(), rt.stderr());
+    let (mut out, mut err) = (Watched::new(rt.stdout()), rt.stderr());
     if let Some(status) = write_about(NAME, USAGE, HELP, &words, &mut out, &mut err) {
         return Ok(status);
     }
-    if let Some((by, page, paths)) = asked_of_loader(&words) {
-        return Ok(run_on_each(rt, by, page, paths, &mut out, &mut err));
+    let (form, rest) = form_asked(&words);
+    if let Some((by, page, paths)) = asked_of_loader(rest) {
+        return Ok(run_on_each(rt, by, form, page, paths, &mut out, &mut err));
     }
-    let Some((asked, given)) = asked(&words) else {
+    if let Some((page, settings, path)) = asked_of_start(rest) {
+        return Ok(run_start_on(rt, form, page, settings, path, &mut out, &mut err));
+    }
+    let Some((asked, given)) = asked(form, rest) else {
         return Ok(say("usage", &USAGE, &mut out));
     };
     match given {
@@ -412,10 +590,10 @@ fn run_on_arguments(rt: &HostRuntime) -> io::Result<u8> {
 // Writes what is asked of the program at a path and its libraries, or why there is none.
 fn run_on_program<W: Write, E: Write>(
     rt: &HostRuntime,
-    asked: Options,
+    asked: Options<'_>,
     settings: Settings<'_>,
     path: &str,
-    out: &mut W,
+    out: &mut Watched<W>,
     err: &mut E,
 ) -> u8
     requires { 0 < asked.page }
@@ -430,12 +608,34 @@ fn run_on_program<W: Write, E: Write>(
     }
 }
 
+// Writes which functions run when the program at a path starts, or why there is no such program.
+fn run_start_on<W: Write, E: Write>(
+    rt: &HostRuntime,
+    form: Form,
+    page: u64,
+    settings: Settings<'_>,
+    path: &str,
+    out: &mut Watched<W>,
+    err: &mut E,
+) -> u8
+    requires { 0 < page }
+{
+    let mut finder = match Finder::new(rt, settings) {
+        Ok(finder) => finder,
+        Err(error) => return say_error(NAME, &error, err),
+    };
+    match finder.find(rt, path) {
+        Ok(tree) => run_start(rt.alloc(), form, page, finder.files(), &tree, out, err),
+        Err(error) => say_error(NAME, &error, err),
+    }
+}
+
 // Writes what is asked of the files at some paths, or which can't be read.
 fn run_on_files<W: Write, E: Write>(
     rt: &HostRuntime,
-    asked: Options,
+    asked: Options<'_>,
     paths: &[String],
-    out: &mut W,
+    out: &mut Watched<W>,
     err: &mut E,
 ) -> u8
     requires { 0 < asked.page }
@@ -450,16 +650,32 @@ fn run_on_files<W: Write, E: Write>(
 fn run_on_each<W: Write, E: Write>(
     rt: &HostRuntime,
     by: Loader,
+    form: Form,
     page: u64,
     paths: &[String],
-    out: &mut W,
+    out: &mut Watched<W>,
     err: &mut E,
 ) -> u8
     requires { 0 < page }
 {
     match read_inputs::<_, AnyError>(rt, paths) {
-        Ok(inputs) => run_verdicts(by, page, &inputs, out, err),
+        Ok(inputs) => run_verdicts(by, form, page, &inputs, out, err),
         Err(fault) => say(NAME, &fault, err),
+    }
+}
+
+// The size of a page, how libraries are found, and the program whose start is asked for, if it is asked for as it should be.
+fn asked_of_start(arguments: &[String]) -> Option<(u64, Settings<'_>, &str)>
+    ensures { IfSome result (λ asked. 0 < asked.0) }
+{
+    let (first, others) = arguments.split_first()?;
+    if first.as_str() != "--start" {
+        return None;
+    }
+    let (page, rest) = page_of(others)?;
+    match given_files(rest)? {
+        Given::Program(settings, path) => Some((page, settings, path)),
+        Given::Files(_) => None,
     }
 }
 
@@ -489,7 +705,7 @@ fn loader_of(option: &str) -> Option<Loader>
 }
 
 // What the arguments ask for, and of which files, if they are as they should be.
-fn asked(arguments: &[String]) -> Option<(Options, Given<'_>)>
+fn asked(form: Form, arguments: &[String]) -> Option<(Options<'_>, Given<'_>)>
     ensures { IfSome result (λ asked. 0 < asked.0.page) }
 {
     let (first, others) = arguments.split_first()?;
@@ -499,7 +715,13 @@ fn asked(arguments: &[String]) -> Option<(Options, Given<'_>)>
         (Binding::Now, arguments)
     };
     let (page, rest) = page_of(rest)?;
-    Some((Options { page, when }, given_files(rest)?))
+    let asked = Options {
+        page,
+        when,
+        form,
+        steps: None,
+    };
+    Some((asked, given_files(rest)?))
 }
 
 // The size of a page that the arguments ask for, and those after it, if it is as it should be.

@@ -1,10 +1,13 @@
 //! The plan of a file: its header, and what each loader maps.
 
-ghost use Rattle.std.specs.Prelude.{◌≡◌, ◌<◌, IsOk, MatchResult, None, OnOk, Some};
+ghost use Rattle.std.specs.Prelude.{◌≡◌, ◌<◌, IsOk, MatchResult, None, OnOk, Some, option_map};
 ghost use Rattle.std.specs.Io.KnownBytes.{Appends};
 ghost use Rattle.elf_loading.specs.MappingsLeft.{mappings_left};
 ghost use Rattle.elfload.specs.Plans.{IsFilePlan, IsFileError, IsInputLoaded, IsInputPlan};
-ghost use Rattle.elfload.specs.Plans.{IsInputError, IsInterpreterText, IsLoaded, IsPlanText};
+ghost use Rattle.elfload.specs.Plans.{IsInputError, IsInterpreterText, IsLoaded, IsPlanIn, IsPlanRecords};
+ghost use Rattle.elfload.specs.Plans.{IsPlanText};
+ghost use Rattle.elfload.specs.PlanRecords.{head_record, mapping_record, mapping_records, relro_edges};
+ghost use Rattle.elfload.specs.PlanRecords.{rest_record, template_of};
 ghost use Rattle.elfload.specs.Plans.{head_of, header_limit, limit_of};
 ghost use Rattle.elfload.specs.Texts.{contents_text, head_text, letter, mapping_text};
 ghost use Rattle.elfload.specs.Texts.{mappings_text, permissions_text, range_text, span_text};
@@ -16,7 +19,9 @@ ghost use Rattle.program_ends.specs.declared.Stop.TheVariants as stops_are;
 ghost use Rattle.elf_loading.specs.Plan.{plan_file};
 
 use elf_loading::{Contents, LoadError, LoadPlan, Loader, Mapping, Mappings, Span, Tls};
-use program_ends::{Output, Stop, write_name};
+use crate::records::flags_or_null;
+use program_ends::json::{Form, Member, write_json};
+use program_ends::{Output, Stop, json, write_name};
 use std::fmt::Display;
 use std::io::Write;
 use std::{fmt, io};
@@ -34,7 +39,7 @@ pub enum AnyError {
     /// The end of addresses of its machine isn't known here.
     #[error("Limit of addresses is not known for this machine")]
     Machine,
-    /// Linux or glibc would not load it.
+    /// An error of `check_load`.
     #[error("{0}")]
     Load(LoadError),
 }
@@ -42,6 +47,7 @@ pub enum AnyError {
 // The plan of the file that these bytes are, with pages of a size.
 #[derive(Clone, Copy)]
 pub(crate) struct Plan<'a> {
+    pub(crate) form: Form,
     pub(crate) path: &'a str,
     pub(crate) input: &'a [u8],
     pub(crate) page: u64,
@@ -49,9 +55,9 @@ pub(crate) struct Plan<'a> {
 }
 
 impl Output for Plan<'_> {
-    ghost Writes = { λ plan. AppendsSome (IsInputPlan plan.page plan.path plan.input) };
+    ghost Writes = { λ plan. AppendsSome (IsInputPlan plan.form plan.page plan.path plan.input) };
 
-    ghost flushed = { λ plan. appended_flushed (IsInputPlan plan.page plan.path plan.input) };
+    ghost flushed = { λ plan. appended_flushed (IsInputPlan plan.form plan.page plan.path plan.input) };
 
     type Error = AnyError;
 
@@ -61,7 +67,7 @@ impl Output for Plan<'_> {
 
     fn write_to<W: Write>(&self, out: &mut W) -> Result<(), Stop<AnyError>> {
         match ElfFile::new(self.input) {
-            Ok(file) => write_file(self.page, self.path, &file, out),
+            Ok(file) => write_file(self.form, self.page, self.path, &file, out),
             Err(error) => Err(Stop::Failed(AnyError::Elf(error))),
         }
     }
@@ -87,6 +93,7 @@ pub(crate) fn limit_of(header: &Header) -> Option<u64>
 
 // The plan of a file.
 fn write_file<W: Write>(
+    form: Form,
     page: u64,
     path: &str,
     file: &ElfFile<'_>,
@@ -94,18 +101,19 @@ fn write_file<W: Write>(
 ) -> Result<(), Stop<AnyError>>
     requires { 0 < page }
     ensures { MatchResult result
-        (λ _. AppendsSome (IsFilePlan page path.entry file.now)
+        (λ _. AppendsSome (IsFilePlan form page path.entry file.now)
         (W.contents out.old) (W.contents out.new))
         (IsStop (IsFileError page file.now) (IsLoaded page file.now) ⊥) }
 {
     match limit_of(&file.header) {
-        Some(limit) => write_within(page, limit, path, file, out),
+        Some(limit) => write_within(form, page, limit, path, file, out),
         None => Err(Stop::Failed(AnyError::Machine)),
     }
 }
 
 // The plan of a file, for addresses up to the limit of its machine.
 fn write_within<W: Write>(
+    form: Form,
     page: u64,
     limit: u64,
     path: &str,
@@ -115,12 +123,12 @@ fn write_within<W: Write>(
     requires page { 0 < page }
     requires limit { header_limit file.now.header ≡ Some limit }
     ensures { MatchResult result
-        (λ _. AppendsSome (IsFilePlan page path.entry file.now)
+        (λ _. AppendsSome (IsFilePlan form page path.entry file.now)
         (W.contents out.old) (W.contents out.new))
         (IsStop (IsFileError page file.now) (IsLoaded page file.now) ⊥) }
 {
     match LoadPlan::check_load(file, page, limit) {
-        Ok(plan) => ended(write_plan(path, file, &plan, out)),
+        Ok(plan) => ended(write_plan(form, path, file, &plan, out)),
         Err(error) => Err(Stop::Failed(AnyError::Load(error))),
     }
 }
@@ -137,6 +145,250 @@ fn ended(written: io::Result<()>) -> Result<(), Stop<AnyError>>
 
 // The plan: the header, the rest that a loader asks for, and the mappings of both loaders.
 fn write_plan<W: Write>(
+    form: Form,
+    path: &str,
+    file: &ElfFile<'_>,
+    plan: &LoadPlan<'_>,
+    out: &mut W,
+) -> io::Result<()>
+    requires { (plan_file plan.now) ≡ file.now }
+    ensures { OnOk result (AppendsSome (IsPlanIn form plan.now.page path.entry file.now)
+        (W.contents out.old) (W.contents out.new)) }
+{
+    match form {
+        Form::Text => write_text(path, file, plan, out),
+        Form::Json => write_records(path, file, plan, out),
+    }
+}
+
+// The same as JSON.
+fn write_records<W: Write>(
+    path: &str,
+    file: &ElfFile<'_>,
+    plan: &LoadPlan<'_>,
+    out: &mut W,
+) -> io::Result<()>
+    requires { (plan_file plan.now) ≡ file.now }
+    ensures { OnOk result (AppendsSome (IsPlanRecords plan.now.page path.entry file.now)
+        (W.contents out.old) (W.contents out.new)) }
+{
+    let head = head_of(path, &file.header, plan);
+    write_head(head, out)?;
+    write_rest(head, plan.interpreter(), out)?;
+    write_mapping_records(path, "kernel", plan.mappings(Loader::Kernel), out)?;
+    write_mapping_records(path, "glibc", plan.mappings(Loader::Glibc), out)
+}
+
+// The header and the span of the segments, as JSON.
+fn write_head<W: Write>(head: Head<'_>, out: &mut W) -> io::Result<()>
+    ensures { OnOk result (Appends (W.contents out.old) (W.contents out.new) (head_record head.entry)) }
+{
+    let members = [
+        Member {
+            key: "file",
+            value: json::Value::Text(head.path),
+        },
+        Member {
+            key: "class",
+            value: json::Value::Number(u64::from(head.class)),
+        },
+        Member {
+            key: "type",
+            value: json::Value::Number(u64::from(head.kind)),
+        },
+        Member {
+            key: "machine",
+            value: json::Value::Number(u64::from(head.machine)),
+        },
+        Member {
+            key: "entry",
+            value: json::Value::Number(head.entry),
+        },
+        Member {
+            key: "start",
+            value: json::Value::Number(head.span.start),
+        },
+        Member {
+            key: "end",
+            value: json::Value::Number(head.span.end),
+        },
+    ];
+    write_json(&members, out)
+}
+
+// What else a loader asks for, as JSON.
+fn write_rest<'x, W: Write>(
+    head: Head<'x>,
+    interpreter: Option<&'x [u8]>,
+    out: &mut W,
+) -> io::Result<()>
+    ensures { OnOk result (Appends (W.contents out.old) (W.contents out.new)
+        (rest_record head.entry (option_map (λ path. path.now) interpreter.entry))) }
+{
+    let interpreter = match interpreter {
+        Some(path) => json::Value::Name(path),
+        None => json::Value::Null,
+    };
+    let (relro, tls) = (relro_edges(head.relro), template_of(head.tls));
+    let members = [
+        Member {
+            key: "file",
+            value: json::Value::Text(head.path),
+        },
+        Member {
+            key: "relro_start",
+            value: relro.start,
+        },
+        Member {
+            key: "relro_end",
+            value: relro.end,
+        },
+        Member {
+            key: "tls_address",
+            value: tls.address,
+        },
+        Member {
+            key: "tls_file_size",
+            value: tls.file_size,
+        },
+        Member {
+            key: "tls_size",
+            value: tls.size,
+        },
+        Member {
+            key: "tls_align",
+            value: tls.align,
+        },
+        Member {
+            key: "stack_flags",
+            value: flags_or_null(head.stack),
+        },
+        Member {
+            key: "interpreter",
+            value: interpreter,
+        },
+    ];
+    write_json(&members, out)
+}
+
+// The first address and the one after the last, as members of JSON objects have them.
+#[derive(Clone, Copy)]
+struct Edges<'a> {
+    start: json::Value<'a>,
+    end: json::Value<'a>,
+}
+
+// Those of pages that are only readable, if there are any.
+fn relro_edges<'a>(relro: Option<Span>) -> Edges<'a>
+    ensures { result ≡ relro_edges relro }
+{
+    match relro {
+        Some(span) if span.start < span.end => Edges {
+            start: json::Value::Number(span.start),
+            end: json::Value::Number(span.end),
+        },
+        _ => Edges {
+            start: json::Value::Null,
+            end: json::Value::Null,
+        },
+    }
+}
+
+// The numbers of thread-local storage, as members of JSON objects have them.
+#[derive(Clone, Copy)]
+struct Template<'a> {
+    address: json::Value<'a>,
+    file_size: json::Value<'a>,
+    size: json::Value<'a>,
+    align: json::Value<'a>,
+}
+
+// Those of a template, if there is one.
+fn template_of<'a>(tls: Option<Tls>) -> Template<'a>
+    ensures { result ≡ template_of tls }
+{
+    match tls {
+        Some(tls) => Template {
+            address: json::Value::Number(tls.address),
+            file_size: json::Value::Number(tls.file_size),
+            size: json::Value::Number(tls.mem_size),
+            align: json::Value::Number(tls.align),
+        },
+        None => Template {
+            address: json::Value::Null,
+            file_size: json::Value::Null,
+            size: json::Value::Null,
+            align: json::Value::Null,
+        },
+    }
+}
+
+// The mappings of a loader as JSON.
+fn write_mapping_records<'x, W: Write>(
+    path: &'x str,
+    by: &'x str,
+    mappings: Mappings<'_>,
+    out: &mut W,
+) -> io::Result<()>
+    ensures { OnOk result (Appends (W.contents out.old) (W.contents out.new)
+        (mapping_records path.now by.now (mappings_left mappings.entry))) }
+{
+    for mapping in mappings {
+        write_mapping(path, by, mapping, out)?;
+    }
+    Ok(())
+}
+
+// A mapping as JSON.
+fn write_mapping<'x, W: Write>(
+    path: &'x str,
+    by: &'x str,
+    mapping: Mapping,
+    out: &mut W,
+) -> io::Result<()>
+    ensures { OnOk result (Appends (W.contents out.old) (W.contents out.new)
+        (mapping_record path.now by.now mapping)) }
+{
+    let (holds, offset) = match mapping.contents {
+        Contents::File(offset) => (json::Value::Text("file"), json::Value::Number(offset)),
+        Contents::Zero => (json::Value::Text("zero"), json::Value::Null),
+        Contents::NoAccess => (json::Value::Text("none"), json::Value::Null),
+    };
+    let members = [
+        Member {
+            key: "file",
+            value: json::Value::Text(path),
+        },
+        Member {
+            key: "by",
+            value: json::Value::Text(by),
+        },
+        Member {
+            key: "start",
+            value: json::Value::Number(mapping.start),
+        },
+        Member {
+            key: "end",
+            value: json::Value::Number(mapping.end),
+        },
+        Member {
+            key: "flags",
+            value: json::Value::Number(u64::from(mapping.flags.raw())),
+        },
+        Member {
+            key: "holds",
+            value: holds,
+        },
+        Member {
+            key: "offset",
+            value: offset,
+        },
+    ];
+    write_json(&members, out)
+}
+
+// The plan as text.
+fn write_text<W: Write>(
     path: &str,
     file: &ElfFile<'_>,
     plan: &LoadPlan<'_>,

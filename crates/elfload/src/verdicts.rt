@@ -1,16 +1,20 @@
 //! Whether one loader maps each file, whatever the other one does.
 
-ghost use Rattle.std.specs.Prelude.{◌≡◌, ◌≢◌, ◌<◌, OnOk, length};
+ghost use Rattle.std.specs.Prelude.{◌≡◌, ◌≢◌, ◌<◌, IsTrue, OnOk, length};
+ghost use Rattle.std.specs.Io.KnownBytes.{Appends};
 ghost use Rattle.elfload.specs.Plans.{header_limit};
 ghost use Rattle.elfload.specs.Verdicts.{HasVerdict, IsMappedLine, IsStatus, IsVerdictEnd};
-ghost use Rattle.elfload.specs.Verdicts.{verdict_within};
+ghost use Rattle.elfload.specs.Verdicts.{mapped_line, verdict_within};
 ghost use Rattle.program_ends.specs.Appended.{AppendsSome};
+ghost use Rattle.program_ends.specs.declared.TheConstants.{CLOSED};
+ghost use Rattle.program_ends.specs.declared.json.Form.TheVariants.{Json};
 
-use crate::NAME;
 use crate::plans::{AnyError, limit_of};
+use crate::{NAME, is_shut};
 use elf_loading::{LoadPlan, Loader};
 use linking_programs::Input;
-use program_ends::{Fault, status_of};
+use program_ends::json::{Form, Member, Value, write_json};
+use program_ends::{Fault, Watched, quiet_status_of};
 use std::io;
 use std::io::Write;
 use xmas_elf::ElfFile;
@@ -22,21 +26,27 @@ use xmas_elf::ElfFile;
 /// a program starts with. Only its own check decides, `check_load_by`; `run` is stricter than both. By the
 /// contract the status is 0 only if each file passes. If it is 1, there is a file before which all pass,
 /// and it has an error: that of its header, of its machine, or the first of the check; or it passes, and
-/// a write failed. The contract says nothing of what `out` and `err` hold.
+/// a write failed. It is `CLOSED`, and no other file is checked, once a write failed since nobody reads the
+/// output. The contract says nothing of what `out` and `err` hold.
 pub fn run_verdicts<W: Write, E: Write>(
     by: Loader,
+    form: Form,
     page: u64,
     inputs: &[Input<'_>],
-    out: &mut W,
+    out: &mut Watched<W>,
     err: &mut E,
 ) -> u8
     requires { 0 < page }
-    ensures { IsStatus by page inputs.now (length inputs.now) result }
+    ensures status { result ≢ CLOSED → IsStatus by page inputs.now (length inputs.now) result }
+    ensures closed { result ≡ CLOSED → IsTrue out.new.closed }
 {
     let mut status = 0;
     for input in inputs {
-        let ended = write_verdict(by, page, input.path, &input.bytes, out);
-        let own = status_of(NAME, ended, err);
+        let ended = write_verdict(by, form, page, input.path, &input.bytes, &mut *out);
+        let own = quiet_status_of(NAME, ended, out.is_closed(), &mut *err);
+        if is_shut(own) {
+            return own;
+        }
         status = first_fault(status, own);
     }
     status
@@ -53,6 +63,7 @@ fn first_fault(status: u8, own: u8) -> u8
 // Writes that a loader maps the file that these bytes are.
 fn write_verdict<'a, W: Write>(
     by: Loader,
+    form: Form,
     page: u64,
     path: &'a str,
     bytes: &[u8],
@@ -60,11 +71,11 @@ fn write_verdict<'a, W: Write>(
 ) -> Result<(), Fault<'a, AnyError>>
     requires { 0 < page }
     ensures end { IsVerdictEnd by page path.entry bytes.now result }
-    ensures written { OnOk result (AppendsSome (IsMappedLine path.now)
+    ensures written { OnOk result (AppendsSome (IsMappedLine form path.now)
         (W.contents out.old) (W.contents out.new)) }
 {
     match verdict(by, page, bytes) {
-        Ok(()) => match write_mapped(path, out) {
+        Ok(()) => match write_mapped(form, path, out) {
             Ok(()) => Ok(()),
             Err(_) => Err(Fault::Write),
         },
@@ -73,11 +84,40 @@ fn write_verdict<'a, W: Write>(
 }
 
 // Writes that the file at a path is mapped.
-fn write_mapped<W: Write>(path: &str, out: &mut W) -> io::Result<()>
-    ensures { OnOk result (AppendsSome (IsMappedLine path.now) (W.contents out.old) (W.contents out.new)) }
+fn write_mapped<W: Write>(form: Form, path: &str, out: &mut W) -> io::Result<()>
+    ensures { OnOk result (AppendsSome (IsMappedLine form path.now) (W.contents out.old) (W.contents out.new)) }
 {
-    writeln!(out, "{}: loads: yes", path)?;
+    write_line(form, path, out)?;
     out.flush()
+}
+
+// The line of a file that is mapped.
+fn write_line<W: Write>(form: Form, path: &str, out: &mut W) -> io::Result<()>
+    ensures { OnOk result (Appends (W.contents out.old) (W.contents out.new)
+        (mapped_line form path.now)) }
+{
+    match form {
+        Form::Text => writeln!(out, "{}: loads: yes", path),
+        Form::Json => write_record(path, out),
+    }
+}
+
+// The same as JSON.
+fn write_record<W: Write>(path: &str, out: &mut W) -> io::Result<()>
+    ensures { OnOk result (Appends (W.contents out.old) (W.contents out.new)
+        (mapped_line Json path.now)) }
+{
+    let members = [
+        Member {
+            key: "file",
+            value: Value::Text(path),
+        },
+        Member {
+            key: "loads",
+            value: Value::Bool(true),
+        },
+    ];
+    write_json(&members, out)
 }
 
 // Whether a loader maps the file that these bytes are.

@@ -10,6 +10,12 @@ same_checked : (narrow_record wide_record : _) (page : ℕ) (one other : List In
 same_checked narrow_record wide_record page one other same is =
     subst (λ (inputs : List Input). HasStatic inputs ⊎ AreImagesGood narrow_record wide_record page inputs) same is
 
+pub returns-in-Some-clause-bound : goal.returns-in-Some-clause-bound
+returns-in-Some-clause-bound g c = c.with_missing.ensures.bound c.run.ensures.bound
+
+pub returns-in-Some-clause-closed : goal.returns-in-Some-clause-closed
+returns-in-Some-clause-closed g c = λ is. c.run.ensures.closed (c.with_missing.ensures.closed is)
+
 pub returns-in-Some-clause-complete : goal.returns-in-Some-clause-complete
 returns-in-Some-clause-complete g c = λ zero. c.say_missing-missing.ensures (c.with_missing.ensures.whole zero)
 

@@ -13,7 +13,7 @@ loop-input-preserved g c =
     let worse = c.worse-status.ensures in
     let one = worse.one in
     let other = worse.other in (
-      worse.bound c.run_plan-own.ensures.bound c.loop-input.invariant.0,
+      worse.bound (c.run_plan-own.ensures.bound (c.is_shut.ensures.no c.if-is_shut.false)) c.loop-input.invariant.0,
       one_more_if (λ (input : Input). AreBytesLoaded page input.bytes.items) inputs index c.input-item.result below c.input-item.is
           (λ (zero : c.worse-status.result ≡ 0). c.loop-input.invariant.1 (omega (arith, zero, other)))
           (λ (zero : c.worse-status.result ≡ 0). (c.deref.result, c.deref.ensures.value, c.run_plan-own.ensures.loaded (omega (arith, zero, one)))),

@@ -1,9 +1,10 @@
 use Rattle.elf_loading.specs.MappingsLeft.{mappings_left}
 use Rattle.program_ends.specs.Appended.{AppendsSome}
+use Rattle.elfload.specs.Texts.{mapping_text}
 use Rattle.elfload.proofs.MappingLines.{AreLinesSoFar}
 use Rattle.elfload.proofs.plans.write_mappings.Given as goal
 
 -- a line for each mapping so far
 abbrev pub invariant-loop-mapping : goal.invariant-loop-mapping
-invariant-loop-mapping g l = AppendsSome (AreLinesSoFar (mappings_left l.fn.mappings) (mappings_left l.mapping-iterator))
+invariant-loop-mapping g l = AppendsSome (AreLinesSoFar mapping_text (mappings_left l.fn.mappings) (mappings_left l.mapping-iterator))
     (g.W.Write.contents l.fn.out) (g.W.Write.contents l.out)

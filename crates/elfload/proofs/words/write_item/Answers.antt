@@ -11,8 +11,8 @@ returns-then-is_unchanged g c =
       subst IsOk (sym c.in-Ok.is) refl,
       (
         [],
-        sym (ap (result_text c.args.machine kind c.args.of) c.in-Ok.is
-            ∙ ap (λ b. if b then [] else line_text c.args.machine kind c.args.of c.in-Ok.word) none),
+        sym (ap (result_text c.args.place kind) c.in-Ok.is
+            ∙ ap (λ b. if b then [] else line_text c.args.place kind c.in-Ok.word) none),
         Appends-nil _,
       ),
     )

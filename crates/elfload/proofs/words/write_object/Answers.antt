@@ -21,12 +21,12 @@ returns-in-Ok g c =
     let path = (get_or inputs of c.index-inputs-of.result).path in
     let there = slice_get_read objects (length objects) of object refl c.requires.below c.index-objects-of.is in
     let below : of < length inputs = omega (arith, c.requires.below, c.requires.same) in
-    object_ends g.E.Entry.fields c.args.when inputs objects c.args.objects refl of c.raw-machine.result object c.in-Ok.words path _ _ there
+    object_ends g.E.Entry.fields c.args.form c.args.when inputs objects c.args.objects refl of c.raw-machine.result object c.in-Ok.words path _ _ there
     (c.raw-machine.ensures ∙ ap machine_number c.machine.ensures ∙ ap file_machine c.file.ensures)
     (subst (λ lent. AreWordsOf lent of c.args.when c.in-Ok.words) c.new.ensures c.in-Ok.ensures.begun)
     (subst (λ lent. own_relocations (slice_get lent.now of) ≡ Ok (relocations_left c.in-Ok.words)) c.new.ensures c.in-Ok.ensures.exact)
     (at_index (λ (input : Input). path ≡ input.path) inputs of c.index-inputs-of.result below c.index-inputs-of.is (ap (λ (input : Input). input.path) (sym c.index-inputs-of.is)))
-    c.in_ok-write.ensures.bytes _ c.write_items.result c.write_items.ensures
+    c.in_ok-write_heading.ensures _ c.write_items.result c.write_items.ensures
 
 pub returns-in-Err : goal.returns-in-Err
 returns-in-Err g c =
