@@ -98,11 +98,12 @@ pub record AreEnds {R S : Type 0} (options : Options) (remaining : R → Option 
   pub sums_are : sums ≡ sums_of_all ends
 
 -- the exit status of the program after files: 1 if one of them has a fault, otherwise 0, and after more than one their sums
--- were appended to what the writer contained; or after more than one it is 1, and nothing is known of their sums
+-- were appended to what the writer contained; or these files end so, and it is 1 since their sums can't be written
 pub data IsStatus {R S W : Type 0} (options : Options) (remaining : R → Option (List ℕ)) (text : S → List ℕ) (contents : W → Option (List ℕ)) (paths : List S) (after : W) (status : ℕ) : Type 0 where
   few : (sums : Sums) → length paths ≤ 1 → AreEnds options remaining text paths status sums
       → IsStatus options remaining text contents paths after status
   summed : (sums : Sums) (before : W) → 1 < length paths → AreEnds options remaining text paths status sums
       → Appends (contents before) (contents after) (sums_text options.form sums)
       → IsStatus options remaining text contents paths after status
-  unwritten : 1 < length paths → status ≡ 1 → IsStatus options remaining text contents paths after status
+  unwritten : (own : ℕ) (sums : Sums) → 1 < length paths → AreEnds options remaining text paths own sums → status ≡ 1
+      → IsStatus options remaining text contents paths after status
