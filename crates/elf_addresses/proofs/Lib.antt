@@ -8,6 +8,7 @@ pub mod Known
 pub mod Nested
 pub mod Listed
 pub mod Sorted
+pub mod Keys
 pub mod Lasting
 pub mod Build
 pub mod OfFile

@@ -59,15 +59,23 @@ end_at range_of words place = let range = range_of (slice_index words place) in 
 abbrev pub InBlock : ℕ → ℕ → Type 0
 InBlock k place = (bit_and k (k - 1) ≤ place) × (place < k)
 
--- a place of the block that ends before k, and no place of the block has a range that ends later
-pub record OutlastsBlock (range_of : ℕ → ℕ × ℕ) (words : List ℕ) (k place : ℕ) : Type 0 where
-  pub inside : InBlock k place
-  pub last : (j : ℕ) → InBlock k j → end_at range_of words j ≤ end_at range_of words place
+-- the first address after the range at a place, by the first addresses and the sizes at the places
+abbrev pub number_end : List ℕ → List ℕ → ℕ → ℕ
+number_end begins sizes place = slice_index begins place + max (slice_index sizes place) 1
 
--- for each place, the place in the block up to it whose range ends last
-pub record AreLasting (range_of : ℕ → ℕ × ℕ) (words lasting : List ℕ) : Type 0 where
-  pub count : length lasting ≡ length words
-  pub each : (place : ℕ) → place < length words → OutlastsBlock range_of words (place + 1) (slice_index lasting place)
+-- a place of the block that ends before k, and no place of the block has a range that ends later
+pub record OutlastsBlock (ends : ℕ → ℕ) (k place : ℕ) : Type 0 where
+  pub inside : InBlock k place
+  pub last : (j : ℕ) → InBlock k j → ends j ≤ ends place
+
+-- for each of `places` places, by the ends of their ranges, the place in the block up to it whose range ends last
+pub record LastInBlocks (ends : ℕ → ℕ) (places : ℕ) (lasting : List ℕ) : Type 0 where
+  pub count : length lasting ≡ places
+  pub each : (place : ℕ) → place < places → OutlastsBlock ends (place + 1) (slice_index lasting place)
+
+-- the same for each place of words, by the ranges at their indices
+abbrev pub AreLasting : (ℕ → ℕ × ℕ) → List ℕ → List ℕ → Type 0
+AreLasting range_of words lasting = LastInBlocks (end_at range_of words) (length words) lasting
 
 -- the sized claims in order, the places in each block whose ranges end last, and the open claims in order
 pub record IsWellBuilt (claim_of : ℕ → Option Claim) (range_of : ℕ → ℕ × ℕ) (sized begins sizes lasting starts : List ℕ) : Type 0 where

@@ -1,5 +1,6 @@
 pub mod Claims
 pub mod Index
+pub mod Keys
 pub mod Message
 pub mod Candidates
 pub mod SymbolClaims

@@ -1,11 +1,13 @@
 //! Words and numbers that an iterator holds, with an index that is built in them.
 
-ghost use Rattle.std.specs.Prelude.{◌≡◌, ◌≤◌, ◌<◌, ◌^◌, length};
+ghost use Rattle.std.specs.Prelude.{◌≡◌, ◌≤◌, ◌<◌, ◌^◌, false, length, true};
 ghost use Rattle.elf_addresses.specs.Held.{InBlocks, InRanges, IsHeld};
-ghost use Rattle.elf_addresses.specs.Index.{IsBuilt, number_count, word_count};
+ghost use Rattle.elf_addresses.specs.Index.{IsBuilt, listed, number_count, word_count};
 
 use crate::claims::Claims;
-use crate::index::{build_index, fill_lasting, fill_ranges, index_size, number_parts, word_parts};
+use crate::index::{
+    IndexSize, build_sized, fill_lasting, fill_ranges, index_size, number_parts, word_parts,
+};
 
 // The parts of an index in words and numbers.
 #[derive(Clone, Copy, Debug)]
@@ -31,26 +33,30 @@ pub(crate) fn built<'w, C: Claims>(
         result.sized.now result.begins.now result.sizes.now result.lasting.now
         result.starts.now }
 {
-    match build_index(claims, &mut *words, &mut *numbers) {
+    let size = index_size(claims);
+    match build_sized(claims, size, &mut *words, &mut *numbers) {
         Ok(()) => {}
         Err(_) => unreachable!(),
     }
-    words_of(claims, words, numbers)
+    words_of(claims, size, words, numbers)
 }
 
-// The parts of an index that is built in words and numbers.
+// The parts of an index of a size that is built in words and numbers. The claims are those of its
+// contract, and it reads none.
 pub(crate) fn words_of<'w, C: Claims>(
     claims: &C,
+    size: IndexSize,
     words: &'w [u32],
     numbers: &'w [u64],
 ) -> IndexWords<'w>
-    requires { IsBuilt (C.claim_of claims.now) (C.range_of claims.now) (C.count claims.now)
+    requires sized { size.sized ≡ length (listed (C.claim_of claims.now) false (C.count claims.now)) }
+    requires open { size.open ≡ length (listed (C.claim_of claims.now) true (C.count claims.now)) }
+    requires built { IsBuilt (C.claim_of claims.now) (C.range_of claims.now) (C.count claims.now)
         words.now numbers.now }
     ensures { IsHeld (C.claim_of claims.now) (C.range_of claims.now) (C.count claims.now)
         result.sized.now result.begins.now result.sizes.now result.lasting.now
         result.starts.now }
 {
-    let size = index_size(claims);
     let (sized, lasting, starts) = word_parts(size, words);
     let (begins, sizes) = number_parts(size, numbers);
     IndexWords {
@@ -62,31 +68,23 @@ pub(crate) fn words_of<'w, C: Claims>(
     }
 }
 
-// For each of these words, the one of its block whose range ends last, in words of the same number.
-pub(crate) fn lasting_of<'w, C: Claims>(
+// The first addresses and the sizes of the ranges of these words, and for each place the one of its
+// block whose range ends last, in numbers and words of the same count.
+pub(crate) fn parts_of<'w, C: Claims>(
     claims: &C,
     words: &[u32],
     lasting: &'w mut [u32],
-) -> &'w [u32]
-    requires few { length words.now < 2 ^ 32 }
-    requires room { length lasting.old ≡ length words.now }
-    ensures { InBlocks (C.range_of claims.now) words.now result.now }
-{
-    fill_lasting(claims, words, &mut *lasting);
-    lasting
-}
-
-// The first addresses and the sizes of the ranges of these words, in numbers of the same count.
-pub(crate) fn ranges_of<'w, C: Claims>(
-    claims: &C,
-    words: &[u32],
     begins: &'w mut [u64],
     sizes: &'w mut [u64],
-) -> (&'w [u64], &'w [u64])
+) -> (&'w [u64], &'w [u64], &'w [u32])
+    requires few { length words.now < 2 ^ 32 }
+    requires room { length lasting.old ≡ length words.now }
     requires begins_room { length begins.old ≡ length words.now }
     requires sizes_room { length sizes.old ≡ length words.now }
-    ensures { InRanges (C.range_of claims.now) words.now result.0.now result.1.now }
+    ensures ranges { InRanges (C.range_of claims.now) words.now result.0.now result.1.now }
+    ensures blocks { InBlocks (C.range_of claims.now) words.now result.2.now }
 {
     fill_ranges(claims, words, &mut *begins, &mut *sizes);
-    (begins, sizes)
+    fill_lasting(begins, sizes, &mut *lasting);
+    (begins, sizes, lasting)
 }

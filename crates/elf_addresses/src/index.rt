@@ -7,6 +7,7 @@ ghost use Rattle.elf_addresses.specs.declared.claim.Claim.{Claim};
 
 mod ask;
 mod build;
+mod keys;
 mod lasting;
 mod near;
 mod order;
@@ -18,7 +19,7 @@ use crate::claims::Claims;
 use crate::index::ask::{index_at, last_begun, over};
 pub(crate) use crate::index::ask::{count_begun, reach};
 pub(crate) use crate::index::build::{number_parts, word_parts};
-pub use crate::index::build::{IndexSize, build_index, index_size};
+pub use crate::index::build::{IndexSize, build_index, build_sized, index_size};
 use crate::index::lasting::are_lasting;
 pub(crate) use crate::index::lasting::fill_lasting;
 use crate::index::near::reach_place;
@@ -93,7 +94,7 @@ impl<'c, 'w, C: Claims> ClaimIndex<'c, 'w, C> {
         if !are_ranges(self.claims, self.sized, self.begins, self.sizes) {
             return false;
         }
-        are_lasting(self.claims, self.sized, self.lasting)
+        are_lasting(self.begins, self.sizes, self.lasting)
     }
 
     /// The innermost claim that covers an address, if the index is well built. Otherwise a claim that

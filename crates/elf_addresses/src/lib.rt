@@ -38,7 +38,7 @@ pub use crate::error::IndexError;
 pub use crate::file_claims::{SectionClaims, SegmentClaims};
 pub use crate::file_symbols::AnyAddressSymbols;
 pub use crate::find::{At, open_below, symbol_at};
-pub use crate::index::{ClaimIndex, IndexSize, build_index, index_size};
+pub use crate::index::{ClaimIndex, IndexSize, build_index, build_sized, index_size};
 pub use crate::owner::{Owner, owner_of};
 pub use crate::pieces::{Piece, Pieces};
 pub use crate::section_counts::SectionCounts;

@@ -13,7 +13,9 @@ ghost use Rattle.elf_addresses.specs.declared.find.At.{At};
 use crate::claim::covers_range;
 use crate::error::IndexError;
 use crate::find::{At, if_in_section, told};
-use crate::index::{ClaimIndex, IndexSize, build_index, index_size, number_parts, word_parts};
+use crate::index::{
+    ClaimIndex, IndexSize, build_index, build_sized, index_size, number_parts, word_parts,
+};
 use crate::symbols::{AddressSymbols, SymbolClaims};
 use xmas_elf::bytes::Record;
 use xmas_elf::symbol_table::Entry;
@@ -55,9 +57,10 @@ impl<'s, 'a, 'w, E: Entry + Record> SymbolIndex<'s, 'a, 'w, E> {
 
     /// Builds the index in words and numbers: in the first of them, if there are more than it takes.
     ///
-    /// Two passes over the table, and a sort of the words. It takes no memory. The errors are
-    /// `ManySymbols`, then `FewWords`; after an error the words and the numbers are as they were, and
-    /// those that it doesn't take always are.
+    /// Two passes over the table, and two sorts, as `build_index` sorts: of numbers, if the values are
+    /// less than 2 to the 32 apart. It takes no memory. The errors are `ManySymbols`, then `FewWords`;
+    /// after an error the words and the numbers are as they were, and those that it doesn't take
+    /// always are.
     pub fn build(
         symbols: &AddressSymbols<'_, E>,
         within: Option<u32>,
@@ -91,6 +94,38 @@ impl<'s, 'a, 'w, E: Entry + Record> SymbolIndex<'s, 'a, 'w, E> {
             drop count numbers.new ≡ drop count numbers.old }
     {
         build_index(&SymbolClaims { symbols, within }, words, numbers)
+    }
+
+    /// What `build` does, with the size that `size` returns: one pass over the table, and the two sorts.
+    pub fn build_sized(
+        symbols: &AddressSymbols<'_, E>,
+        within: Option<u32>,
+        size: IndexSize,
+        words: &mut [u32],
+        numbers: &mut [u64],
+    ) -> Result<(), IndexError>
+        requires sized { size.sized ≡ length (listed (claim_of_symbols E.fields symbols.now within)
+            false (symbol_count symbols.now)) }
+        requires open { size.open ≡ length (listed (claim_of_symbols E.fields symbols.now within)
+            true (symbol_count symbols.now)) }
+        ensures many { 2 ^ 32 ≤ symbol_count symbols.now → result ≡ Err ManySymbols }
+        ensures few { symbol_count symbols.now < 2 ^ 32
+            → length words.old < size.sized + size.sized + size.open → result ≡ Err FewWords }
+        ensures few_numbers { symbol_count symbols.now < 2 ^ 32
+            → length numbers.old < size.sized + size.sized → result ≡ Err FewWords }
+        ensures fits { symbol_count symbols.now < 2 ^ 32
+            → size.sized + size.sized + size.open ≤ length words.old
+            → size.sized + size.sized ≤ length numbers.old → IsOk result }
+        ensures built { OnOk result (IsBuilt (claim_of_symbols E.fields symbols.now within)
+            (range_of_symbols E.fields symbols.now) (symbol_count symbols.now) words.new
+            numbers.new) }
+        ensures unchanged { OnErr result ((words.new ≡ words.old) × (numbers.new ≡ numbers.old)) }
+        ensures rest { let count = size.sized + size.sized + size.open in
+            drop count words.new ≡ drop count words.old }
+        ensures rest_numbers { let count = size.sized + size.sized in
+            drop count numbers.new ≡ drop count numbers.old }
+    {
+        build_sized(&SymbolClaims { symbols, within }, size, words, numbers)
     }
 
     /// The index of a size in words and numbers: in the first of them, if there are more than it

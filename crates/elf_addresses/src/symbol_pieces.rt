@@ -7,8 +7,8 @@ ghost use Rattle.elf_addresses.specs.SymbolClaims.{symbol_count};
 
 use crate::claim::Claim;
 use crate::error::IndexError;
-use crate::held::{lasting_of, ranges_of, words_of};
-use crate::index::{build_index, reach};
+use crate::held::{parts_of, words_of};
+use crate::index::{build_sized, index_size, reach};
 use crate::next::{limit_of, next_claim};
 use crate::section_counts::SectionCounts;
 use crate::symbols::{AddressSymbols, SymbolClaims};
@@ -94,8 +94,9 @@ impl<'s, 'a, 'w, E: Entry + Record> SymbolPieces<'s, 'a, 'w, E> {
         ensures last { IfOk result (λ pieces. symbol_limit pieces ≡ max begin end) }
     {
         let claims = SymbolClaims { symbols, within };
-        build_index(&claims, &mut *words, &mut *numbers)?;
-        let parts = words_of(&claims, words, numbers);
+        let size = index_size(&claims);
+        build_sized(&claims, size, &mut *words, &mut *numbers)?;
+        let parts = words_of(&claims, size, words, numbers);
         Ok(SymbolPieces {
             claims,
             sized: parts.sized,
@@ -143,9 +144,8 @@ impl<'s, 'a, 'w, E: Entry + Record> SymbolPieces<'s, 'a, 'w, E> {
             symbols: counts.symbols,
             within: Some(section),
         };
-        let lasting = lasting_of(&claims, sized, lasting);
         let (begins, sizes) = numbers.split_at_mut(sized.len());
-        let (begins, sizes) = ranges_of(&claims, sized, begins, sizes);
+        let (begins, sizes, lasting) = parts_of(&claims, sized, lasting, begins, sizes);
         Some(SymbolPieces {
             claims,
             sized,

@@ -81,6 +81,25 @@ fn words_are_built_in_order(rt: HostRuntime) -> Result<(), Fail> {
     Ok(())
 }
 
+// Three symbols of one value, one below it, and one that is 2 to the 32 above the least.
+const TIES: &[Row] = rows! {
+    F, 0x12, 1, 0x2000, 8; F, 0x12, 1, 0x2000, 0x10; F, 0x12, 1, 0x2000, 8; F, 0x12, 1, 0x1000, 4;
+    F, 0x12, 1, 0x1_0000_1000, 4;
+};
+
+#[test]
+fn symbols_of_one_value_are_in_order(rt: HostRuntime) -> Result<(), Fail> {
+    for (count, wanted) in [(4, &[3, 1, 2, 0][..]), (5, &[3, 1, 2, 0, 4])] {
+        let bytes = table_bytes(rt.alloc(), &TIES[..count])?;
+        let symbols = symbols(&rt, &bytes, &[], 62);
+        let size = SymbolIndex::size(&symbols, None);
+        let (mut words, mut numbers) = ([5; 10], [5; 10]);
+        SymbolIndex::build_sized(&symbols, None, size, &mut words, &mut numbers)?;
+        want_at(&rt, count, &words[..count], wanted);
+    }
+    Ok(())
+}
+
 #[test]
 fn too_few_words_are_an_error(rt: HostRuntime) -> Result<(), Fail> {
     let bytes = table_bytes(rt.alloc(), ROWS)?;

@@ -117,15 +117,6 @@ pub(crate) fn reach<C: Claims>(
     }
 }
 
-// The first address after the range at an index.
-#[inline(always)]
-pub(crate) fn end_of<C: Claims>(claims: &C, index: u32) -> u128
-    ensures { let range = C.range_of claims.now index in result ≡ range.0 + max range.1 1 }
-{
-    let (begin, size) = claims.range(index as usize);
-    u128::from(begin) + u128::from(size.max(1))
-}
-
 // The word at a place, or 0 past the end.
 #[inline(always)]
 pub(crate) fn word_at(words: &[u32], place: usize) -> u32

@@ -53,7 +53,9 @@ pub fn index_size<C: Claims>(claims: &C) -> IndexSize
 
 /// Builds an index in words and numbers: in the first of them, if there are more than it takes.
 ///
-/// Two passes over the claims, and two sorts of words. It takes no memory. The errors are
+/// Two passes over the claims, and two sorts, of the sized claims and of the open ones. A sort is of
+/// numbers, if the first addresses are less than 2 to the 32 apart and there are at most as many claims
+/// as sized ones; otherwise it is of words, by their claims. It takes no memory. The errors are
 /// `ManySymbols`, then `FewWords`; after an error the words and the numbers are as they were, and
 /// those that it doesn't take always are.
 pub fn build_index<C: Claims>(
@@ -80,10 +82,39 @@ pub fn build_index<C: Claims>(
     ensures rest_numbers { let count = number_count (C.claim_of claims.now) (C.count claims.now) in
         drop count numbers.new ≡ drop count numbers.old }
 {
+    build_sized(claims, index_size(claims), words, numbers)
+}
+
+/// What `build_index` does, with the size that `index_size` returns: one pass over the claims, and the
+/// two sorts.
+pub fn build_sized<C: Claims>(
+    claims: &C,
+    size: IndexSize,
+    words: &mut [u32],
+    numbers: &mut [u64],
+) -> Result<(), IndexError>
+    requires sized { size.sized ≡ length (listed (C.claim_of claims.now) false (C.count claims.now)) }
+    requires open { size.open ≡ length (listed (C.claim_of claims.now) true (C.count claims.now)) }
+    ensures many { 2 ^ 32 ≤ C.count claims.now → result ≡ Err ManySymbols }
+    ensures few { C.count claims.now < 2 ^ 32
+        → length words.old < size.sized + size.sized + size.open → result ≡ Err FewWords }
+    ensures few_numbers { C.count claims.now < 2 ^ 32
+        → length numbers.old < size.sized + size.sized → result ≡ Err FewWords }
+    ensures fits { C.count claims.now < 2 ^ 32
+        → size.sized + size.sized + size.open ≤ length words.old
+        → size.sized + size.sized ≤ length numbers.old → IsOk result }
+    ensures built { OnOk result (IsBuilt (C.claim_of claims.now) (C.range_of claims.now)
+        (C.count claims.now) words.new numbers.new) }
+    ensures unchanged { OnErr result ((words.new ≡ words.old) × (numbers.new ≡ numbers.old)) }
+    ensures rest { let count = size.sized + size.sized + size.open in
+        drop count words.new ≡ drop count words.old }
+    ensures rest_numbers { let count = size.sized + size.sized in
+        drop count numbers.new ≡ drop count numbers.old }
+{
     if claims.count() > u32::MAX as usize {
         return Err(IndexError::ManySymbols);
     }
-    let (sized, open) = count_kinds(claims);
+    let (sized, open) = (size.sized, size.open);
     if words.len() < sized + sized + open || numbers.len() < sized + sized {
         return Err(IndexError::FewWords);
     }
@@ -92,9 +123,9 @@ pub fn build_index<C: Claims>(
     let (starts, _rest) = rest.split_at_mut(open);
     let (begins, rest) = numbers.split_at_mut(sized);
     let (sizes, _rest) = rest.split_at_mut(sized);
-    fill_orders(claims, order, starts);
+    fill_orders(claims, order, starts, begins);
     fill_ranges(claims, order, begins, sizes);
-    fill_lasting(claims, order, lasting);
+    fill_lasting(begins, sizes, lasting);
     Ok(())
 }
 

@@ -1,7 +1,7 @@
 //! The last range that covers an address, by the ranges that an index holds.
 
 ghost use Rattle.std.specs.Prelude.{◌≡◌, ◌≤◌, ◌<◌, ◌+◌, ◌↔◌, ℕ, List, max, length, slice_index, IfSome, IsTrue, MatchOption};
-ghost use Rattle.elf_addresses.specs.Index.{AreLasting, AreRanges, IsRising, NoneCovers};
+ghost use Rattle.elf_addresses.specs.Index.{AreLasting, AreRanges, IsRising, NoneCovers, number_end};
 
 use crate::claim::covers_range;
 use crate::index::ask::word_at;
@@ -18,14 +18,21 @@ fn number_at(numbers: &[u64], place: usize) -> u64
     }
 }
 
+// The first address after the range at a place.
+#[inline(always)]
+pub(crate) fn end_at(begins: &[u64], sizes: &[u64], place: usize) -> u128
+    ensures { result ≡ number_end begins.now sizes.now place }
+{
+    u128::from(number_at(begins, place)) + u128::from(number_at(sizes, place).max(1))
+}
+
 // Whether the range at a place ends behind an address.
 #[inline(always)]
 pub(crate) fn ends_behind(begins: &[u64], sizes: &[u64], place: usize, address: u64) -> bool
     ensures { IsTrue result ↔ (address < slice_index begins.now place
         + max (slice_index sizes.now place) 1) }
 {
-    let end = u128::from(number_at(begins, place)) + u128::from(number_at(sizes, place).max(1));
-    u128::from(address) < end
+    u128::from(address) < end_at(begins, sizes, place)
 }
 
 // The number of places up to which to go on, after that of the range at `last`: at the ranges

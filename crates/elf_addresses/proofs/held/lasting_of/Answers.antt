@@ -1,7 +1,0 @@
-use Rattle.elf_addresses.proofs.HeldWords.{in_blocks}
-use Rattle.elf_addresses.proofs.held.lasting_of.Goals as goal
-
-pub returns : goal.returns
-returns g c =
-    let claims = c.args.claims.now in
-    in_blocks (g.C.Claims.claim_of claims) (g.C.Claims.range_of claims) (g.C.Claims.count claims) (λ i claim is. g.C.Claims.own claims i claim is) (λ i claim is. g.C.Claims.within claims i claim is) _ _ c.fill_lasting.ensures
