@@ -18,7 +18,7 @@ use Rattle.elf_c.proofs.Batches.{put_elsewhere, put_there}
 use Rattle.elf_c.proofs.LoadObjects.{repeated, take_get}
 use Rattle.elf_c.specs.LoadAll.{AreRelocated, AreShown, IsImageRelocated, RelocatesAllAs, RelocatesEach, all_relocated, begin_at, image_behind, none_relocated, one_relocated, size_at, size_in, total_size}
 use Rattle.elf_c.specs.LoadObjects.{AreObjectsOf, ArePlacesOf, ArePlansOf}
-use Rattle.elf_c.specs.declared.load_all.Failure.{Failure}
+use Rattle.elf_c.specs.declared.load_objects.Failure.{Failure}
 use Rattle.elf_c.specs.declared.load_objects.LoadObject.{LoadObject}
 
 some_same : {T : Type 0} (one other : T) → Some one ≡ Some other → one ≡ other

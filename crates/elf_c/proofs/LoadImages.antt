@@ -1,5 +1,5 @@
 -- The images of objects, by what the library's calls say of them.
-use Rattle.std.proofs.Common.{◌≡◌, ℕ, List, Result, refl, subst, sym}
+use Rattle.std.proofs.Common.{◌≡◌, ℕ, List, Result, subst, sym}
 use Rattle.std.specs.Borrow.{Bor}
 use Rattle.std.specs.Prelude.{IfErr, IfOk}
 use Rattle.elf_linking.specs.declared.object.DynamicObject.{DynamicObject}
@@ -13,6 +13,7 @@ use Rattle.elf_loading.specs.declared.words.Binding.{Binding}
 use Rattle.xmas_elf.specs.Symbol.{SymbolFields}
 use Rattle.elf_c.specs.LoadImages.{ChecksAs, RelocatesAs, checked, relocated}
 use Rattle.elf_c.specs.LoadObjects.{AreImagesOf, AreObjectsOf, ArePlacesOf, ArePlansOf, as_failure}
+use Rattle.elf_c.specs.declared.load_objects.Failure.{Failure}
 use Rattle.elf_c.specs.declared.load_objects.LoadObject.{LoadObject}
 
 module _ {E : Type 0} {r : _} (class size : ℕ) (fields : E → SymbolFields) (loads : List LoadObject) (of page limit : ℕ) (objects : Bor (List (DynamicObject E r))) (all : List (DynamicObject E r)) (are : AreObjectsOf class size loads all) (same : objects.now ≡ all) (plans : Bor (List LoadPlan)) (planned : List LoadPlan) (are_planned : ArePlansOf page limit all planned) (plans_same : plans.now ≡ planned) where
@@ -22,13 +23,13 @@ module _ {E : Type 0} {r : _} (class size : ℕ) (fields : E → SymbolFields) (
   own_plans : ArePlansOf page limit objects.now plans.now
   own_plans = subst (λ os. ArePlansOf page limit os plans.now) (sym same) (subst (ArePlansOf page limit all) (sym plans_same) are_planned)
 
-  pub checked_by : (bits : ℕ) (answer : Result (Unit {0}) LoadError) → IsImageCheck size fields objects.now plans.now of bits answer → ChecksAs r class size fields loads of page limit bits (as_failure answer)
-  checked_by bits answer check = checked objects.now plans.now answer own own_plans check refl
+  pub checked_by : (bits : ℕ) (answer : Result (Unit {0}) LoadError) (result : Result (Unit {0}) Failure) → IsImageCheck size fields objects.now plans.now of bits answer → result ≡ as_failure answer of → ChecksAs r class size fields loads of page limit bits result
+  checked_by bits answer result check is = checked objects.now plans.now answer own own_plans check is
 
-  pub relocated_by : (when : Binding) (before after : List ℕ) (answer : Result ℕ LoadError) (places : Bor (List Place)) (images : Bor (List (Bor (List ℕ))))
+  pub relocated_by : (when : Binding) (before after : List ℕ) (answer : Result ℕ LoadError) (result : Result ℕ Failure) (places : Bor (List Place)) (images : Bor (List (Bor (List ℕ))))
       → IsRelocationIn fields objects plans of when places images before after answer
       → IfOk answer (λ count. IsByOneWordIn fields objects plans of when places images before after)
       → IfErr answer (HasErrorLeft fields objects.now plans.now of when)
-      → ArePlacesOf loads places.now → AreImagesOf loads images.now → RelocatesAs r class size fields loads of when page limit before after (as_failure answer)
-  relocated_by when before after answer places images relocation once errors at shown =
-      relocated objects plans places images answer own own_plans at shown relocation once errors refl
+      → ArePlacesOf loads places.now → AreImagesOf loads images.now → result ≡ as_failure answer of → RelocatesAs r class size fields loads of when page limit before after result
+  relocated_by when before after answer result places images relocation once errors at shown is =
+      relocated objects plans places images answer own own_plans at shown relocation once errors is

@@ -10,11 +10,10 @@ use Rattle.elf_base.specs.FileHeader.{header_of}
 use Rattle.elf_linking.specs.DynamicObject.{IsReachedObject, IsReachedError}
 use Rattle.elf_linking.specs.declared.error.LinkError.{LinkError}
 use Rattle.elf_linking.specs.declared.object.DynamicObject.{DynamicObject}
-use Rattle.elf_loading.specs.declared.error.LoadError.{LoadError}
 use Rattle.elf_loading.specs.declared.relocate.Place.{Place}
 use Rattle.xmas_elf.specs.declared.ElfFile.{ElfFile}
 use Rattle.elf_c.proofs.Batches.{put_elsewhere, put_there}
-use Rattle.elf_c.specs.LoadObjects.{AreFirstMade, AreImagesOf, AreMade, ArePadded, ArePlacesOf, IsFirstFailed, IsFirstUnmade, IsFirstUnmadeAt, IsFirstUnplanned, IsObjectOfBytes, IsObjectErrorOf, IsFailedAt, IsUnplannedAt, no_object, load_place}
+use Rattle.elf_c.specs.LoadObjects.{AreFirstMade, AreImagesOf, AreMade, ArePadded, ArePlacesOf, IsFirstUnmade, IsFirstUnmadeAt, IsObjectOfBytes, IsObjectErrorOf, no_object, load_place}
 use Rattle.elf_c.specs.declared.load_objects.LoadObject.{LoadObject}
 use Rattle.elf_c.specs.declared.load_objects.TheConstants.{MOST_OBJECTS}
 
@@ -95,13 +94,6 @@ pub unmade_first : {A B C : Type 0} (Is : A → B → Type 0) (from : List A) (F
     → Fails item error → IsFirstUnmadeAt Is Fails from index error
 unfolding unmade_at
 unmade_first Is from Fails index item made error is before why = record { first = unmade_at Is from Fails index item made error is before why; index_is = refl }
-
--- the same without it
-pub failed_first : {E : Type 0} {r : _} {class size : ℕ} {loads : List LoadObject} {index : ℕ} {error : LinkError} → IsFailedAt {E = E} r class size loads index error → IsFirstFailed {E = E} r class size loads error
-failed_first at = record { first = at.failed.first }
-
-pub unplanned_first : {E : Type 0} {r : _} (page limit : ℕ) (objects : List (DynamicObject E r)) (index : ℕ) (error : LoadError) → IsUnplannedAt page limit objects index error → IsFirstUnplanned page limit objects error
-unplanned_first page limit objects index error at = at.first
 
 -- one of them in each place
 pub padded_none : (loads : List LoadObject) (spare : LoadObject) → (place : ℕ) × (slice_get loads place ≡ Some spare) → ArePadded loads (replicate MOST_OBJECTS spare) 0

@@ -1,6 +1,6 @@
 -- The relocation of all objects of a process, whose images are one after another in memory (this project's own; the order
 -- is that of glibc 2.36).
-use Rattle.std.specs.Prelude.{◌≡◌, ◌≢◌, ℕ, ◌+◌, ◌-◌, ◌<◌, ◌≤◌, ◌^◌, min, slice_get, true, false, List, [], ◌∷◌, ◌++◌, drop, length, take, IfOk, IfErr, Option, None, Some, Result, Ok, Err, unwrap_or}
+use Rattle.std.specs.Prelude.{◌≡◌, ◌≢◌, ℕ, ◌+◌, ◌-◌, ◌<◌, ◌≤◌, ◌^◌, min, slice_get, true, false, List, [], ◌∷◌, ◌++◌, drop, length, take, IfOk, IfErr, Option, None, Some, Result, Ok, Err}
 use Rattle.std.specs.Borrow.{Bor}
 use Rattle.elf_linking.specs.declared.error.LinkError.{LinkError}
 use Rattle.elf_linking.specs.declared.error.LinkError.TheVariants.{ObjectIndex}
@@ -15,21 +15,12 @@ use Rattle.elf_loading.specs.declared.relocate.Place.{Place}
 use Rattle.elf_loading.specs.declared.words.Binding.{Binding}
 use Rattle.xmas_elf.specs.Symbol.{SymbolFields, dyn_entry_32_fields, dyn_entry_64_fields}
 use Rattle.xmas_elf.specs.Types.{DynEntry32, DynEntry64}
-use Rattle.elf_c.specs.LoadObjects.{AreObjectsOf, ArePlacesOf, ArePlansOf, IsFailedAt, IsUnplannedAt, is_first_narrow}
-use Rattle.elf_c.specs.Status.{failure_number}
-use Rattle.elf_c.specs.declared.load_all.Failure.{Failure}
+use Rattle.elf_c.specs.LoadObjects.{AreObjectsOf, ArePlacesOf, ArePlansOf, IsFailedAt, IsUnplannedAt, failed_alone, failed_at, is_first_narrow}
+use Rattle.elf_c.specs.declared.load_objects.Failure.{Failure}
 use Rattle.elf_c.specs.declared.load_objects.LoadObject.{LoadObject}
 use Rattle.elf_c.specs.declared.load_objects.TheConstants.{MOST_OBJECTS}
 use Rattle.elf_c.specs.declared.status.AnyError.{AnyError}
 use Rattle.elf_c.specs.declared.status.AnyError.TheVariants.{Link, Load, ManyObjects}
-
--- an error of the object at an index
-abbrev pub failed_at : AnyError → ℕ → Failure
-failed_at error index = record { error = error; object = Some index }
-
--- an error that is not that of an object
-abbrev pub failed_alone : AnyError → Failure
-failed_alone error = record { error = error; object = None }
 
 -- The places of images in memory.
 
@@ -135,9 +126,3 @@ pub data RelocatesAll (narrow_record wide_record : _) (loads : List LoadObject) 
   all_wide : length loads ≤ MOST_OBJECTS → is_first_narrow loads ≡ false
       → RelocatesAllAs {E = DynEntry64} wide_record 2 24 dyn_entry_64_fields loads when page limit before after result
       → RelocatesAll narrow_record wide_record loads when page limit before after result
-
--- the status and what is stored: the number of words without a number, or the index of the object with the error
-abbrev pub GivesAll : Result ℕ Failure → ℕ → ℕ → ℕ → ℕ → ℕ → Type 0
-GivesAll (Ok count) left failed status left_new failed_new = (status ≡ 0) × (left_new ≡ count) × (failed_new ≡ failed)
-GivesAll (Err why) left failed status left_new failed_new =
-    (status ≡ failure_number why.error) × (left_new ≡ left) × (failed_new ≡ unwrap_or why.object failed)

@@ -19,8 +19,9 @@ use Rattle.elf_loading.specs.declared.relocate.Place.{Place}
 use Rattle.elf_loading.specs.declared.words.Binding.{Binding}
 use Rattle.xmas_elf.specs.Symbol.{SymbolFields, dyn_entry_32_fields, dyn_entry_64_fields}
 use Rattle.xmas_elf.specs.Types.{DynEntry32, DynEntry64, ElfFile}
-use Rattle.elf_c.specs.LoadObjects.{AreImagesOf, AreObjectsOf, ArePlacesOf, ArePlansOf, IsFirstFailed, IsFirstUnplanned, as_failure, is_first_narrow}
+use Rattle.elf_c.specs.LoadObjects.{AreImagesOf, AreObjectsOf, ArePlacesOf, ArePlansOf, IsFailedAt, IsUnplannedAt, as_failure, failed_alone, failed_at, is_first_narrow}
 use Rattle.elf_c.specs.LoadPlans.{if_checked}
+use Rattle.elf_c.specs.declared.load_objects.Failure.{Failure}
 use Rattle.elf_c.specs.declared.load_objects.LoadObject.{LoadObject}
 use Rattle.elf_c.specs.declared.load_objects.TheConstants.{MOST_OBJECTS}
 use Rattle.elf_c.specs.declared.status.AnyError.{AnyError}
@@ -39,23 +40,24 @@ planned_byte file page by i = byte_number file.input.now
 -- The check of an image, with `bits` marks. The plans have pages of `page` bytes, and addresses up to `limit`.
 
 -- the result for files of one class
-pub data ChecksAs {E : Type 0} (r : _) (class size : ℕ) (fields : E → SymbolFields) (loads : List LoadObject) (of page limit bits : ℕ) (result : Result (Unit {0}) AnyError) : Type 0 where
+pub data ChecksAs {E : Type 0} (r : _) (class size : ℕ) (fields : E → SymbolFields) (loads : List LoadObject) (of page limit bits : ℕ) (result : Result (Unit {0}) Failure) : Type 0 where
   checked : (objects : List (DynamicObject E r)) (plans : List LoadPlan) (answer : Result (Unit {0}) LoadError)
       → AreObjectsOf class size loads objects → ArePlansOf page limit objects plans
-      → IsImageCheck size fields objects plans of bits answer → result ≡ as_failure answer
+      → IsImageCheck size fields objects plans of bits answer → result ≡ as_failure answer of
       → ChecksAs r class size fields loads of page limit bits result
-  unchecked : (error : LinkError) → IsFirstFailed {E = E} r class size loads error → result ≡ Err (Link error)
+  unchecked : (index : ℕ) (error : LinkError) → IsFailedAt {E = E} r class size loads index error
+      → result ≡ Err (failed_at (Link error) index)
       → ChecksAs r class size fields loads of page limit bits result
-  unplanned : (objects : List (DynamicObject E r)) (error : LoadError) → AreObjectsOf class size loads objects
-      → IsFirstUnplanned page limit objects error → result ≡ Err (Load error)
+  unplanned : (objects : List (DynamicObject E r)) (index : ℕ) (error : LoadError) → AreObjectsOf class size loads objects
+      → IsUnplannedAt page limit objects index error → result ≡ Err (failed_at (Load error) index)
       → ChecksAs r class size fields loads of page limit bits result
 
 -- the result: without an object, or with more than a call takes, an error; otherwise one by the class of the first file.
 -- The first two arguments say how the record of a symbol of each class is read
-pub data Checks (narrow_record wide_record : _) (loads : List LoadObject) (of page limit bits : ℕ) (result : Result (Unit {0}) AnyError) : Type 0 where
-  checks_none : length loads ≡ 0 → result ≡ Err (Link ObjectIndex)
+pub data Checks (narrow_record wide_record : _) (loads : List LoadObject) (of page limit bits : ℕ) (result : Result (Unit {0}) Failure) : Type 0 where
+  checks_none : length loads ≡ 0 → result ≡ Err (failed_alone (Link ObjectIndex))
       → Checks narrow_record wide_record loads of page limit bits result
-  checks_many : MOST_OBJECTS < length loads → result ≡ Err ManyObjects
+  checks_many : MOST_OBJECTS < length loads → result ≡ Err (failed_alone ManyObjects)
       → Checks narrow_record wide_record loads of page limit bits result
   checks_narrow : length loads ≤ MOST_OBJECTS → is_first_narrow loads ≡ true
       → ChecksAs {E = DynEntry32} narrow_record 1 16 dyn_entry_32_fields loads of page limit bits result
@@ -67,25 +69,26 @@ pub data Checks (narrow_record wide_record : _) (loads : List LoadObject) (of pa
 -- The relocation of an image.
 
 -- the result for files of one class. If it is Ok, the byte at each address that one word has is that of the word
-pub data RelocatesAs {E : Type 0} (r : _) (class size : ℕ) (fields : E → SymbolFields) (loads : List LoadObject) (of : ℕ) (when : Binding) (page limit : ℕ) (before after : List ℕ) (result : Result ℕ AnyError) : Type 0 where
+pub data RelocatesAs {E : Type 0} (r : _) (class size : ℕ) (fields : E → SymbolFields) (loads : List LoadObject) (of : ℕ) (when : Binding) (page limit : ℕ) (before after : List ℕ) (result : Result ℕ Failure) : Type 0 where
   relocated : (objects : Bor (List (DynamicObject E r))) (plans : Bor (List LoadPlan)) (places : Bor (List Place))
       (images : Bor (List (Bor (List ℕ)))) (answer : Result ℕ LoadError) → AreObjectsOf class size loads objects.now
       → ArePlansOf page limit objects.now plans.now → ArePlacesOf loads places.now → AreImagesOf loads images.now
       → IsRelocationIn fields objects plans of when places images before after answer
       → IfOk answer (λ count. IsByOneWordIn fields objects plans of when places images before after)
       → IfErr answer (HasErrorLeft fields objects.now plans.now of when)
-      → result ≡ as_failure answer → RelocatesAs r class size fields loads of when page limit before after result
-  unrelocated : (error : LinkError) → IsFirstFailed {E = E} r class size loads error → result ≡ Err (Link error) → after ≡ before
+      → result ≡ as_failure answer of → RelocatesAs r class size fields loads of when page limit before after result
+  unrelocated : (index : ℕ) (error : LinkError) → IsFailedAt {E = E} r class size loads index error
+      → result ≡ Err (failed_at (Link error) index) → after ≡ before
       → RelocatesAs r class size fields loads of when page limit before after result
-  unmapped : (objects : List (DynamicObject E r)) (error : LoadError) → AreObjectsOf class size loads objects
-      → IsFirstUnplanned page limit objects error → result ≡ Err (Load error) → after ≡ before
+  unmapped : (objects : List (DynamicObject E r)) (index : ℕ) (error : LoadError) → AreObjectsOf class size loads objects
+      → IsUnplannedAt page limit objects index error → result ≡ Err (failed_at (Load error) index) → after ≡ before
       → RelocatesAs r class size fields loads of when page limit before after result
 
 -- the result: without an object, or with more than a call takes, an error; otherwise one by the class of the first file
-pub data Relocates (narrow_record wide_record : _) (loads : List LoadObject) (of : ℕ) (when : Binding) (page limit : ℕ) (before after : List ℕ) (result : Result ℕ AnyError) : Type 0 where
-  relocates_none : length loads ≡ 0 → result ≡ Err (Link ObjectIndex) → after ≡ before
+pub data Relocates (narrow_record wide_record : _) (loads : List LoadObject) (of : ℕ) (when : Binding) (page limit : ℕ) (before after : List ℕ) (result : Result ℕ Failure) : Type 0 where
+  relocates_none : length loads ≡ 0 → result ≡ Err (failed_alone (Link ObjectIndex)) → after ≡ before
       → Relocates narrow_record wide_record loads of when page limit before after result
-  relocates_many : MOST_OBJECTS < length loads → result ≡ Err ManyObjects → after ≡ before
+  relocates_many : MOST_OBJECTS < length loads → result ≡ Err (failed_alone ManyObjects) → after ≡ before
       → Relocates narrow_record wide_record loads of when page limit before after result
   relocates_narrow : length loads ≤ MOST_OBJECTS → is_first_narrow loads ≡ true
       → RelocatesAs {E = DynEntry32} narrow_record 1 16 dyn_entry_32_fields loads of when page limit before after result

@@ -1,15 +1,16 @@
 -- The objects of a process: a program and its libraries, in the order in which they are loaded (this project's own).
-use Rattle.std.specs.Prelude.{◌≡◌, ℕ, ◌==◌, ◌<◌, Bool, false, List, length, slice_get, IsSomeAnd, Option, Some, None, Result, Ok, Err, if◌then◌else◌}
+use Rattle.std.specs.Prelude.{◌≡◌, ℕ, ◌==◌, ◌<◌, Bool, false, List, length, slice_get, IsSomeAnd, Option, Some, None, unwrap_or, Result, Ok, Err, if◌then◌else◌}
 use Rattle.std.specs.Borrow.{Bor}
 use Rattle.elf_base.specs.FileHeader.{file_class, header_of}
 use Rattle.elf_base.specs.declared.error.ElfError.{ElfError}
 use Rattle.elf_linking.specs.DynamicObject.{IsReachedObject, IsReachedError, object_file}
 use Rattle.elf_linking.specs.declared.error.LinkError.{LinkError}
-use Rattle.elf_linking.specs.declared.error.LinkError.TheVariants.{Elf}
+use Rattle.elf_linking.specs.declared.error.LinkError.TheVariants.{Elf, ObjectIndex}
 use Rattle.elf_linking.specs.declared.object.DynamicObject.{DynamicObject}
 use Rattle.elf_loading.specs.FileCheck.{check_file}
 use Rattle.elf_loading.specs.Plan.{IsPlanOf}
 use Rattle.elf_loading.specs.declared.error.LoadError.{LoadError}
+use Rattle.elf_loading.specs.declared.error.LoadError.TheVariants as reason
 use Rattle.elf_loading.specs.declared.plan.LoadPlan.{LoadPlan}
 use Rattle.elf_loading.specs.declared.relocate.Place.{Place}
 use Rattle.elf_loading.specs.declared.words.Binding.{Binding}
@@ -17,6 +18,8 @@ use Rattle.elf_loading.specs.declared.words.Binding.TheVariants.{Lazy, Now}
 use Rattle.xmas_elf.specs.Types.{Header}
 use Rattle.xmas_elf.specs.declared.ElfFile.{ElfFile}
 use Rattle.elf_c.specs.LoadPlans.{default_limit}
+use Rattle.elf_c.specs.Status.{failure_number}
+use Rattle.elf_c.specs.declared.load_objects.Failure.{Failure}
 use Rattle.elf_c.specs.declared.load_objects.LoadObject.{LoadObject}
 use Rattle.elf_c.specs.declared.load_objects.TheConstants.{MOST_OBJECTS}
 use Rattle.elf_c.specs.declared.status.AnyError.{AnyError}
@@ -88,11 +91,6 @@ IsObjectOf class size load object = IsObjectOfBytes class size load.file.now obj
 abbrev pub AreObjectsOf : {E : Type 0} → {r : _} → ℕ → ℕ → List LoadObject → List (DynamicObject E r) → Type 0
 AreObjectsOf class size loads objects = AreMade (IsObjectOf class size) loads objects
 
--- the first file that is none of an object of this class, and why
-pub record IsFirstFailed {E : Type 0} (r : _) (class size : ℕ) (loads : List LoadObject) (error : LinkError) : Type 0 where
-  pub first : IsFirstUnmade {B = DynamicObject E r} (IsObjectOf class size) (λ load. IsObjectErrorOf class size load.file.now)
-      loads error
-
 -- the file at an index is the first that is none of an object of this class, and why
 pub record IsFailedAt {E : Type 0} (r : _) (class size : ℕ) (loads : List LoadObject) (index : ℕ) (error : LinkError) : Type 0 where
   pub failed : IsFirstUnmadeAt {B = DynamicObject E r} (IsObjectOf class size) (λ load. IsObjectErrorOf class size load.file.now)
@@ -109,10 +107,6 @@ ArePlansOf page limit objects plans = AreMade (IsPlanFor page limit) objects pla
 -- why the file of an object has no plan
 abbrev pub LacksPlan : {E : Type 0} → {r : _} → ℕ → ℕ → DynamicObject E r → LoadError → Type 0
 LacksPlan page limit object error = let file = object_file object in check_file file page (default_limit file limit) ≡ Err error
-
--- the first object whose file has no plan, and why
-abbrev pub IsFirstUnplanned : {E : Type 0} → {r : _} → ℕ → ℕ → List (DynamicObject E r) → LoadError → Type 0
-IsFirstUnplanned page limit objects error = IsFirstUnmade {B = LoadPlan} (IsPlanFor page limit) (LacksPlan page limit) objects error
 
 -- the object at an index is the first whose file has no plan, and why
 abbrev pub IsUnplannedAt : {E : Type 0} → {r : _} → ℕ → ℕ → List (DynamicObject E r) → ℕ → LoadError → Type 0
@@ -139,7 +133,31 @@ pub record AreImagesOf (loads : List LoadObject) (images : List (Bor (List ℕ))
 abbrev pub when_of : ℕ → Binding
 when_of lazy = if lazy == 1 then Lazy else Now
 
--- the result of a call of the library as that of an export
-abbrev pub as_failure : {A : Type 0} → Result A LoadError → Result A AnyError
-as_failure (Ok value) = Ok value
-as_failure (Err error) = Err (Load error)
+-- Which object has an error.
+
+-- an error of the object at an index
+abbrev pub failed_at : AnyError → ℕ → Failure
+failed_at error index = record { error = error; object = Some index }
+
+-- an error that is not that of an object
+abbrev pub failed_alone : AnyError → Failure
+failed_alone error = record { error = error; object = None }
+
+-- an error of the check or the relocation of the object at an index. It is that of no object if the index names none, or if the
+-- marks or the image are not of the size that is wanted
+abbrev pub failed_words : LoadError → ℕ → Failure
+failed_words (reason.Link ObjectIndex) of = failed_alone (Load (reason.Link ObjectIndex))
+failed_words reason.FewMarks of = failed_alone (Load reason.FewMarks)
+failed_words reason.ImageSize of = failed_alone (Load reason.ImageSize)
+failed_words error of = failed_at (Load error) of
+
+-- the result of the check or the relocation of the object at an index
+abbrev pub as_failure : {A : Type 0} → Result A LoadError → ℕ → Result A Failure
+as_failure (Ok value) of = Ok value
+as_failure (Err error) of = Err (failed_words error of)
+
+-- the status and what is stored: the value, or the index of the object with the error
+abbrev pub GivesOrFails : {T : Type 0} → Result T Failure → T → ℕ → ℕ → T → ℕ → Type 0
+GivesOrFails (Ok value) old failed status new failed_new = (status ≡ 0) × (new ≡ value) × (failed_new ≡ failed)
+GivesOrFails (Err why) old failed status new failed_new =
+    (status ≡ failure_number why.error) × (new ≡ old) × (failed_new ≡ unwrap_or why.object failed)

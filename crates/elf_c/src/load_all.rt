@@ -3,32 +3,24 @@
 ghost use Rattle.std.specs.Prelude.{◌≡◌, ◌<◌, ◌≤◌, ◌+◌, ◌↔◌, ℕ, IsTrue, Result, length, take};
 ghost use Rattle.elf_loading.specs.LoadScope.{loaded_objects, loaded_plans};
 ghost use Rattle.elf_loading.specs.Plan.{plan_size};
-ghost use Rattle.elf_c.specs.LoadAll.{AreShown, GivesAll, IsImageRelocated, RelocatesAll};
-ghost use Rattle.elf_c.specs.LoadAll.{RelocatesAllAs, RelocatesEach, begin_at, total_size};
-ghost use Rattle.elf_c.specs.LoadObjects.{when_of};
+ghost use Rattle.elf_c.specs.LoadAll.{AreShown, IsImageRelocated, RelocatesAll, RelocatesAllAs};
+ghost use Rattle.elf_c.specs.LoadAll.{RelocatesEach, begin_at, total_size};
+ghost use Rattle.elf_c.specs.LoadObjects.{GivesOrFails, when_of};
 ghost use Rattle.elf_c.specs.LoadPlans.{page_of};
-ghost use Rattle.elf_c.specs.declared.load_all.Failure.{Failure};
+ghost use Rattle.elf_c.specs.declared.load_objects.Failure.{Failure};
 
 use crate::load_objects::{
-    LoadObject, MOST_OBJECTS, is_first_narrow, objects_of, places_of, plans_of, when_of,
+    Failure, LoadObject, MOST_OBJECTS, failed_alone, failed_at, give_or_fail, is_first_narrow,
+    objects_of, places_of, plans_of, when_of,
 };
 use crate::load_plans::page_of;
-use crate::status::{AnyError, Numbered, OK};
+use crate::status::AnyError;
 use elf_base::bytes::Record;
 use elf_linking::LinkError;
 use elf_linking::scope::Scope;
 use elf_linking::view::LinkedSymbol;
 use elf_loading::{Binding, LoadError, LoadPlan, LoadScope, Place};
 use xmas_elf::symbol_table::{DynEntry32, DynEntry64};
-
-// Why the objects of a process can't be relocated.
-#[derive(Clone, Copy, Debug)]
-pub(crate) struct Failure {
-    // The error.
-    pub(crate) error: AnyError,
-    // The index of the object that has it, if one has.
-    pub(crate) object: Option<usize>,
-}
 
 // The size of the image of a plan.
 fn size_of(plan: &LoadPlan<'_>) -> usize
@@ -117,12 +109,7 @@ fn relocate_each<E: LinkedSymbol>(
         begin -= size_of(&plans[of]);
         match relocate_image(planned, of, when, places, begin, memory) {
             Ok(count) => left = left.saturating_add(count),
-            Err(error) => {
-                return Err(Failure {
-                    error: AnyError::Load(error),
-                    object: Some(of),
-                });
-            }
+            Err(error) => return Err(failed_at(AnyError::Load(error), of)),
         }
     }
     Ok(left)
@@ -145,30 +132,17 @@ fn relocate_objects<E: LinkedSymbol>(
 {
     let objects = match objects_of::<E>(loads) {
         Ok(objects) => objects,
-        Err(failed) => {
-            return Err(Failure {
-                error: AnyError::Link(failed.1),
-                object: Some(failed.0),
-            });
-        }
+        Err(failed) => return Err(failed_at(AnyError::Link(failed.1), failed.0)),
     };
     let count = loads.len();
     let own = &objects.all[..count];
     let plans = match plans_of(own, page, limit) {
         Ok(plans) => plans,
-        Err(failed) => {
-            return Err(Failure {
-                error: AnyError::Load(failed.1),
-                object: Some(failed.0),
-            });
-        }
+        Err(failed) => return Err(failed_at(AnyError::Load(failed.1), failed.0)),
     };
     let own_plans = &plans.all[..count];
     if !is_whole(own_plans, memory.len()) {
-        return Err(Failure {
-            error: AnyError::Load(LoadError::ImageSize),
-            object: None,
-        });
+        return Err(failed_alone(AnyError::Load(LoadError::ImageSize)));
     }
     let places = places_of(loads);
     let scope = Scope::new(own);
@@ -190,39 +164,15 @@ fn relocate_all(
     ensures len { length memory.new ≡ length memory.old }
 {
     if loads.is_empty() {
-        return Err(Failure {
-            error: AnyError::Link(LinkError::ObjectIndex),
-            object: None,
-        });
+        return Err(failed_alone(AnyError::Link(LinkError::ObjectIndex)));
     }
     if loads.len() > MOST_OBJECTS {
-        return Err(Failure {
-            error: AnyError::ManyObjects,
-            object: None,
-        });
+        return Err(failed_alone(AnyError::ManyObjects));
     }
     if is_first_narrow(loads) {
         relocate_objects::<DynEntry32>(loads, when, page, limit, memory)
     } else {
         relocate_objects::<DynEntry64>(loads, when, page, limit, memory)
-    }
-}
-
-// Stores the number of words without a number, or the index of the object with an error.
-fn give_all(answer: Result<u64, Failure>, left: &mut u64, failed: &mut u64) -> u32
-    ensures { GivesAll answer left.old failed.old result left.new failed.new }
-{
-    match answer {
-        Ok(count) => {
-            *left = count;
-            OK
-        }
-        Err(failure) => {
-            if let Some(object) = failure.object {
-                *failed = object as u64;
-            }
-            failure.error.number()
-        }
     }
 }
 
@@ -254,10 +204,10 @@ pub extern "C" fn xmas_elf_relocate_all(
     ensures exact { (answer : Result ℕ Failure)
         × RelocatesAll ⟦<DynEntry32 as Record>⟧ ⟦<DynEntry64 as Record>⟧ objects.now (when_of lazy)
         (page_of page) limit images.old images.new answer
-        × GivesAll answer left.old failed.old result left.new failed.new }
+        × GivesOrFails answer left.old failed.old result left.new failed.new }
     ensures len { length images.new ≡ length images.old }
 {
     let when = when_of(lazy);
     let answer = relocate_all(objects, when, page_of(page), limit, images);
-    give_all(answer, left, failed)
+    give_or_fail(answer, left, failed)
 }

@@ -4,15 +4,17 @@ ghost use Rattle.std.specs.Prelude.{◌≡◌, ◌*◌, ◌<◌, ◌≤◌, ◌+
 ghost use Rattle.std.specs.Prelude.{slice_index};
 ghost use Rattle.elf_c.specs.LoadImages.{Checks, ChecksAs, Relocates, RelocatesAs, image_answer};
 ghost use Rattle.elf_c.specs.LoadImages.{planned_byte};
-ghost use Rattle.elf_c.specs.LoadObjects.{when_of};
+ghost use Rattle.elf_c.specs.LoadObjects.{GivesOrFails, when_of};
 ghost use Rattle.elf_c.specs.LoadPlans.{default_limit, loader_of, page_of};
 ghost use Rattle.elf_c.specs.Parsed.{file_of};
 ghost use Rattle.elf_c.specs.Status.{GivesHere};
+ghost use Rattle.elf_c.specs.declared.load_objects.Failure.{Failure};
 ghost use Rattle.elf_c.specs.declared.status.AnyError.{AnyError};
 
 use crate::file::Parsed;
 use crate::load_objects::{
-    LoadObject, MOST_OBJECTS, images_of, is_first_narrow, objects_of, places_of, plans_of, when_of,
+    Failure, LoadObject, MOST_OBJECTS, as_failure, failed_alone, failed_at, give_or_fail,
+    images_of, is_first_narrow, objects_of, places_of, plans_of, when_of,
 };
 use crate::load_plans::{limit_of, loader_of, page_of};
 use crate::status::{AnyError, give};
@@ -82,7 +84,7 @@ fn check_objects<E: LinkedSymbol>(
     page: u64,
     limit: u64,
     marks: &mut [u8],
-) -> Result<(), AnyError>
+) -> Result<(), Failure>
     requires paged { 0 < page }
     requires some { 0 < length loads.now }
     requires fit { length loads.now ≤ MOST_OBJECTS }
@@ -91,19 +93,16 @@ fn check_objects<E: LinkedSymbol>(
 {
     let objects = match objects_of::<E>(loads) {
         Ok(objects) => objects,
-        Err(failed) => return Err(AnyError::Link(failed.1)),
+        Err(failed) => return Err(failed_at(AnyError::Link(failed.1), failed.0)),
     };
     let own = &objects.all[..loads.len()];
     let plans = match plans_of(own, page, limit) {
         Ok(plans) => plans,
-        Err(failed) => return Err(AnyError::Load(failed.1)),
+        Err(failed) => return Err(failed_at(AnyError::Load(failed.1), failed.0)),
     };
     let scope = Scope::new(own);
     let planned = LoadScope::new(scope, &plans.all[..loads.len()]);
-    match planned.check_image(of, marks) {
-        Ok(()) => Ok(()),
-        Err(error) => Err(AnyError::Load(error)),
-    }
+    as_failure(planned.check_image(of, marks), of)
 }
 
 // Checks that the words of an object can be written.
@@ -113,16 +112,16 @@ fn check(
     page: u64,
     limit: u64,
     marks: &mut [u8],
-) -> Result<(), AnyError>
+) -> Result<(), Failure>
     requires { 0 < page }
     ensures { Checks ⟦<DynEntry32 as Record>⟧ ⟦<DynEntry64 as Record>⟧ loads.now of page limit
         (8 * length marks.old) result }
 {
     if loads.is_empty() {
-        return Err(AnyError::Link(LinkError::ObjectIndex));
+        return Err(failed_alone(AnyError::Link(LinkError::ObjectIndex)));
     }
     if loads.len() > MOST_OBJECTS {
-        return Err(AnyError::ManyObjects);
+        return Err(failed_alone(AnyError::ManyObjects));
     }
     if is_first_narrow(loads) {
         check_objects::<DynEntry32>(loads, of, page, limit, marks)
@@ -138,9 +137,11 @@ fn check(
 /// `page` and `limit` are as in `xmas_elf_load_plan`. `marks` has a bit for each byte of the span of
 /// the object's plan, so a byte for each eight, and one more; what it holds is overwritten.
 ///
-/// Errors: `ManyObjects` if there are more than 64 objects; those of `DynamicObject::read_reached`, of
-/// the first file that has one; those of `xmas_elf_load_plan`, of the first file that has one; those
-/// of the check.
+/// Errors: `LinkObjectIndex` if there is no object; `ManyObjects` if there are more than 64; those of
+/// `DynamicObject::read_reached`, of the first file that has one; those of `xmas_elf_load_plan`, of the
+/// first file that has one; those of the check. `failed` is then the index of the object, if one has the
+/// error: that of the file, or `of`. It is unchanged if none has it: with `LinkObjectIndex`, `ManyObjects`
+/// and `FewMarks`.
 #[unsafe(no_mangle)]
 pub extern "C" fn xmas_elf_check_image(
     objects: &[LoadObject<'_>],
@@ -148,15 +149,15 @@ pub extern "C" fn xmas_elf_check_image(
     page: u64,
     limit: u64,
     marks: &mut [u8],
+    failed: &mut u64,
 ) -> u32
-    ensures { (answer : Result (Unit {0}) AnyError)
+    ensures { (answer : Result (Unit {0}) Failure)
         × Checks ⟦<DynEntry32 as Record>⟧ ⟦<DynEntry64 as Record>⟧ objects.now of (page_of page) limit
-        (8 * length marks.old) answer × GivesHere answer tt result tt }
+        (8 * length marks.old) answer
+        × GivesOrFails answer tt failed.old result tt failed.new }
 {
-    give(
-        check(objects, of as usize, page_of(page), limit, marks),
-        &mut (),
-    )
+    let answer = check(objects, of as usize, page_of(page), limit, marks);
+    give_or_fail(answer, &mut (), failed)
 }
 
 // Writes the words of an object of one class to its image.
@@ -167,7 +168,7 @@ fn relocate_objects<E: LinkedSymbol>(
     page: u64,
     limit: u64,
     image: &mut [u8],
-) -> Result<u64, AnyError>
+) -> Result<u64, Failure>
     requires paged { 0 < page }
     requires some { 0 < length loads.now }
     requires fit { length loads.now ≤ MOST_OBJECTS }
@@ -177,21 +178,19 @@ fn relocate_objects<E: LinkedSymbol>(
 {
     let objects = match objects_of::<E>(loads) {
         Ok(objects) => objects,
-        Err(failed) => return Err(AnyError::Link(failed.1)),
+        Err(failed) => return Err(failed_at(AnyError::Link(failed.1), failed.0)),
     };
     let count = loads.len();
     let own = &objects.all[..count];
     let plans = match plans_of(own, page, limit) {
         Ok(plans) => plans,
-        Err(failed) => return Err(AnyError::Load(failed.1)),
+        Err(failed) => return Err(failed_at(AnyError::Load(failed.1), failed.0)),
     };
     let (places, images) = (places_of(loads), images_of(loads));
     let scope = Scope::new(own);
     let planned = LoadScope::new(scope, &plans.all[..count]);
-    match planned.relocate(of, when, &places[..count], &images[..count], image) {
-        Ok(left) => Ok(left),
-        Err(error) => Err(AnyError::Load(error)),
-    }
+    let answer = planned.relocate(of, when, &places[..count], &images[..count], image);
+    as_failure(answer, of)
 }
 
 // Writes the words of an object to its image.
@@ -202,17 +201,17 @@ fn relocate(
     page: u64,
     limit: u64,
     image: &mut [u8],
-) -> Result<u64, AnyError>
+) -> Result<u64, Failure>
     requires { 0 < page }
     ensures exact { Relocates ⟦<DynEntry32 as Record>⟧ ⟦<DynEntry64 as Record>⟧ loads.now of when page
         limit image.old image.new result }
     ensures len { length image.new ≡ length image.old }
 {
     if loads.is_empty() {
-        return Err(AnyError::Link(LinkError::ObjectIndex));
+        return Err(failed_alone(AnyError::Link(LinkError::ObjectIndex)));
     }
     if loads.len() > MOST_OBJECTS {
-        return Err(AnyError::ManyObjects);
+        return Err(failed_alone(AnyError::ManyObjects));
     }
     if is_first_narrow(loads) {
         relocate_objects::<DynEntry32>(loads, of, when, page, limit, image)
@@ -230,10 +229,12 @@ fn relocate(
 /// `xmas_elf_load_image` writes, and is no part of the `image` of an object. `lazy` is 1 if jump slots
 /// get their symbols when a function is called first, and any other number if they get them now.
 ///
-/// Errors: `ManyObjects` if there are more than 64 objects; those of `DynamicObject::read_reached`, of
-/// the first file that has one; those of `xmas_elf_load_plan`, of the first file that has one; those
-/// of the library's call. `count` is then unchanged, and the words before the first that can't be
-/// written are written.
+/// Errors: `LinkObjectIndex` if there is no object; `ManyObjects` if there are more than 64; those of
+/// `DynamicObject::read_reached`, of the first file that has one; those of `xmas_elf_load_plan`, of the
+/// first file that has one; those of the library's call. `count` is then unchanged, the words before the
+/// first that can't be written are written, and `failed` is the index of the object, if one has the error:
+/// that of the file, or `of`. It is unchanged if none has it: with `LinkObjectIndex`, `ManyObjects` and
+/// `ImageSize`.
 #[unsafe(no_mangle)]
 pub extern "C" fn xmas_elf_relocate(
     objects: &[LoadObject<'_>],
@@ -243,15 +244,15 @@ pub extern "C" fn xmas_elf_relocate(
     limit: u64,
     image: &mut [u8],
     count: &mut u64,
+    failed: &mut u64,
 ) -> u32
-    ensures exact { (answer : Result ℕ AnyError)
+    ensures exact { (answer : Result ℕ Failure)
         × Relocates ⟦<DynEntry32 as Record>⟧ ⟦<DynEntry64 as Record>⟧ objects.now of (when_of lazy)
-        (page_of page) limit image.old image.new answer × GivesHere answer count.old result count.new }
+        (page_of page) limit image.old image.new answer
+        × GivesOrFails answer count.old failed.old result count.new failed.new }
     ensures len { length image.new ≡ length image.old }
 {
     let when = when_of(lazy);
-    give(
-        relocate(objects, of as usize, when, page_of(page), limit, image),
-        count,
-    )
+    let answer = relocate(objects, of as usize, when, page_of(page), limit, image);
+    give_or_fail(answer, count, failed)
 }

@@ -3,11 +3,13 @@
 ghost use Rattle.std.specs.Prelude.{◌≡◌, ◌<◌, ◌≤◌, MatchResult, Some, ℕ, length, slice_get, take};
 ghost use Rattle.elf_base.specs.FileHeader.{header_of};
 ghost use Rattle.elf_c.specs.LoadObjects.{AreImagesOf, AreObjectsOf, ArePadded, ArePlacesOf};
-ghost use Rattle.elf_c.specs.LoadObjects.{ArePlansOf, IsFailedAt, IsUnplannedAt};
+ghost use Rattle.elf_c.specs.LoadObjects.{ArePlansOf, GivesOrFails, IsFailedAt, IsUnplannedAt};
 ghost use Rattle.elf_c.specs.LoadObjects.{IsObjectOfBytes, IsPlanFor, IsObjectErrorOf, LacksPlan};
+ghost use Rattle.elf_c.specs.LoadObjects.{as_failure, failed_alone, failed_at, failed_words};
 ghost use Rattle.elf_c.specs.LoadObjects.{is_first_narrow, is_narrow_header, load_place, when_of};
 
 use crate::load_plans::limit_of;
+use crate::status::{AnyError, Numbered, OK};
 use elf_base::bytes::Record;
 use elf_linking::view::LinkedSymbol;
 use elf_linking::{DynamicObject, LinkError};
@@ -31,6 +33,80 @@ pub struct LoadObject<'a> {
     pub module: u64,
     /// The offset of its thread-local storage from the thread pointer, modulo 2^64.
     pub thread: u64,
+}
+
+// Why the objects of a process can't be read, checked or relocated.
+#[derive(Clone, Copy, Debug)]
+pub(crate) struct Failure {
+    // The error.
+    pub(crate) error: AnyError,
+    // The index of the object that has it, if one has.
+    pub(crate) object: Option<usize>,
+}
+
+// The error of the object at an index.
+pub(crate) fn failed_at(error: AnyError, index: usize) -> Failure
+    ensures { result ≡ failed_at error index }
+{
+    Failure {
+        error,
+        object: Some(index),
+    }
+}
+
+// An error that no object has.
+pub(crate) fn failed_alone(error: AnyError) -> Failure
+    ensures { result ≡ failed_alone error }
+{
+    Failure {
+        error,
+        object: None,
+    }
+}
+
+// The error of the check or the relocation of the object at an index. No object has it if the index is that
+// of none, or if the marks or the image are not of the size that is wanted.
+fn failed_words(error: LoadError, of: usize) -> Failure
+    ensures { result ≡ failed_words error of }
+{
+    match error {
+        LoadError::Link(LinkError::ObjectIndex) | LoadError::FewMarks | LoadError::ImageSize => {
+            failed_alone(AnyError::Load(error))
+        }
+        _ => failed_at(AnyError::Load(error), of),
+    }
+}
+
+// The result of the check or the relocation of the object at an index.
+pub(crate) fn as_failure<T: Copy>(answer: Result<T, LoadError>, of: usize) -> Result<T, Failure>
+    ensures { result ≡ as_failure answer of }
+{
+    match answer {
+        Ok(value) => Ok(value),
+        Err(error) => Err(failed_words(error, of)),
+    }
+}
+
+// Stores the value, or the index of the object with an error.
+pub(crate) fn give_or_fail<T: Copy>(
+    answer: Result<T, Failure>,
+    out: &mut T,
+    failed: &mut u64,
+) -> u32
+    ensures { GivesOrFails answer out.old failed.old result out.new failed.new }
+{
+    match answer {
+        Ok(value) => {
+            *out = value;
+            OK
+        }
+        Err(failure) => {
+            if let Some(object) = failure.object {
+                *failed = object as u64;
+            }
+            failure.error.number()
+        }
+    }
 }
 
 // When jump slots get their symbols; 1 means when a function is called first.

@@ -235,7 +235,7 @@ fn plan_of(file: &ElfFile<'_>, page: u64, limit: u64) -> Result<Plan, AnyError>
     Ok(Plan::of(&plan))
 }
 
-/// The plan of a load: whether Linux and glibc load the file, and what they put where. Addresses are
+/// The plan of a load: what Linux and glibc put where, or why there is no plan. Addresses are
 /// relative to a base: those of the file for type ET_EXEC.
 ///
 /// `page` is the size of a page, a power of two; 0 means 4096. `limit` is the end of the

@@ -1,4 +1,4 @@
-use Rattle.std.proofs.Common.{◌≡◌, ◌<◌, ◌+◌, ◌-◌, length, refl, sym, ap, subst, ◌∙◌, arith}
+use Rattle.std.proofs.Common.{rules, ◌≡◌, ◌<◌, ◌+◌, ◌-◌, length, refl, sym, ap, subst, ◌∙◌, arith}
 use Rattle.std.proofs.lemmas.Option.{slice_get_read}
 use Rattle.elf_loading.specs.LoadScope.{loaded_objects, loaded_plans}
 use Rattle.elf_c.specs.LoadAll.{begin_at, each_relocated, one_failed}
@@ -35,7 +35,7 @@ returns-in-Err-clause-exact g c =
     let place : length c.plans-plans.result.now - 1 - c.loop-done.done ≡ length (loaded_plans c.args.planned.now).now - 1 - c.loop-done.done = omega (arith, count) in
     one_failed (length c.plans-plans.result.now - 1 - c.loop-done.done) c.loop-done.memory c.loop-done.left c.in-Err.error (omega (arith, less, place))
     (each_before g.E.Entry.fields (loaded_objects c.args.planned.now) (loaded_plans c.args.planned.now) c.args.when c.args.places.now c.args.memory.now c.loop-done.done (length c.plans-plans.result.now - 1 - c.loop-done.done) c.loop-done.memory c.loop-done.left less place c.loop-done.invariant.made)
-    c.in-Err.ensures.exact refl
+    c.in-Err.ensures.exact (search rules)
 
 pub loop-done-preserved : goal.loop-done-preserved
 loop-done-preserved g c =

@@ -2,4 +2,4 @@ use Rattle.elf_c.proofs.load_images.xmas_elf_relocate.Goals as goal
 
 pub returns-clause-exact : goal.returns-clause-exact
 returns-clause-exact c =
-    let exact = rw (c.when_of-when.ensures, c.page_of.ensures.value) at c.relocate.ensures.exact in (c.relocate.result, exact, c.give.ensures)
+    let exact = rw (c.when_of-when.ensures, c.page_of.ensures.value) at c.relocate-answer.ensures.exact in (c.relocate-answer.result, exact, c.give_or_fail.ensures)
