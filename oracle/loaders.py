@@ -5,6 +5,7 @@ of `loading_tests::loaders`.
     oracle/loaders.py     prints what each loader does with each file, and fails where it isn't what is written here
     oracle/loaders.py --elfload crates/elfload/out/elfload     compares the statuses of `--kernel` and `--glibc` too
 
+The tests of the page and of the Python package take files and outcomes from here.
 Programs and a library are made by gcc, and changed in one place of their headers or in two. A program is run under ptrace, the library
 is loaded by `dlopen`, or by LD_PRELOAD with a program that doesn't use it. It needs x86-64, and a process that may be traced.
 """
@@ -222,15 +223,20 @@ class Room:
             command = ["gcc", "-O1", "-Wl,-z,now", *words, "-x", "c", "-", "-o", name]
             subprocess.run(command, cwd=folder, input=source.encode(), check=True)
 
-    def tried(self, error: str, change, name: str, by, wanted: str) -> str:
-        """What a loader does with a changed file, and whether that is wanted."""
-        if not wanted:
-            return "not asked"
+    def changed(self, change, name: str) -> pathlib.Path:
+        """A copy of a file that is changed, in the place of the last one."""
         file, copy = File((self.folder / name).read_bytes()), self.folder / f"changed_{name}"
         change(file)
         copy.unlink(missing_ok=True)
         copy.write_bytes(file.held)
         copy.chmod(0o755)
+        return copy
+
+    def tried(self, error: str, change, name: str, by, wanted: str) -> str:
+        """What a loader does with a changed file, and whether that is wanted."""
+        if not wanted:
+            return "not asked"
+        copy = self.changed(change, name)
         did, option = by(str(copy)), "--kernel" if by is by_linux else "--glibc"
         # What is overwritten depends on the addresses, which are other ones each time.
         for _ in range(8 if wanted == "crash" != did else 0):

@@ -27,8 +27,22 @@ static uint8_t *read_all(FILE *stream, size_t *size)
     }
 }
 
+/* The range of the first section of type SHT_SYMTAB_SHNDX (18) that is linked to one; unchanged if there is none. */
+static uint32_t find_indices(const uint8_t *bytes, size_t size, const xmas_elf_header_t *header, uint64_t count, uint64_t index, xmas_elf_range_t *indices)
+{
+    xmas_elf_section_t section;
+    for (uint64_t i = 0; i < count; i++) {
+        uint32_t status = xmas_elf_section(bytes, size, header, i, &section);
+        if (status != XMAS_ELF_OK) return status;
+        if (section.type != 18 || section.link != index) continue;
+        indices->offset = section.offset, indices->size = section.size;
+        break;
+    }
+    return XMAS_ELF_OK;
+}
+
 /* The symbols of the section of type SHT_SYMTAB (2), or else of SHT_DYNSYM (11), or else of the dynamic segment. `indices` is
- * the range of their section indices that need more than 16 bits (SHT_SYMTAB_SHNDX, 18), empty where there are none. */
+ * the range of their section indices that need more than 16 bits, empty where there are none. */
 static uint32_t find_symbols(const uint8_t *bytes, size_t size, const xmas_elf_header_t *header, xmas_elf_symbol_table_t *table,
                              xmas_elf_range_t *indices)
 {
@@ -36,13 +50,14 @@ static uint32_t find_symbols(const uint8_t *bytes, size_t size, const xmas_elf_h
     xmas_elf_counts_t counts;
     xmas_elf_section_t section;
     uint32_t status = xmas_elf_counts(bytes, size, header, &counts);
+    /* Section 0 has the number of sections if the ELF header has 0, and may be missing. */
+    if (counts.sections == 0 && header->sh_offset != 0) counts.sections = 1;
     for (size_t i = 0; status == XMAS_ELF_OK && i < 2; i++)
         for (uint64_t index = 0; status == XMAS_ELF_OK && index < counts.sections; index++) {
             status = xmas_elf_section(bytes, size, header, index, &section);
             if (status != XMAS_ELF_OK || section.type != types[i]) continue;
-            for (uint64_t wide = 0; xmas_elf_section(bytes, size, header, wide, &section) == XMAS_ELF_OK; wide++)
-                if (section.type == 18 && section.link == index) indices->offset = section.offset, indices->size = section.size;
-            return xmas_elf_symbols_open(bytes, size, header, index, table);
+            status = find_indices(bytes, size, header, counts.sections, index, indices);
+            return status == XMAS_ELF_OK ? xmas_elf_symbols_open(bytes, size, header, index, table) : status;
         }
     return status == XMAS_ELF_OK ? xmas_elf_dynamic_symbols_open(bytes, size, header, table) : status;
 }

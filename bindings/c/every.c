@@ -295,11 +295,20 @@ CALL(load_image) /* a byte less is an error */
     if (status != xmas_elf_load_image(FILE_OF(a), a->index, 0, 0, image, size)) return 998;
     return status != XMAS_ELF_OK || memcmp(image, a->bytes, 64) == 0 ? status : 997;
 }
+/* Whether a call for one object wrote its index in place of a 7 where it has an error, and else nothing: an index past it is no error of it. */
+static int tells(uint32_t status, uint64_t failed) { return failed == (status == XMAS_ELF_OK || status == XMAS_ELF_LINK_OBJECT_INDEX ? 7 : 0); }
+/* The file, and after it one that is cut off. */
+#define CUT_OFF(asked) (xmas_elf_load_object_t[]){{.file = (asked)->bytes, .file_size = (asked)->size}, {.file = (asked)->bytes, .file_size = 3}}, 2
 CALL(check_image)
 {
+    uint64_t failed = 7, none = 7, second = 7;
     (void)out;
-    if (a->index == 0 && a->size > 0 && xmas_elf_check_image(OBJECT_OF(a), 0, 0, 0, marks, 1) != XMAS_ELF_LOAD_FEW_MARKS) return 999;
-    return xmas_elf_check_image(OBJECT_OF(a), a->index, 0, 0, marks, LARGEST / 8 + 1);
+    if (a->index == 0 && a->size > 0) {
+        if (xmas_elf_check_image(OBJECT_OF(a), 0, 0, 0, marks, 1, &none) != XMAS_ELF_LOAD_FEW_MARKS || none != 7) return 999;
+        if (xmas_elf_check_image(CUT_OFF(a), 0, 0, 0, marks, 1, &second) != XMAS_ELF_SHORT_PART_1 || second != 1) return 998;
+    }
+    uint32_t status = xmas_elf_check_image(OBJECT_OF(a), a->index, 0, 0, marks, LARGEST / 8 + 1, &failed);
+    return tells(status, failed) ? status : 997;
 }
 CALL(relocate) /* without its library the program has a symbol that nothing has */
 {
@@ -307,7 +316,13 @@ CALL(relocate) /* without its library the program has a symbol that nothing has 
     uint32_t status = xmas_elf_load_plan(FILE_OF(a), 0, 0, &plan);
     size_t size = status == XMAS_ELF_OK ? (size_t)(plan.span.end - plan.span.start) : 0;
     if (status == XMAS_ELF_OK && xmas_elf_load_image(FILE_OF(a), 0, 0, 0, image, size) != XMAS_ELF_OK) return 999;
-    status = xmas_elf_relocate(OBJECT_OF(a), a->index, 0, 0, 0, image, size, &out->count);
+    uint64_t failed = 7, none = 7, second = 7;
+    if (a->index == 0 && a->size > 0) {
+        if (xmas_elf_relocate(OBJECT_OF(a), 0, 0, 0, 0, image, size + 1, &out->count, &none) != XMAS_ELF_LOAD_IMAGE_SIZE || none != 7) return 998;
+        if (xmas_elf_relocate(CUT_OFF(a), 0, 0, 0, 0, image, size, &out->count, &second) != XMAS_ELF_SHORT_PART_1 || second != 1) return 997;
+    }
+    status = xmas_elf_relocate(OBJECT_OF(a), a->index, 0, 0, 0, image, size, &out->count, &failed);
+    if (!tells(status, failed)) return 996;
     return status == XMAS_ELF_LOAD_UNRESOLVED ? XMAS_ELF_OK : status;
 }
 CALL(relocate_all) /* the same, by one call for all */

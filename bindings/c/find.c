@@ -58,6 +58,8 @@ static uint32_t find_build_id(const struct input *input, xmas_elf_range_t *id)
     xmas_elf_segment_t segment;
     xmas_elf_range_t data;
     uint32_t failed = XMAS_ELF_NOT_FOUND, status = xmas_elf_counts(input->bytes, input->size, &input->header, &counts);
+    /* Section 0 has the number of sections if the ELF header has 0, and may be missing. */
+    if (counts.sections == 0 && input->header.sh_offset != 0) counts.sections = 1;
     for (uint64_t i = 0; i < counts.sections + counts.segments && status == XMAS_ELF_OK; i++) {
         int is_section = i < counts.sections;
         uint32_t index = (uint32_t)(i - counts.sections), found;

@@ -62,10 +62,8 @@ void print_sections(const xmas_elf::file &file)
 {
     for (const auto &section : file.sections()) {
         std::size_t relocations = 0;
-        if (section->type == 19)
-            for (const auto address : section.packed_relocations()) relocations += address != 0;
-        if (section->type == 4 || section->type == 9)
-            for (const auto &relocation : section.relocations()) relocations += relocation.has_addend <= 1;
+        for (const auto address : section.packed_relocations()) relocations += address != 0;
+        for (const auto &relocation : section.relocations()) relocations += relocation.has_addend <= 1;
         print("section " + std::to_string(section.index()) + " " + std::string(section.name().value_or("?")) + " " + std::to_string(section->size)
               + " " + std::to_string(relocations));
     }

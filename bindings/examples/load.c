@@ -101,10 +101,12 @@ static void relocate(size_t index)
     struct object *object = &objects[index];
     size_t marks_size = object->size / 8 + 1;
     uint8_t *marks = given(object->path, malloc(marks_size));
-    uint64_t left;
-    check(object->path, xmas_elf_check_image(loads, count, index, PAGE, 0, marks, marks_size));
+    uint64_t left, failed = index; /* the object that has the error, this one or another */
+    uint32_t status = xmas_elf_check_image(loads, count, index, PAGE, 0, marks, marks_size, &failed);
+    check(objects[failed].path, status);
     free(marks);
-    check(object->path, xmas_elf_relocate(loads, count, index, 0, PAGE, 0, object->memory, object->size, &left));
+    status = xmas_elf_relocate(loads, count, index, 0, PAGE, 0, object->memory, object->size, &left, &failed);
+    check(objects[failed].path, status);
     if (left != 0) stop(object->path, "words without a number: indirect functions or thread-local storage");
     /* From now on its bytes can be copied into the program. */
     loads[index].image = object->memory, loads[index].image_size = object->size;

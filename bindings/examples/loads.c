@@ -1,6 +1,6 @@
 /* loads PROGRAM [LIBRARY ..]: whether a program loads with its libraries, in the order in which they are loaded: `yes`, or `no` with
- * the file and the reason. The first of these is the reason: a file has no plan; a library that a file needs is not among the files; the
- * tables or the words of a file can't be read or written; a symbol is in no file. */
+ * the file and the reason. The first of these is the reason: a file has no plan, as some that Linux and glibc load; a library that a file
+ * needs is not among the files; the tables or the words of a file can't be read or written; a symbol is in no file. */
 #include <errno.h>
 #include <stdio.h>
 #include <stdlib.h>
@@ -105,22 +105,16 @@ static void check_needed(size_t index)
     if (status != XMAS_ELF_NO_RECORD && status != XMAS_ELF_LINK_NO_DYNAMIC) check(index, status);
 }
 
-/* A file can be read as an object of the program: a call for an object that isn't there reads the files, and then says so. */
-static void check_file(size_t index)
-{
-    xmas_elf_load_object_t both[2] = {loads[0], loads[index]};
-    uint8_t mark;
-    uint32_t status = xmas_elf_check_image(both, 2, 2, 0, 0, &mark, 1);
-    if (status != XMAS_ELF_LINK_OBJECT_INDEX) check(index, status);
-}
-
 static size_t span(size_t index) { return (size_t)(files[index].plan.span.end - files[index].plan.span.start); }
 
+/* All files can be read as objects of the program, and the words of this one can be written. */
 static void check_words(size_t index)
 {
     size_t size = span(index) / 8 + 1;
     uint8_t *marks = given(files[index].path, malloc(size));
-    check(index, xmas_elf_check_image(loads, count, index, 0, 0, marks, size));
+    uint64_t failed = index;
+    uint32_t status = xmas_elf_check_image(loads, count, index, 0, 0, marks, size, &failed);
+    check((size_t)failed, status);
     free(marks);
 }
 
@@ -185,7 +179,6 @@ int main(int argc, char **argv)
     /* A static program relocates itself, if it does. */
     if (count > 1 || has_dynamic(0)) {
         for (size_t i = 0; i < count; i++) check_needed(i);
-        for (size_t i = 0; i < count; i++) check_file(i);
         for (size_t i = 0; i < count; i++) check_words(i);
         check_symbols();
     }

@@ -29,7 +29,7 @@ static uint32_t print_symbols(const uint8_t *input, size_t size, const xmas_elf_
     xmas_elf_name_t names[64];
     uint64_t count;
     uint32_t status = xmas_elf_symbols_open(input, size, header, section, &table);
-    if (status == XMAS_ELF_OTHER_DATA || status == XMAS_ELF_INVALID_SH_TYPE) return XMAS_ELF_OK;
+    if (xmas_elf_is_other_data(status)) return XMAS_ELF_OK;
     if (status != XMAS_ELF_OK) return status;
     for (uint64_t first = 0; !(status = xmas_elf_symbols(input, size, &table, first, symbols, 64, &count)); first += count) {
         if ((status = xmas_elf_symbol_names(input, size, &table, first, names, 64, &count))) return status;
@@ -56,6 +56,8 @@ int main(int argc, char **argv)
     uint32_t status = xmas_elf_open(input, size, &header);
     if (status == XMAS_ELF_OK) status = xmas_elf_check_header(input, size, &header);
     if (status == XMAS_ELF_OK) status = xmas_elf_counts(input, size, &header, &counts);
+    /* Section 0 has the number of sections if the ELF header has 0, and may be missing. */
+    if (status == XMAS_ELF_OK && counts.sections == 0 && header.sh_offset != 0) counts.sections = 1;
     for (uint64_t section = 0; status == XMAS_ELF_OK && section < counts.sections; section++)
         status = print_symbols(input, size, &header, section);
     if (status != XMAS_ELF_OK) fprintf(stderr, "symbols: %s: %s\n", argv[1], xmas_elf_status_text(status).text);

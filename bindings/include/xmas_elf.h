@@ -2,9 +2,10 @@
  *
  * A file is the bytes `input[0 .. input_size]`, which the caller keeps. `xmas_elf_open` reads the ELF header into a
  * struct, and the calls for parts of the file take the same bytes and that struct. A call returns a status: XMAS_ELF_OK,
- * or the number of an error, the first that applies in the order of its comment. No call allocates, keeps a pointer,
- * locks, writes anything but its outputs, or fails otherwise, whatever the bytes, the header and the indices are. Any
- * number of threads may call at the same time.
+ * or the number of an error, the first that applies in the order of its comment. Errors that calls share are listed once,
+ * after the statuses: a comment names them by what they are of, as "those of a section header". No call allocates, keeps a
+ * pointer, locks, writes anything but its outputs, or fails otherwise, whatever the bytes, the header and the indices are.
+ * Any number of threads may call at the same time.
  *
  * Outputs. `*out` and `*count` may be uninitialised before the call. If the status is XMAS_ELF_OK, they are written.
  * Otherwise they keep their value, and an uninitialised one stays uninitialised: test the status first.
@@ -380,6 +381,45 @@ enum xmas_elf_status {
 
 /* How many bytes the longest text of a status has. */
 #define XMAS_ELF_LONGEST_MESSAGE 74
+
+/* Errors that comments of calls name by what they are of, in the order of the tests. One that a call has twice counts
+ * at its first place.
+ *
+ * Those of the ELF header: XMAS_ELF_SHORT_PART_1, XMAS_ELF_NO_MAGIC, XMAS_ELF_INVALID_CLASS, XMAS_ELF_SHORT_HEADERS.
+ * Those of a section header: XMAS_ELF_SHORT_SECTION_HEADER, XMAS_ELF_UNKNOWN_CLASS, XMAS_ELF_SMALL_ENTRY.
+ * Those of a program header: XMAS_ELF_NO_PROGRAM_HEADERS, XMAS_ELF_UNKNOWN_CLASS, XMAS_ELF_SHORT_PROGRAM_HEADER,
+ *     XMAS_ELF_SMALL_ENTRY.
+ * Those of a section's records: XMAS_ELF_INVALID_SH_TYPE, XMAS_ELF_DATA_RANGE, XMAS_ELF_NOT_MULTIPLE,
+ *     XMAS_ELF_NOTE_32, XMAS_ELF_SHORT_DATA.
+ * Those of a text: XMAS_ELF_TEXT_START, XMAS_ELF_TEXT_END, XMAS_ELF_TEXT_UTF_8.
+ * Those of a chain of the gABI's hash table: XMAS_ELF_HASH_DATA, XMAS_ELF_CHAIN_INDEX, XMAS_ELF_SYMBOL_INDEX,
+ *     XMAS_ELF_CHAIN_SUM, XMAS_ELF_HASH_CYCLE.
+ * Those of a chain of GNU's hash table: XMAS_ELF_LINK_CHAIN_INDEX, XMAS_ELF_LINK_SYMBOL_INDEX,
+ *     XMAS_ELF_LINK_CHAIN_DATA.
+ * Those of the dynamic segment: XMAS_ELF_LINK_NO_DYNAMIC, XMAS_ELF_LINK_ADDRESS, XMAS_ELF_DATA_RANGE,
+ *     XMAS_ELF_NOT_MULTIPLE.
+ * Those of the number of dynamic symbols: those of the dynamic segment, XMAS_ELF_LINK_NO_ENTRY, XMAS_ELF_SHORT_DATA,
+ *     XMAS_ELF_LINK_SHORT_TABLE, XMAS_ELF_LINK_BLOOM_COUNT, XMAS_ELF_LINK_CHAIN_INDEX, XMAS_ELF_LINK_CHAIN_DATA,
+ *     XMAS_ELF_LINK_SYMBOL_INDEX.
+ * Those of a text of the dynamic segment: XMAS_ELF_LINK_NO_ENTRY, XMAS_ELF_LINK_ADDRESS, XMAS_ELF_DATA_RANGE,
+ *     those of a text.
+ * Those of a version: XMAS_ELF_LINK_SHORT_VERSION, XMAS_ELF_LINK_VERSION_COUNT,
+ *     those of a text of the dynamic segment.
+ * Those of a load plan: XMAS_ELF_LOAD_TYPE, XMAS_ELF_LOAD_ENTRY_SIZE, XMAS_ELF_LOAD_COUNT, XMAS_ELF_LOAD_TABLE,
+ *     XMAS_ELF_LOAD_FILE_SIZE, XMAS_ELF_LOAD_EMPTY, XMAS_ELF_LOAD_MISALIGNED, XMAS_ELF_LOAD_ALIGNMENT,
+ *     XMAS_ELF_LOAD_RANGE, XMAS_ELF_LOAD_DATA, XMAS_ELF_LOAD_OVERLAP, XMAS_ELF_LOAD_ZEROS, XMAS_ELF_LOAD_NO_LOAD,
+ *     XMAS_ELF_LOAD_HEADERS, XMAS_ELF_LOAD_INTERPRETER, XMAS_ELF_LOAD_RELRO, XMAS_ELF_LOAD_TLS, XMAS_ELF_LOAD_ENTRY.
+ * Those of the objects: XMAS_ELF_LINK_OBJECT_INDEX, XMAS_ELF_MANY_OBJECTS, those of the ELF header,
+ *     those of the number of dynamic symbols, XMAS_ELF_LINK_UNKNOWN_CLASS, XMAS_ELF_LINK_NOT_MULTIPLE,
+ *     XMAS_ELF_LINK_RELOCATION_KIND, XMAS_ELF_SYMBOL_INDEX, those of a chain of the gABI's hash table,
+ *     XMAS_ELF_LINK_SHORT_VERSION, XMAS_ELF_LINK_VERSION_COUNT, those of a text.
+ * Those of tables of relocations: XMAS_ELF_LOAD_DYNAMIC, XMAS_ELF_LOAD_NO_ENTRY, XMAS_ELF_LOAD_NO_ADDENDS,
+ *     XMAS_ELF_LOAD_ADDENDS, XMAS_ELF_LOAD_NO_SLOTS, XMAS_ELF_LOAD_RELOCATION_SIZE, XMAS_ELF_LOAD_NOT_MULTIPLE,
+ *     XMAS_ELF_LOAD_UNREADABLE, XMAS_ELF_LOAD_FIRST_PACKED, XMAS_ELF_LOAD_SLOT_KIND, XMAS_ELF_LOAD_MACHINE,
+ *     XMAS_ELF_LOAD_RELATIVE_COUNT, XMAS_ELF_LOAD_SLOT_TYPE.
+ * Those of a relocation: XMAS_ELF_LOAD_WORD_TYPE, XMAS_ELF_LOAD_NO_SIZE, XMAS_ELF_LOAD_COPY_KIND,
+ *     XMAS_ELF_LOAD_CALL_SYMBOL.
+ */
 /* End of the statuses. */
 
 /* A text of a list that a struct names: its bytes, without a zero byte at their end. The pointer is not null, also
@@ -922,8 +962,7 @@ typedef struct xmas_elf_lacked_version_t {
     uint32_t lack;
 } xmas_elf_lacked_version_t;
 
-/* Reads the ELF header of a file. Errors, in the order of the tests: XMAS_ELF_SHORT_PART_1, XMAS_ELF_NO_MAGIC,
- * XMAS_ELF_INVALID_CLASS, XMAS_ELF_SHORT_HEADERS. */
+/* Reads the ELF header of a file. Errors, in the order of the tests: those of the ELF header. */
 XMAS_ELF_NODISCARD uint32_t xmas_elf_open(const uint8_t *input, size_t input_size, xmas_elf_header_t *out)
     XMAS_ELF_NOEXCEPT;
 
@@ -933,7 +972,9 @@ XMAS_ELF_NODISCARD uint32_t xmas_elf_open(const uint8_t *input, size_t input_siz
 XMAS_ELF_NODISCARD uint32_t xmas_elf_check_header(const uint8_t *input, size_t input_size,
     const xmas_elf_header_t *header) XMAS_ELF_NOEXCEPT;
 
-/* The numbers of sections and segments that the file claims; its tables may be cut off before. It returns no error. */
+/* The numbers of sections and segments that the file claims; its tables may be cut off before. If the ELF header has
+ * the number 0 and an `sh_offset`, the number of sections is in section 0, and 0 if that is missing:
+ * `xmas_elf_section` at index 0 then returns the reason. It returns no error. */
 uint32_t xmas_elf_counts(const uint8_t *input, size_t input_size, const xmas_elf_header_t *header,
     xmas_elf_counts_t *out) XMAS_ELF_NOEXCEPT;
 
@@ -942,14 +983,13 @@ XMAS_ELF_NODISCARD uint32_t xmas_elf_names_index(const uint8_t *input, size_t in
     const xmas_elf_header_t *header, uint32_t *out) XMAS_ELF_NOEXCEPT;
 
 /* The section header at an index. The index is not compared with the number of sections: past the table the call
- * reads what bytes are there, or returns an error. Errors, in the order of the tests: XMAS_ELF_SHORT_SECTION_HEADER,
- * XMAS_ELF_UNKNOWN_CLASS, XMAS_ELF_SMALL_ENTRY. */
+ * reads what bytes are there, or returns an error. Errors, in the order of the tests: those of a section header. */
 XMAS_ELF_NODISCARD uint32_t xmas_elf_section(const uint8_t *input, size_t input_size, const xmas_elf_header_t *header,
     uint64_t index, xmas_elf_section_t *out) XMAS_ELF_NOEXCEPT;
 
 /* Checks the section header at an index: that this reader knows its type, as it does 19 (SHT_RELR). Where the data
- * lie is not tested: `xmas_elf_section_data` does that. Errors, in the order of the tests:
- * XMAS_ELF_SHORT_SECTION_HEADER, XMAS_ELF_UNKNOWN_CLASS, XMAS_ELF_SMALL_ENTRY, XMAS_ELF_INVALID_SH_TYPE. */
+ * lie is not tested: `xmas_elf_section_data` does that. Errors, in the order of the tests: those of a section header,
+ * XMAS_ELF_INVALID_SH_TYPE. */
 XMAS_ELF_NODISCARD uint32_t xmas_elf_check_section(const uint8_t *input, size_t input_size,
     const xmas_elf_header_t *header, uint64_t index) XMAS_ELF_NOEXCEPT;
 
@@ -960,57 +1000,55 @@ XMAS_ELF_NODISCARD uint32_t xmas_elf_sections(const uint8_t *input, size_t input
     XMAS_ELF_NOEXCEPT;
 
 /* The first section with a name. A section of type 19 (SHT_RELR), or whose name can't be read, is skipped, and a name
- * that is not UTF-8 is never found. Errors: XMAS_ELF_NOT_FOUND. */
+ * that is not UTF-8 is never found. The call compares `name` with the names of the sections up to the one that it
+ * finds, each as far as they are equal: in a file made to be slow the time is sections times the size of `name`.
+ * Errors: XMAS_ELF_NOT_FOUND. */
 XMAS_ELF_NODISCARD uint32_t xmas_elf_find_section(const uint8_t *input, size_t input_size,
     const xmas_elf_header_t *header, const uint8_t *name, size_t name_size, xmas_elf_section_t *out)
     XMAS_ELF_NOEXCEPT;
 
 /* The index of the first section with a name: that of the section that `xmas_elf_find_section` gives, which takes
- * less time. Errors: XMAS_ELF_NOT_FOUND. */
+ * less time: this call reads the whole name of each section up to that one, so where sections share one long name the
+ * time is their number times its size. Errors: XMAS_ELF_NOT_FOUND. */
 XMAS_ELF_NODISCARD uint32_t xmas_elf_find_section_index(const uint8_t *input, size_t input_size,
     const xmas_elf_header_t *header, const uint8_t *name, size_t name_size, uint64_t *out) XMAS_ELF_NOEXCEPT;
 
 /* The range of a section's data. A section of type SHT_NOBITS has none in the file: its range belongs to other
  * sections. XMAS_ELF_NULL_DATA is for type SHT_NULL, XMAS_ELF_INVALID_SH_TYPE for a type that this reader does not
  * know. The range of an empty section begins at its offset. Errors, in the order of the tests:
- * XMAS_ELF_SHORT_SECTION_HEADER, XMAS_ELF_UNKNOWN_CLASS, XMAS_ELF_SMALL_ENTRY, XMAS_ELF_INVALID_SH_TYPE,
- * XMAS_ELF_NULL_DATA, XMAS_ELF_DATA_RANGE. */
+ * those of a section header, XMAS_ELF_INVALID_SH_TYPE, XMAS_ELF_NULL_DATA, XMAS_ELF_DATA_RANGE. */
 XMAS_ELF_NODISCARD uint32_t xmas_elf_section_data(const uint8_t *input, size_t input_size,
     const xmas_elf_header_t *header, uint64_t index, xmas_elf_range_t *out) XMAS_ELF_NOEXCEPT;
 
 /* The ranges of the names of sections from index `first` on, each with a status of its own, without the zero bytes
  * that end them. They are UTF-8. A section of any type has a name. The call gives as many names as
- * `xmas_elf_sections` gives headers. Errors: XMAS_ELF_NO_RECORD. Errors of a record, in the order of the tests:
- * XMAS_ELF_RESERVED_INDEX, XMAS_ELF_SHORT_SECTION_HEADER, XMAS_ELF_SHORT_SECTION_OFFSET, XMAS_ELF_TEXT_START,
- * XMAS_ELF_TEXT_END, XMAS_ELF_TEXT_UTF_8. */
+ * `xmas_elf_sections` gives headers. It reads each name to its end: where sections share one long name, the time is
+ * their number times its size. Errors: XMAS_ELF_NO_RECORD. Errors of a record, in the order of the tests:
+ * XMAS_ELF_RESERVED_INDEX, XMAS_ELF_SHORT_SECTION_HEADER, XMAS_ELF_SHORT_SECTION_OFFSET, those of a text. */
 XMAS_ELF_NODISCARD uint32_t xmas_elf_section_names(const uint8_t *input, size_t input_size,
     const xmas_elf_header_t *header, uint64_t first, xmas_elf_name_t *out, size_t out_count, uint64_t *count)
     XMAS_ELF_NOEXCEPT;
 
 /* The range of the name table of sections, which goes on to the end of the input. Read it once: the name of a section
  * is the text there at the section's `name`, by `xmas_elf_text`. Errors, in the order of the tests:
- * XMAS_ELF_RESERVED_INDEX, XMAS_ELF_SHORT_SECTION_HEADER, XMAS_ELF_UNKNOWN_CLASS, XMAS_ELF_SMALL_ENTRY,
- * XMAS_ELF_SHORT_SECTION_OFFSET. */
+ * XMAS_ELF_RESERVED_INDEX, those of a section header, XMAS_ELF_SHORT_SECTION_OFFSET. */
 XMAS_ELF_NODISCARD uint32_t xmas_elf_names(const uint8_t *input, size_t input_size, const xmas_elf_header_t *header,
     xmas_elf_range_t *out) XMAS_ELF_NOEXCEPT;
 
 /* The range of the text that begins `index` bytes after the start of `part` and ends before the next zero byte of
- * `part`. It is UTF-8. Errors, in the order of the tests: XMAS_ELF_DATA_RANGE, XMAS_ELF_TEXT_START,
- * XMAS_ELF_TEXT_END, XMAS_ELF_TEXT_UTF_8. */
+ * `part`. It is UTF-8. Errors, in the order of the tests: XMAS_ELF_DATA_RANGE, those of a text. */
 XMAS_ELF_NODISCARD uint32_t xmas_elf_text(const uint8_t *input, size_t input_size, const xmas_elf_range_t *part,
     uint64_t index, xmas_elf_range_t *out) XMAS_ELF_NOEXCEPT;
 
-/* The program header at an index. Errors, in the order of the tests: XMAS_ELF_NO_PROGRAM_HEADERS,
- * XMAS_ELF_UNKNOWN_CLASS, XMAS_ELF_SHORT_PROGRAM_HEADER, XMAS_ELF_SMALL_ENTRY. */
+/* The program header at an index. Errors, in the order of the tests: those of a program header. */
 XMAS_ELF_NODISCARD uint32_t xmas_elf_segment(const uint8_t *input, size_t input_size, const xmas_elf_header_t *header,
     uint32_t index, xmas_elf_segment_t *out) XMAS_ELF_NOEXCEPT;
 
 /* Checks the program header at an index against the input: the size of the table's entries, that the segment ends
  * before the input does, its type, and that its address and its offset are the same modulo an alignment above 1.
  * XMAS_ELF_ENTRY_POINT_RANGE is also for a segment that ends exactly where the input does. Errors, in the order of
- * the tests: XMAS_ELF_NO_PROGRAM_HEADERS, XMAS_ELF_UNKNOWN_CLASS, XMAS_ELF_SHORT_PROGRAM_HEADER,
- * XMAS_ELF_SMALL_ENTRY, XMAS_ELF_PH_SIZE_MISMATCH, XMAS_ELF_ENTRY_POINT_RANGE, XMAS_ELF_INVALID_PH_TYPE,
- * XMAS_ELF_SH_LIB_USED, XMAS_ELF_BAD_ALIGN. */
+ * the tests: those of a program header, XMAS_ELF_PH_SIZE_MISMATCH, XMAS_ELF_ENTRY_POINT_RANGE,
+ * XMAS_ELF_INVALID_PH_TYPE, XMAS_ELF_SH_LIB_USED, XMAS_ELF_BAD_ALIGN. */
 XMAS_ELF_NODISCARD uint32_t xmas_elf_check_segment(const uint8_t *input, size_t input_size,
     const xmas_elf_header_t *header, uint32_t index) XMAS_ELF_NOEXCEPT;
 
@@ -1022,8 +1060,8 @@ XMAS_ELF_NODISCARD uint32_t xmas_elf_segments(const uint8_t *input, size_t input
 
 /* The range of a segment's data. XMAS_ELF_NULL_DATA is for type PT_NULL, XMAS_ELF_INVALID_PH_TYPE for a type that
  * this reader does not know. For an empty segment (p_filesz 0) offset and size are 0, whatever its offset is. Errors,
- * in the order of the tests: XMAS_ELF_NO_PROGRAM_HEADERS, XMAS_ELF_UNKNOWN_CLASS, XMAS_ELF_SHORT_PROGRAM_HEADER,
- * XMAS_ELF_SMALL_ENTRY, XMAS_ELF_INVALID_PH_TYPE, XMAS_ELF_NULL_DATA, XMAS_ELF_DATA_RANGE. */
+ * in the order of the tests: those of a program header, XMAS_ELF_INVALID_PH_TYPE, XMAS_ELF_NULL_DATA,
+ * XMAS_ELF_DATA_RANGE. */
 XMAS_ELF_NODISCARD uint32_t xmas_elf_segment_data(const uint8_t *input, size_t input_size,
     const xmas_elf_header_t *header, uint32_t index, xmas_elf_range_t *out) XMAS_ELF_NOEXCEPT;
 
@@ -1037,10 +1075,10 @@ XMAS_ELF_NODISCARD uint32_t xmas_elf_symbols(const uint8_t *input, size_t input_
 
 /* The ranges of the names of these symbols, each with a status of its own: the texts at each symbol's `name` in the
  * string table. The call gives as many names as `xmas_elf_symbols` gives symbols. If `strings_status` of the table is
- * not 0, it is the status of each name; XMAS_ELF_DATA_RANGE is for a string table that does not lie in the input.
+ * not 0, it is the status of each name; XMAS_ELF_DATA_RANGE is for a string table that does not lie in the input. The
+ * call reads each name to its end: where symbols share one long name, the time is their number times its size.
  * Errors, in the order of the tests: XMAS_ELF_DATA_RANGE, XMAS_ELF_NOT_MULTIPLE, XMAS_ELF_NO_RECORD. Errors of a
- * record, in the order of the tests: XMAS_ELF_DATA_RANGE, XMAS_ELF_TEXT_START, XMAS_ELF_TEXT_END,
- * XMAS_ELF_TEXT_UTF_8. */
+ * record, in the order of the tests: XMAS_ELF_DATA_RANGE, those of a text. */
 XMAS_ELF_NODISCARD uint32_t xmas_elf_symbol_names(const uint8_t *input, size_t input_size,
     const xmas_elf_symbol_table_t *table, uint64_t first, xmas_elf_name_t *out, size_t out_count, uint64_t *count)
     XMAS_ELF_NOEXCEPT;
@@ -1048,40 +1086,37 @@ XMAS_ELF_NODISCARD uint32_t xmas_elf_symbol_names(const uint8_t *input, size_t i
 /* Finds the symbols of a section of type SHT_SYMTAB or SHT_DYNSYM, and the string table that it is linked to, once
  * for many calls of `xmas_elf_symbols` and `xmas_elf_symbol_names`. For a section of another type the status is an
  * error, mostly XMAS_ELF_OTHER_DATA. If the string table can't be read, the call is OK, and `strings_status` is the
- * reason. Errors, in the order of the tests: XMAS_ELF_SHORT_SECTION_HEADER, XMAS_ELF_UNKNOWN_CLASS,
- * XMAS_ELF_SMALL_ENTRY, XMAS_ELF_INVALID_SH_TYPE, XMAS_ELF_DATA_RANGE, XMAS_ELF_NOT_MULTIPLE, XMAS_ELF_NOTE_32,
- * XMAS_ELF_SHORT_DATA, XMAS_ELF_OTHER_DATA. */
+ * reason. Errors, in the order of the tests: those of a section header, those of a section's records,
+ * XMAS_ELF_OTHER_DATA. */
 XMAS_ELF_NODISCARD uint32_t xmas_elf_symbols_open(const uint8_t *input, size_t input_size,
     const xmas_elf_header_t *header, uint64_t section, xmas_elf_symbol_table_t *out) XMAS_ELF_NOEXCEPT;
 
 /* The relocations from index `first` on of a section of type SHT_REL or SHT_RELA. For a section of another type the
- * status is an error, mostly XMAS_ELF_OTHER_DATA. Errors, in the order of the tests: XMAS_ELF_SHORT_SECTION_HEADER,
- * XMAS_ELF_UNKNOWN_CLASS, XMAS_ELF_SMALL_ENTRY, XMAS_ELF_INVALID_SH_TYPE, XMAS_ELF_DATA_RANGE, XMAS_ELF_NOT_MULTIPLE,
- * XMAS_ELF_NOTE_32, XMAS_ELF_SHORT_DATA, XMAS_ELF_OTHER_DATA, XMAS_ELF_NO_RECORD. */
+ * status is an error, mostly XMAS_ELF_OTHER_DATA. Errors, in the order of the tests: those of a section header,
+ * those of a section's records, XMAS_ELF_OTHER_DATA, XMAS_ELF_NO_RECORD. */
 XMAS_ELF_NODISCARD uint32_t xmas_elf_relocations(const uint8_t *input, size_t input_size,
     const xmas_elf_header_t *header, uint64_t section, uint64_t first, xmas_elf_relocation_t *out, size_t out_count,
     uint64_t *count) XMAS_ELF_NOEXCEPT;
 
 /* The addresses in the packed relative relocations of a section of type 19 (SHT_RELR) from index `first` on: those of
  * the words to which the load address is added. Each call reads the words from the first on, so give much room.
- * Errors, in the order of the tests: XMAS_ELF_SHORT_SECTION_HEADER, XMAS_ELF_UNKNOWN_CLASS, XMAS_ELF_SMALL_ENTRY,
- * XMAS_ELF_OTHER_DATA, XMAS_ELF_DATA_RANGE, XMAS_ELF_LINK_NOT_MULTIPLE, XMAS_ELF_NO_RECORD. */
+ * Errors, in the order of the tests: those of a section header, XMAS_ELF_OTHER_DATA, XMAS_ELF_DATA_RANGE,
+ * XMAS_ELF_LINK_NOT_MULTIPLE, XMAS_ELF_NO_RECORD. */
 XMAS_ELF_NODISCARD uint32_t xmas_elf_packed_relocations(const uint8_t *input, size_t input_size,
     const xmas_elf_header_t *header, uint64_t section, uint64_t first, uint64_t *out, size_t out_count,
     uint64_t *count) XMAS_ELF_NOEXCEPT;
 
 /* The dynamic entries from index `first` on of a section of type SHT_DYNAMIC, also those after the entry with tag 0.
  * For a section of another type the status is an error, mostly XMAS_ELF_OTHER_DATA. Errors, in the order of the
- * tests: XMAS_ELF_SHORT_SECTION_HEADER, XMAS_ELF_UNKNOWN_CLASS, XMAS_ELF_SMALL_ENTRY, XMAS_ELF_INVALID_SH_TYPE,
- * XMAS_ELF_DATA_RANGE, XMAS_ELF_NOT_MULTIPLE, XMAS_ELF_NOTE_32, XMAS_ELF_SHORT_DATA, XMAS_ELF_OTHER_DATA,
- * XMAS_ELF_NO_RECORD. */
+ * tests: those of a section header, those of a section's records, XMAS_ELF_OTHER_DATA, XMAS_ELF_NO_RECORD. */
 XMAS_ELF_NODISCARD uint32_t xmas_elf_dynamics(const uint8_t *input, size_t input_size,
     const xmas_elf_header_t *header, uint64_t section, uint64_t first, xmas_elf_dynamic_t *out, size_t out_count,
     uint64_t *count) XMAS_ELF_NOEXCEPT;
 
 /* The dynamic entries of the last segment of type PT_DYNAMIC from index `first` on, also those after the entry with
- * tag 0. No section header is needed. Errors, in the order of the tests: XMAS_ELF_LINK_NO_DYNAMIC,
- * XMAS_ELF_LINK_ADDRESS, XMAS_ELF_DATA_RANGE, XMAS_ELF_UNKNOWN_CLASS, XMAS_ELF_NOT_MULTIPLE, XMAS_ELF_NO_RECORD. */
+ * tag 0. No section header is needed. Each call reads all program headers, so give room for many. Errors, in the
+ * order of the tests: XMAS_ELF_LINK_NO_DYNAMIC, XMAS_ELF_LINK_ADDRESS, XMAS_ELF_DATA_RANGE, XMAS_ELF_UNKNOWN_CLASS,
+ * XMAS_ELF_NOT_MULTIPLE, XMAS_ELF_NO_RECORD. */
 XMAS_ELF_NODISCARD uint32_t xmas_elf_dynamic_entries(const uint8_t *input, size_t input_size,
     const xmas_elf_header_t *header, uint64_t first, xmas_elf_dynamic_t *out, size_t out_count, uint64_t *count)
     XMAS_ELF_NOEXCEPT;
@@ -1089,16 +1124,15 @@ XMAS_ELF_NODISCARD uint32_t xmas_elf_dynamic_entries(const uint8_t *input, size_
 /* The relocations of the dynamic segment from index `first` on: those of the table DT_RELA, then of DT_REL, then of
  * DT_JMPREL. The index of a symbol is one of `xmas_elf_dynamic_symbols_open`. No section header is needed. Each call
  * reads the relocations before `first` anew, so give much room. Errors, in the order of the tests:
- * XMAS_ELF_LINK_NO_DYNAMIC, XMAS_ELF_LINK_ADDRESS, XMAS_ELF_DATA_RANGE, XMAS_ELF_NOT_MULTIPLE,
- * XMAS_ELF_LINK_NO_ENTRY, XMAS_ELF_LINK_RELOCATION_KIND, XMAS_ELF_NO_RECORD. */
+ * those of the dynamic segment, XMAS_ELF_LINK_NO_ENTRY, XMAS_ELF_LINK_RELOCATION_KIND, XMAS_ELF_NO_RECORD. */
 XMAS_ELF_NODISCARD uint32_t xmas_elf_dynamic_relocations(const uint8_t *input, size_t input_size,
     const xmas_elf_header_t *header, uint64_t first, xmas_elf_relocation_t *out, size_t out_count, uint64_t *count)
     XMAS_ELF_NOEXCEPT;
 
 /* The addresses in the packed relative relocations of the dynamic segment (DT_RELR) from index `first` on;
  * XMAS_ELF_NO_RECORD also if there are none. No section header is needed. Each call reads the words from the first
- * on, so give much room. Errors, in the order of the tests: XMAS_ELF_LINK_NO_DYNAMIC, XMAS_ELF_LINK_ADDRESS,
- * XMAS_ELF_DATA_RANGE, XMAS_ELF_NOT_MULTIPLE, XMAS_ELF_LINK_NO_ENTRY, XMAS_ELF_LINK_NOT_MULTIPLE, XMAS_ELF_NO_RECORD. */
+ * on, so give much room. Errors, in the order of the tests: those of the dynamic segment, XMAS_ELF_LINK_NO_ENTRY,
+ * XMAS_ELF_LINK_NOT_MULTIPLE, XMAS_ELF_NO_RECORD. */
 XMAS_ELF_NODISCARD uint32_t xmas_elf_dynamic_packed_relocations(const uint8_t *input, size_t input_size,
     const xmas_elf_header_t *header, uint64_t first, uint64_t *out, size_t out_count, uint64_t *count)
     XMAS_ELF_NOEXCEPT;
@@ -1111,8 +1145,8 @@ XMAS_ELF_NODISCARD uint32_t xmas_elf_note(const uint8_t *input, size_t input_siz
     const xmas_elf_range_t *part, uint64_t align, xmas_elf_note_t *out) XMAS_ELF_NOEXCEPT;
 
 /* The range of the file bytes for addresses `address .. address + count`: those of the last PT_LOAD segment that has
- * them all. No section header is needed. Of a segment without file bytes the offset is 0. Errors, in the order of the
- * tests: XMAS_ELF_LINK_ADDRESS, XMAS_ELF_DATA_RANGE. */
+ * them all. No section header is needed. Of a segment without file bytes the offset is 0. Each call reads all program
+ * headers. Errors, in the order of the tests: XMAS_ELF_LINK_ADDRESS, XMAS_ELF_DATA_RANGE. */
 XMAS_ELF_NODISCARD uint32_t xmas_elf_bytes_at(const uint8_t *input, size_t input_size,
     const xmas_elf_header_t *header, uint64_t address, uint64_t count, xmas_elf_range_t *out) XMAS_ELF_NOEXCEPT;
 
@@ -1121,10 +1155,10 @@ XMAS_ELF_NODISCARD uint32_t xmas_elf_bytes_at(const uint8_t *input, size_t input
  * 14 (DT_SONAME) the name of the library, for 29 (DT_RUNPATH) and 15 (DT_RPATH) the folders where the dynamic linker
  * looks for libraries. The entries are those of the last segment of type PT_DYNAMIC before the entry with tag 0, so
  * no section header is needed. XMAS_ELF_NO_RECORD is for a tag that no more entries have. Each call reads the entries
- * from the first on, so give room for all where a file may have many. Errors, in the order of the tests:
- * XMAS_ELF_LINK_NO_DYNAMIC, XMAS_ELF_LINK_ADDRESS, XMAS_ELF_DATA_RANGE, XMAS_ELF_NOT_MULTIPLE, XMAS_ELF_NO_RECORD.
- * Errors of a record, in the order of the tests: XMAS_ELF_LINK_NO_ENTRY, XMAS_ELF_LINK_ADDRESS, XMAS_ELF_DATA_RANGE,
- * XMAS_ELF_TEXT_START, XMAS_ELF_TEXT_END, XMAS_ELF_TEXT_UTF_8. */
+ * from the first on, so give room for all where a file may have many. It reads each text to its end: where entries
+ * share one long text, the time is their number times its size. Errors, in the order of the tests:
+ * those of the dynamic segment, XMAS_ELF_NO_RECORD. Errors of a record, in the order of the tests:
+ * those of a text of the dynamic segment. */
 XMAS_ELF_NODISCARD uint32_t xmas_elf_dynamic_texts(const uint8_t *input, size_t input_size,
     const xmas_elf_header_t *header, uint64_t tag, uint64_t first, xmas_elf_name_t *out, size_t out_count,
     uint64_t *count) XMAS_ELF_NOEXCEPT;
@@ -1134,19 +1168,15 @@ XMAS_ELF_NODISCARD uint32_t xmas_elf_dynamic_texts(const uint8_t *input, size_t 
  * that no entry says: the number of chains of the gABI's hash table (DT_HASH) where the segment names one, and else
  * one more than the last index that GNU's (DT_GNU_HASH) reaches, or its first index where it reaches none; this one
  * does not count symbols after the last exported one. If the string table can't be read, the call is OK, and
- * `strings_status` is the reason. Errors, in the order of the tests: XMAS_ELF_LINK_NO_DYNAMIC, XMAS_ELF_LINK_ADDRESS,
- * XMAS_ELF_DATA_RANGE, XMAS_ELF_NOT_MULTIPLE, XMAS_ELF_LINK_NO_ENTRY, XMAS_ELF_SHORT_DATA, XMAS_ELF_LINK_SHORT_TABLE,
- * XMAS_ELF_LINK_BLOOM_COUNT, XMAS_ELF_LINK_CHAIN_INDEX, XMAS_ELF_LINK_CHAIN_DATA, XMAS_ELF_LINK_SYMBOL_INDEX. */
+ * `strings_status` is the reason. Errors, in the order of the tests: those of the number of dynamic symbols. */
 XMAS_ELF_NODISCARD uint32_t xmas_elf_dynamic_symbols_open(const uint8_t *input, size_t input_size,
     const xmas_elf_header_t *header, xmas_elf_symbol_table_t *out) XMAS_ELF_NOEXCEPT;
 
 /* Finds the symbols of a file, once for many calls of `xmas_elf_symbols` and `xmas_elf_symbol_names`: those of the
  * first section of type SHT_SYMTAB, as `xmas_elf_symbols_open` does, and of a file without such a section, as after
  * `strip`, those of the dynamic segment, as `xmas_elf_dynamic_symbols_open` does. Errors, in the order of the tests:
- * XMAS_ELF_SHORT_SECTION_HEADER, XMAS_ELF_UNKNOWN_CLASS, XMAS_ELF_SMALL_ENTRY, XMAS_ELF_INVALID_SH_TYPE,
- * XMAS_ELF_DATA_RANGE, XMAS_ELF_NOT_MULTIPLE, XMAS_ELF_NOTE_32, XMAS_ELF_SHORT_DATA, XMAS_ELF_OTHER_DATA,
- * XMAS_ELF_LINK_NO_DYNAMIC, XMAS_ELF_LINK_ADDRESS, XMAS_ELF_LINK_NO_ENTRY, XMAS_ELF_LINK_SHORT_TABLE,
- * XMAS_ELF_LINK_BLOOM_COUNT, XMAS_ELF_LINK_CHAIN_INDEX, XMAS_ELF_LINK_CHAIN_DATA, XMAS_ELF_LINK_SYMBOL_INDEX. */
+ * those of a section header, those of a section's records, XMAS_ELF_OTHER_DATA,
+ * those of the number of dynamic symbols. */
 XMAS_ELF_NODISCARD uint32_t xmas_elf_file_symbols_open(const uint8_t *input, size_t input_size,
     const xmas_elf_header_t *header, xmas_elf_symbol_table_t *out) XMAS_ELF_NOEXCEPT;
 
@@ -1155,31 +1185,27 @@ XMAS_ELF_NODISCARD uint32_t xmas_elf_file_symbols_open(const uint8_t *input, siz
  * with it. The call gives as many versions as the table of `xmas_elf_dynamic_symbols_open` has symbols.
  * XMAS_ELF_NOT_FOUND is for a file whose symbols have no versions. Each call counts the symbols anew, so give room
  * for all. A version with a number of 64 or more is searched for among all definitions and needs, once for each
- * symbol that has it. Errors, in the order of the tests: XMAS_ELF_LINK_NO_DYNAMIC, XMAS_ELF_LINK_ADDRESS,
- * XMAS_ELF_DATA_RANGE, XMAS_ELF_NOT_MULTIPLE, XMAS_ELF_LINK_NO_ENTRY, XMAS_ELF_SHORT_DATA, XMAS_ELF_LINK_SHORT_TABLE,
- * XMAS_ELF_LINK_BLOOM_COUNT, XMAS_ELF_LINK_CHAIN_INDEX, XMAS_ELF_LINK_CHAIN_DATA, XMAS_ELF_LINK_SYMBOL_INDEX,
- * XMAS_ELF_NOT_FOUND, XMAS_ELF_NO_RECORD. Errors of a record, in the order of the tests: XMAS_ELF_LINK_SHORT_VERSION,
- * XMAS_ELF_LINK_VERSION_COUNT, XMAS_ELF_LINK_NO_ENTRY, XMAS_ELF_LINK_ADDRESS, XMAS_ELF_DATA_RANGE,
- * XMAS_ELF_TEXT_START, XMAS_ELF_TEXT_END, XMAS_ELF_TEXT_UTF_8. */
+ * symbol that has it: in a file made to be slow the time is symbols times definitions and needs. Names are read to
+ * their end for each symbol, also where many have one version with a long name. Errors, in the order of the tests:
+ * those of the number of dynamic symbols, XMAS_ELF_NOT_FOUND, XMAS_ELF_NO_RECORD. Errors of a record, in the order of
+ * the tests: those of a version. */
 XMAS_ELF_NODISCARD uint32_t xmas_elf_dynamic_symbol_versions(const uint8_t *input, size_t input_size,
     const xmas_elf_header_t *header, uint64_t first, xmas_elf_version_t *out, size_t out_count, uint64_t *count)
     XMAS_ELF_NOEXCEPT;
 
 /* The versions that the file defines (DT_VERDEF) from index `first` on, in their order, each with a status of its
  * own: a record that is cut off is the last one. No section header is needed. Each call reads the records from the
- * first on, so give room for all. Errors, in the order of the tests: XMAS_ELF_LINK_NO_DYNAMIC, XMAS_ELF_LINK_ADDRESS,
- * XMAS_ELF_DATA_RANGE, XMAS_ELF_NOT_MULTIPLE, XMAS_ELF_NO_RECORD. Errors of a record, in the order of the tests:
- * XMAS_ELF_LINK_SHORT_VERSION, XMAS_ELF_LINK_NO_ENTRY, XMAS_ELF_LINK_ADDRESS, XMAS_ELF_DATA_RANGE,
- * XMAS_ELF_TEXT_START, XMAS_ELF_TEXT_END, XMAS_ELF_TEXT_UTF_8. */
+ * first on, so give room for all. It reads each name to its end: where records share one long name, the time is their
+ * number times its size. Errors, in the order of the tests: those of the dynamic segment, XMAS_ELF_NO_RECORD. Errors
+ * of a record, in the order of the tests: XMAS_ELF_LINK_SHORT_VERSION, those of a text of the dynamic segment. */
 XMAS_ELF_NODISCARD uint32_t xmas_elf_version_definitions(const uint8_t *input, size_t input_size,
     const xmas_elf_header_t *header, uint64_t first, xmas_elf_version_t *out, size_t out_count, uint64_t *count)
     XMAS_ELF_NOEXCEPT;
 
 /* The versions that the file needs of libraries (DT_VERNEED) from index `first` on, in their order, as
- * `xmas_elf_version_definitions` gives the others. Errors, in the order of the tests: XMAS_ELF_LINK_NO_DYNAMIC,
- * XMAS_ELF_LINK_ADDRESS, XMAS_ELF_DATA_RANGE, XMAS_ELF_NOT_MULTIPLE, XMAS_ELF_NO_RECORD. Errors of a record, in the
- * order of the tests: XMAS_ELF_LINK_SHORT_VERSION, XMAS_ELF_LINK_VERSION_COUNT, XMAS_ELF_LINK_NO_ENTRY,
- * XMAS_ELF_LINK_ADDRESS, XMAS_ELF_DATA_RANGE, XMAS_ELF_TEXT_START, XMAS_ELF_TEXT_END, XMAS_ELF_TEXT_UTF_8. */
+ * `xmas_elf_version_definitions` gives the others, and at the same cost. Errors, in the order of the tests:
+ * those of the dynamic segment, XMAS_ELF_NO_RECORD. Errors of a record, in the order of the tests:
+ * those of a version. */
 XMAS_ELF_NODISCARD uint32_t xmas_elf_version_needs(const uint8_t *input, size_t input_size,
     const xmas_elf_header_t *header, uint64_t first, xmas_elf_version_t *out, size_t out_count, uint64_t *count)
     XMAS_ELF_NOEXCEPT;
@@ -1190,13 +1216,12 @@ XMAS_ELF_NODISCARD uint32_t xmas_elf_version_needs(const uint8_t *input, size_t 
  * there is exactly one. A symbol counts if it has a value, or is absolute or thread-local, and a type that linkers
  * use: also one that is not defined and has a value. The symbol is found only if other files can use it: its binding
  * is global, weak or unique, and its visibility the default or protected. If no symbol is found, that is no error.
- * Each call counts the symbols of the dynamic segment anew; for many names `xmas_elf_look_ups` is faster, which knows
- * no versions. Errors, in the order of the tests: XMAS_ELF_TEXT_UTF_8, XMAS_ELF_LINK_NO_DYNAMIC,
- * XMAS_ELF_LINK_ADDRESS, XMAS_ELF_DATA_RANGE, XMAS_ELF_NOT_MULTIPLE, XMAS_ELF_LINK_NO_ENTRY, XMAS_ELF_SHORT_DATA,
- * XMAS_ELF_LINK_SHORT_TABLE, XMAS_ELF_LINK_BLOOM_COUNT, XMAS_ELF_LINK_CHAIN_INDEX, XMAS_ELF_LINK_CHAIN_DATA,
- * XMAS_ELF_LINK_SYMBOL_INDEX, XMAS_ELF_HASH_DATA, XMAS_ELF_CHAIN_INDEX, XMAS_ELF_SYMBOL_INDEX, XMAS_ELF_CHAIN_SUM,
- * XMAS_ELF_HASH_CYCLE, XMAS_ELF_LINK_SHORT_VERSION, XMAS_ELF_LINK_VERSION_COUNT, XMAS_ELF_TEXT_START,
- * XMAS_ELF_TEXT_END. */
+ * Each call counts the symbols of the dynamic segment anew, and goes along the chain of the name; with a version it
+ * finds that of each symbol with the name, which is searched for among all definitions and needs if its number is 64
+ * or more. In a file made to be slow the time is symbols times definitions and needs. For many names
+ * `xmas_elf_look_ups` is faster, which knows no versions. Errors, in the order of the tests: XMAS_ELF_TEXT_UTF_8,
+ * those of the number of dynamic symbols, those of a chain of the gABI's hash table, XMAS_ELF_LINK_SHORT_VERSION,
+ * XMAS_ELF_LINK_VERSION_COUNT, XMAS_ELF_TEXT_START, XMAS_ELF_TEXT_END. */
 XMAS_ELF_NODISCARD uint32_t xmas_elf_find_symbol(const uint8_t *input, size_t input_size,
     const xmas_elf_header_t *header, const uint8_t *name, size_t name_size, const uint8_t *version,
     size_t version_size, xmas_elf_found_symbol_t *out) XMAS_ELF_NOEXCEPT;
@@ -1208,10 +1233,10 @@ XMAS_ELF_NODISCARD uint32_t xmas_elf_find_symbol(const uint8_t *input, size_t in
  * reads no more chain entries than the table has. XMAS_ELF_DATA_RANGE is for a range that passes the end of `names`.
  * Any table may be given: the call compares its ranges with the input. `xmas_elf_symbols` gives a symbol by its
  * index, for the `symbols` of the table. `names` may be another file, and the ranges those of the names of its
- * symbols. Errors of a record, in the order of the tests: XMAS_ELF_DATA_RANGE, XMAS_ELF_TEXT_UTF_8,
- * XMAS_ELF_SHORT_DATA, XMAS_ELF_LINK_SHORT_TABLE, XMAS_ELF_LINK_BLOOM_COUNT, XMAS_ELF_NOT_MULTIPLE,
- * XMAS_ELF_HASH_DATA, XMAS_ELF_CHAIN_INDEX, XMAS_ELF_SYMBOL_INDEX, XMAS_ELF_CHAIN_SUM, XMAS_ELF_HASH_CYCLE,
- * XMAS_ELF_LINK_CHAIN_INDEX, XMAS_ELF_LINK_SYMBOL_INDEX, XMAS_ELF_LINK_CHAIN_DATA. */
+ * symbols. A look-up takes time by the chain of its name: in a file made to be slow one chain has all symbols, and
+ * the time of a call is names times symbols. Errors of a record, in the order of the tests: XMAS_ELF_DATA_RANGE,
+ * XMAS_ELF_TEXT_UTF_8, XMAS_ELF_SHORT_DATA, XMAS_ELF_LINK_SHORT_TABLE, XMAS_ELF_LINK_BLOOM_COUNT,
+ * XMAS_ELF_NOT_MULTIPLE, those of a chain of the gABI's hash table, those of a chain of GNU's hash table. */
 void xmas_elf_look_ups(const uint8_t *input, size_t input_size, const xmas_elf_hash_table_t *table,
     const uint8_t *names, size_t names_size, const xmas_elf_range_t *ranges, size_t ranges_count,
     xmas_elf_answer_t *out, size_t out_count) XMAS_ELF_NOEXCEPT;
@@ -1219,20 +1244,20 @@ void xmas_elf_look_ups(const uint8_t *input, size_t input_size, const xmas_elf_h
 /* Finds the hash table that is a section of type SHT_HASH or 0x6ffffff6 (SHT_GNU_HASH), and the symbols of the
  * section that it is linked to, as `xmas_elf_symbols_open` finds them: once for many look-ups. Its kind is the type
  * of the section. If the string table of the symbols can't be read, the call is OK, no symbol has a name, and
- * `strings_status` is the reason. Errors, in the order of the tests: XMAS_ELF_SHORT_SECTION_HEADER,
- * XMAS_ELF_UNKNOWN_CLASS, XMAS_ELF_SMALL_ENTRY, XMAS_ELF_INVALID_SH_TYPE, XMAS_ELF_DATA_RANGE, XMAS_ELF_NOT_MULTIPLE,
- * XMAS_ELF_NOTE_32, XMAS_ELF_SHORT_DATA, XMAS_ELF_LINK_SHORT_TABLE, XMAS_ELF_LINK_BLOOM_COUNT, XMAS_ELF_OTHER_DATA. */
+ * `strings_status` is the reason. Errors, in the order of the tests: those of a section header,
+ * those of a section's records, XMAS_ELF_LINK_SHORT_TABLE, XMAS_ELF_LINK_BLOOM_COUNT, XMAS_ELF_OTHER_DATA. */
 XMAS_ELF_NODISCARD uint32_t xmas_elf_hash_open(const uint8_t *input, size_t input_size,
     const xmas_elf_header_t *header, uint64_t section, xmas_elf_hash_table_t *out) XMAS_ELF_NOEXCEPT;
 
 /* Checks a hash table that `xmas_elf_hash_open` found. If it is OK, look-ups return no error for the table, and each
  * finds a symbol if one that is not local has the name; in GNU's table one from its first on that is defined. Call it
- * once before many look-ups. GNU's table takes one pass over the table and one over the symbols and their names; a
- * table of the other kind that was made to be slow takes a few nanoseconds times the product of its buckets and
- * chains. Errors, in the order of the tests: XMAS_ELF_DATA_RANGE, XMAS_ELF_SHORT_DATA, XMAS_ELF_LINK_SHORT_TABLE,
- * XMAS_ELF_LINK_BLOOM_COUNT, XMAS_ELF_NOT_MULTIPLE, XMAS_ELF_HASH_DATA, XMAS_ELF_CHAIN_INDEX, XMAS_ELF_SYMBOL_INDEX,
- * XMAS_ELF_CHAIN_SUM, XMAS_ELF_HASH_CYCLE, XMAS_ELF_LINK_CHAIN_INDEX, XMAS_ELF_LINK_SYMBOL_INDEX,
- * XMAS_ELF_LINK_CHAIN_DATA, XMAS_ELF_HASH_MISSING, XMAS_ELF_LINK_MISSING. */
+ * once before many look-ups. GNU's table takes one pass over the table and one over the symbols and their names:
+ * where symbols share one long name, the time is their number times its size. So does a table of the other kind whose
+ * buckets share no chain; one that was made to be slow takes a few nanoseconds times the sum of its buckets, chains
+ * and symbols times the lesser of chains and symbols. Errors, in the order of the tests: XMAS_ELF_DATA_RANGE,
+ * XMAS_ELF_SHORT_DATA, XMAS_ELF_LINK_SHORT_TABLE, XMAS_ELF_LINK_BLOOM_COUNT, XMAS_ELF_NOT_MULTIPLE,
+ * those of a chain of the gABI's hash table, those of a chain of GNU's hash table, XMAS_ELF_HASH_MISSING,
+ * XMAS_ELF_LINK_MISSING. */
 XMAS_ELF_NODISCARD uint32_t xmas_elf_check_hash(const uint8_t *input, size_t input_size,
     const xmas_elf_hash_table_t *table) XMAS_ELF_NOEXCEPT;
 
@@ -1243,8 +1268,9 @@ XMAS_ELF_NODISCARD uint32_t xmas_elf_check_hash(const uint8_t *input, size_t inp
  * SHT_SYMTAB_SHNDX that is linked to the symbols' section, of size 0 where there is none; `within` is the index of a
  * section whose symbols alone are asked for, as in an object file, where values are offsets in sections, and else 0.
  * A symbol names addresses if it is in a section, has no type or is a function or an object, and has a name; labels
- * that assemblers make and mapping symbols don't. It takes time n log n for n symbols. `words` and `numbers` are
- * changed in no call that is not OK. Errors, in the order of the tests: XMAS_ELF_DATA_RANGE, XMAS_ELF_NOT_MULTIPLE,
+ * that assemblers make and mapping symbols don't. It reads all symbols of the table, with `within` those of other
+ * sections too, and takes time n log n for the n that are in the index. `words` and `numbers` are changed in no call
+ * that is not OK. Errors, in the order of the tests: XMAS_ELF_DATA_RANGE, XMAS_ELF_NOT_MULTIPLE,
  * XMAS_ELF_INDEX_MANY_SYMBOLS, XMAS_ELF_INDEX_FEW_WORDS. */
 XMAS_ELF_NODISCARD uint32_t xmas_elf_address_index(const uint8_t *input, size_t input_size,
     const xmas_elf_header_t *header, const xmas_elf_symbol_table_t *table, const xmas_elf_range_t *indices,
@@ -1255,9 +1281,9 @@ XMAS_ELF_NODISCARD uint32_t xmas_elf_address_index(const uint8_t *input, size_t 
  * covers `size` addresses from its `value` on, and with size 0 its value alone. Of several that cover an address, one
  * with a size comes first, then the one that begins last, the smallest, a function before an object, a global one
  * before a weak one before a local one, and the first of the table. If no symbol covers an address, that is no error.
- * A question takes time log n for n symbols. With other words or numbers than those of `xmas_elf_address_index` a
- * symbol may be missed, and one that is found covers the address, but may be one that names none. Errors, in the
- * order of the tests: XMAS_ELF_DATA_RANGE, XMAS_ELF_NOT_MULTIPLE. */
+ * The time of a question grows with the square of log n for n symbols. With other words or numbers than those of
+ * `xmas_elf_address_index` it may grow with n, a symbol may be missed, and one that is found covers the address, but
+ * may be one that names none. Errors, in the order of the tests: XMAS_ELF_DATA_RANGE, XMAS_ELF_NOT_MULTIPLE. */
 XMAS_ELF_NODISCARD uint32_t xmas_elf_symbols_at(const uint8_t *input, size_t input_size,
     const xmas_elf_address_index_t *index, const uint32_t *words, size_t words_count, const uint64_t *numbers,
     size_t numbers_count, const uint64_t *addresses, size_t addresses_count, xmas_elf_symbol_at_t *out,
@@ -1281,8 +1307,10 @@ XMAS_ELF_NODISCARD uint32_t xmas_elf_pieces(const uint8_t *input, size_t input_s
  * finds for it, or that of no symbol. `index` is a record of `xmas_elf_address_index`, which may be called without
  * words for it, with the index of a section as `within`, and `begin` and `end` are the addresses of its first byte
  * and after its last one; in an object file, 0 and its size. The call takes `words` and `numbers` of the record, and
- * builds the index in them anew: they may hold anything before and after. Errors, in the order of the tests:
- * XMAS_ELF_DATA_RANGE, XMAS_ELF_NOT_MULTIPLE, XMAS_ELF_INDEX_MANY_SYMBOLS, XMAS_ELF_INDEX_FEW_WORDS. */
+ * builds the index in them anew: they may hold anything before and after. Each call reads all symbols of the table: a
+ * call for each section of a file takes time by sections times symbols. In a copy of the table that is sorted by
+ * section it takes time by the symbols of the section alone; the page c/README.md has the code. Errors, in the order
+ * of the tests: XMAS_ELF_DATA_RANGE, XMAS_ELF_NOT_MULTIPLE, XMAS_ELF_INDEX_MANY_SYMBOLS, XMAS_ELF_INDEX_FEW_WORDS. */
 XMAS_ELF_NODISCARD uint32_t xmas_elf_symbol_pieces(const uint8_t *input, size_t input_size,
     const xmas_elf_address_index_t *index, uint64_t begin, uint64_t end, uint64_t first, uint32_t *words,
     size_t words_count, uint64_t *numbers, size_t numbers_count, xmas_elf_piece_t *out, size_t out_count,
@@ -1293,8 +1321,9 @@ XMAS_ELF_NODISCARD uint32_t xmas_elf_symbol_pieces(const uint8_t *input, size_t 
  * summed by owner, with names and kinds. Each part is in exactly one row, one of an equal size too; parts are matched
  * by kind and name, the n-th of a name with the n-th. The differences of the sizes sum to the difference of the sums.
  * The call sorts both lists by kind, name and place, and writes the rows to the front of `changes`, which has room
- * for as many as both lists have parts; `count` is their number. Without that room nothing is changed. It takes time
- * n log n for n parts. No two of the three arrays share a byte. Errors: XMAS_ELF_INDEX_FEW_WORDS. */
+ * for as many as both lists have parts; `count` is their number. Without that room nothing is changed. It takes n log
+ * n comparisons for n parts, each with as many bytes as two names have in common. No two of the three arrays share a
+ * byte. Errors: XMAS_ELF_INDEX_FEW_WORDS. */
 XMAS_ELF_NODISCARD uint32_t xmas_elf_size_changes(xmas_elf_size_part_t *olds, size_t olds_count,
     xmas_elf_size_part_t *news, size_t news_count, xmas_elf_size_change_t *changes, size_t changes_count,
     uint64_t *count) XMAS_ELF_NOEXCEPT;
@@ -1304,7 +1333,8 @@ XMAS_ELF_NODISCARD uint32_t xmas_elf_size_changes(xmas_elf_size_part_t *olds, si
  * the folder of the file, in `.debug` there, and, if `path` begins with a slash, in the same folder under
  * `directory`. Ask from index 0 on; XMAS_ELF_NO_RECORD means that there are no more. It writes the bytes of the path
  * to the front of `text`, as many as fit, without a zero byte at the end, and the number of all to `size` of `out`. A
- * candidate that is there passes `xmas_elf_check_debug`, or is another file's. Errors: XMAS_ELF_NO_RECORD. */
+ * candidate that is there passes `xmas_elf_check_debug`, or is another file's. A build id or a link that can't be
+ * read gives no path. Each call searches the sections of the file anew. Errors: XMAS_ELF_NO_RECORD. */
 XMAS_ELF_NODISCARD uint32_t xmas_elf_debug_path(const uint8_t *input, size_t input_size,
     const xmas_elf_header_t *header, const uint8_t *path, size_t path_size, const uint8_t *directory,
     size_t directory_size, uint64_t index, uint8_t *text, size_t text_size, xmas_elf_debug_candidate_t *out)
@@ -1322,14 +1352,11 @@ XMAS_ELF_NODISCARD uint32_t xmas_elf_check_debug(const uint8_t *input, size_t in
  * is always OK. */
 uint32_t xmas_elf_debug_crc(const uint8_t *bytes, size_t bytes_size, uint32_t *out) XMAS_ELF_NOEXCEPT;
 
-/* Whether Linux and glibc load a file, and what they put into memory for it. `page` is the size of a page, a power of
- * two; 0 means 4096. `limit` is the end of the addresses that a loader may use; 0 means that of Linux: 0xffffe000 for
- * a file of class 32, 0x1000000000000 for one of class 64 for AArch64, and else 0x7ffffffff000, that of x86-64. The
- * load segments are those of type PT_LOAD. Errors, in the order of the tests: XMAS_ELF_LOAD_TYPE,
- * XMAS_ELF_LOAD_ENTRY_SIZE, XMAS_ELF_LOAD_COUNT, XMAS_ELF_LOAD_TABLE, XMAS_ELF_LOAD_FILE_SIZE, XMAS_ELF_LOAD_EMPTY,
- * XMAS_ELF_LOAD_MISALIGNED, XMAS_ELF_LOAD_ALIGNMENT, XMAS_ELF_LOAD_RANGE, XMAS_ELF_LOAD_DATA, XMAS_ELF_LOAD_OVERLAP,
- * XMAS_ELF_LOAD_ZEROS, XMAS_ELF_LOAD_NO_LOAD, XMAS_ELF_LOAD_HEADERS, XMAS_ELF_LOAD_INTERPRETER, XMAS_ELF_LOAD_RELRO,
- * XMAS_ELF_LOAD_TLS, XMAS_ELF_LOAD_ENTRY. */
+/* What Linux and glibc put into memory for a file, or why there is no plan. Some files that they load have none:
+ * `xmas_elf_check_load` says which they load. `page` is the size of a page, a power of two; 0 means 4096. `limit` is
+ * the end of the addresses that a loader may use; 0 means that of Linux: 0xffffe000 for a file of class 32,
+ * 0x1000000000000 for one of class 64 for AArch64, and else 0x7ffffffff000, that of x86-64. The load segments are
+ * those of type PT_LOAD. Errors, in the order of the tests: those of a load plan. */
 XMAS_ELF_NODISCARD uint32_t xmas_elf_load_plan(const uint8_t *input, size_t input_size,
     const xmas_elf_header_t *header, uint64_t page, uint64_t limit, xmas_elf_load_plan_t *out) XMAS_ELF_NOEXCEPT;
 
@@ -1337,11 +1364,7 @@ XMAS_ELF_NODISCARD uint32_t xmas_elf_load_plan(const uint8_t *input, size_t inpu
  * empty or overlaps another, and all lie in the span of `xmas_elf_load_plan`, whose `page` and `limit` they are.
  * `loader` is 1 for glibc, which maps libraries; any other number for Linux, which maps a program and its
  * interpreter. glibc maps the pages between load segments, too, without access. Each call reads the program headers
- * anew, so give room for all. Errors, in the order of the tests: XMAS_ELF_LOAD_TYPE, XMAS_ELF_LOAD_ENTRY_SIZE,
- * XMAS_ELF_LOAD_COUNT, XMAS_ELF_LOAD_TABLE, XMAS_ELF_LOAD_FILE_SIZE, XMAS_ELF_LOAD_EMPTY, XMAS_ELF_LOAD_MISALIGNED,
- * XMAS_ELF_LOAD_ALIGNMENT, XMAS_ELF_LOAD_RANGE, XMAS_ELF_LOAD_DATA, XMAS_ELF_LOAD_OVERLAP, XMAS_ELF_LOAD_ZEROS,
- * XMAS_ELF_LOAD_NO_LOAD, XMAS_ELF_LOAD_HEADERS, XMAS_ELF_LOAD_INTERPRETER, XMAS_ELF_LOAD_RELRO, XMAS_ELF_LOAD_TLS,
- * XMAS_ELF_LOAD_ENTRY, XMAS_ELF_NO_RECORD. */
+ * anew, so give room for all. Errors, in the order of the tests: those of a load plan, XMAS_ELF_NO_RECORD. */
 XMAS_ELF_NODISCARD uint32_t xmas_elf_load_mappings(const uint8_t *input, size_t input_size,
     const xmas_elf_header_t *header, uint64_t page, uint64_t limit, uint32_t loader, uint64_t first,
     xmas_elf_load_mapping_t *out, size_t out_count, uint64_t *count) XMAS_ELF_NOEXCEPT;
@@ -1349,11 +1372,7 @@ XMAS_ELF_NODISCARD uint32_t xmas_elf_load_mappings(const uint8_t *input, size_t 
 /* Writes the bytes of a file to `image`, as a loader maps them before relocation: byte `i` is that at the start of
  * the span of `xmas_elf_load_plan` plus `i`, and 0 where nothing is mapped. The size of `image` is that of the span.
  * `page`, `limit` and `loader` are those of `xmas_elf_load_mappings`. `image` is changed in no call that is not OK.
- * Errors, in the order of the tests: XMAS_ELF_LOAD_TYPE, XMAS_ELF_LOAD_ENTRY_SIZE, XMAS_ELF_LOAD_COUNT,
- * XMAS_ELF_LOAD_TABLE, XMAS_ELF_LOAD_FILE_SIZE, XMAS_ELF_LOAD_EMPTY, XMAS_ELF_LOAD_MISALIGNED,
- * XMAS_ELF_LOAD_ALIGNMENT, XMAS_ELF_LOAD_RANGE, XMAS_ELF_LOAD_DATA, XMAS_ELF_LOAD_OVERLAP, XMAS_ELF_LOAD_ZEROS,
- * XMAS_ELF_LOAD_NO_LOAD, XMAS_ELF_LOAD_HEADERS, XMAS_ELF_LOAD_INTERPRETER, XMAS_ELF_LOAD_RELRO, XMAS_ELF_LOAD_TLS,
- * XMAS_ELF_LOAD_ENTRY, XMAS_ELF_LOAD_IMAGE_SIZE. */
+ * Errors, in the order of the tests: those of a load plan, XMAS_ELF_LOAD_IMAGE_SIZE. */
 XMAS_ELF_NODISCARD uint32_t xmas_elf_load_image(const uint8_t *input, size_t input_size,
     const xmas_elf_header_t *header, uint64_t page, uint64_t limit, uint32_t loader, uint8_t *image,
     size_t image_size) XMAS_ELF_NOEXCEPT;
@@ -1363,28 +1382,20 @@ XMAS_ELF_NODISCARD uint32_t xmas_elf_load_image(const uint8_t *input, size_t inp
  * writable unless the file asks for writes elsewhere (DT_TEXTREL), and has no byte in common with one of these tables
  * or with another word. Of the objects only the files are read. `page` and `limit` are those of `xmas_elf_load_plan`,
  * which each file must pass. `marks` has at least a bit for each byte of the span of the object's plan: its size in
- * bytes, divided by 8, and one more. What it holds before and after has no meaning. A call takes up to 64 objects;
+ * bytes, divided by 8, and one more. What it holds before and after has no meaning. If a call is not OK, `failed` is
+ * the index of the object with the error: that of the first file that can't be read or has no plan, else `of`. It is
+ * unchanged where none has it: with no object or none at `of` (XMAS_ELF_LINK_OBJECT_INDEX), with more than 64
+ * (XMAS_ELF_MANY_OBJECTS), and where `marks` is too short (XMAS_ELF_LOAD_FEW_MARKS). A call takes up to 64 objects;
  * for more it returns XMAS_ELF_MANY_OBJECTS. It reads all files before it tests `of`, so XMAS_ELF_LINK_OBJECT_INDEX
  * comes before errors of the files only where there is no object. A relocation that names a symbol takes a look-up in
- * each file up to the one that has it. Errors, in the order of the tests: XMAS_ELF_LINK_OBJECT_INDEX,
- * XMAS_ELF_MANY_OBJECTS, XMAS_ELF_SHORT_PART_1, XMAS_ELF_NO_MAGIC, XMAS_ELF_INVALID_CLASS, XMAS_ELF_SHORT_HEADERS,
- * XMAS_ELF_LINK_NO_DYNAMIC, XMAS_ELF_LINK_ADDRESS, XMAS_ELF_DATA_RANGE, XMAS_ELF_NOT_MULTIPLE,
- * XMAS_ELF_LINK_NO_ENTRY, XMAS_ELF_SHORT_DATA, XMAS_ELF_LINK_SHORT_TABLE, XMAS_ELF_LINK_BLOOM_COUNT,
- * XMAS_ELF_LINK_CHAIN_INDEX, XMAS_ELF_LINK_CHAIN_DATA, XMAS_ELF_LINK_SYMBOL_INDEX, XMAS_ELF_LINK_UNKNOWN_CLASS,
- * XMAS_ELF_LINK_NOT_MULTIPLE, XMAS_ELF_LINK_RELOCATION_KIND, XMAS_ELF_SYMBOL_INDEX, XMAS_ELF_HASH_DATA,
- * XMAS_ELF_CHAIN_INDEX, XMAS_ELF_CHAIN_SUM, XMAS_ELF_HASH_CYCLE, XMAS_ELF_LINK_SHORT_VERSION,
- * XMAS_ELF_LINK_VERSION_COUNT, XMAS_ELF_TEXT_START, XMAS_ELF_TEXT_END, XMAS_ELF_TEXT_UTF_8, XMAS_ELF_LOAD_TYPE,
- * XMAS_ELF_LOAD_ENTRY_SIZE, XMAS_ELF_LOAD_COUNT, XMAS_ELF_LOAD_TABLE, XMAS_ELF_LOAD_FILE_SIZE, XMAS_ELF_LOAD_EMPTY,
- * XMAS_ELF_LOAD_MISALIGNED, XMAS_ELF_LOAD_ALIGNMENT, XMAS_ELF_LOAD_RANGE, XMAS_ELF_LOAD_DATA, XMAS_ELF_LOAD_OVERLAP,
- * XMAS_ELF_LOAD_ZEROS, XMAS_ELF_LOAD_NO_LOAD, XMAS_ELF_LOAD_HEADERS, XMAS_ELF_LOAD_INTERPRETER, XMAS_ELF_LOAD_RELRO,
- * XMAS_ELF_LOAD_TLS, XMAS_ELF_LOAD_ENTRY, XMAS_ELF_LOAD_DYNAMIC, XMAS_ELF_LOAD_NO_ENTRY, XMAS_ELF_LOAD_NO_ADDENDS,
- * XMAS_ELF_LOAD_ADDENDS, XMAS_ELF_LOAD_NO_SLOTS, XMAS_ELF_LOAD_RELOCATION_SIZE, XMAS_ELF_LOAD_NOT_MULTIPLE,
- * XMAS_ELF_LOAD_UNREADABLE, XMAS_ELF_LOAD_FIRST_PACKED, XMAS_ELF_LOAD_SLOT_KIND, XMAS_ELF_LOAD_MACHINE,
- * XMAS_ELF_LOAD_RELATIVE_COUNT, XMAS_ELF_LOAD_SLOT_TYPE, XMAS_ELF_LOAD_FEW_MARKS, XMAS_ELF_LOAD_WORD_TYPE,
- * XMAS_ELF_LOAD_NO_SIZE, XMAS_ELF_LOAD_COPY_KIND, XMAS_ELF_LOAD_CALL_SYMBOL, XMAS_ELF_LOAD_WORD_ADDRESS,
- * XMAS_ELF_LOAD_READ_ONLY, XMAS_ELF_LOAD_WORDS_OVERLAP, XMAS_ELF_LOAD_WORD_IN_TABLE. */
+ * each file up to the one that has it, as `xmas_elf_find_symbol` does after its count, and each word a pass over
+ * program headers: in files made to be slow the time is relocations times what these take. Errors, in the order of
+ * the tests: those of the objects, those of a load plan, those of tables of relocations, XMAS_ELF_LOAD_FEW_MARKS,
+ * those of a relocation, XMAS_ELF_LOAD_WORD_ADDRESS, XMAS_ELF_LOAD_READ_ONLY, XMAS_ELF_LOAD_WORDS_OVERLAP,
+ * XMAS_ELF_LOAD_WORD_IN_TABLE. */
 XMAS_ELF_NODISCARD uint32_t xmas_elf_check_image(const xmas_elf_load_object_t *objects, size_t objects_count,
-    uint64_t of, uint64_t page, uint64_t limit, uint8_t *marks, size_t marks_size) XMAS_ELF_NOEXCEPT;
+    uint64_t of, uint64_t page, uint64_t limit, uint8_t *marks, size_t marks_size, uint64_t *failed)
+    XMAS_ELF_NOEXCEPT;
 
 /* Writes the words of the object at index `of` to `image`, which holds what `xmas_elf_load_image` writes. `page` and
  * `limit` are those of `xmas_elf_load_plan`, which each file must pass. `count` is the number of words without a
@@ -1393,26 +1404,20 @@ XMAS_ELF_NODISCARD uint32_t xmas_elf_check_image(const xmas_elf_load_object_t *o
  * when a function is called first, and any other number where they get them now. Relocate an object whose bytes are
  * copied (R_X86_64_COPY) before the one that they are copied to, and give it its image then; `image` shares no byte
  * with the images of objects. If `xmas_elf_check_image` is OK for the object, each byte is that of the one word over
- * it, else that of the file. If a call is not OK, the words before the first that can't be written are written. A
+ * it, else that of the file. If a call is not OK, the words before the first that can't be written are written, and
+ * `failed` is the index of the object with the error: that of the first file that can't be read or has no plan, else
+ * `of`. It is unchanged where none has it: with no object or none at `of` (XMAS_ELF_LINK_OBJECT_INDEX), with more
+ * than 64 (XMAS_ELF_MANY_OBJECTS), and where `image` is not of the size of the span (XMAS_ELF_LOAD_IMAGE_SIZE). A
  * call takes up to 64 objects; for more it returns XMAS_ELF_MANY_OBJECTS. It reads all files before it tests `of`, so
  * XMAS_ELF_LINK_OBJECT_INDEX comes before errors of the files only where there is no object. A relocation that names
- * a symbol takes a look-up in each file up to the one that has it. It needs about 200 KiB of stack. Errors, in the
- * order of the tests: XMAS_ELF_LINK_OBJECT_INDEX, XMAS_ELF_MANY_OBJECTS, XMAS_ELF_SHORT_PART_1, XMAS_ELF_NO_MAGIC,
- * XMAS_ELF_INVALID_CLASS, XMAS_ELF_SHORT_HEADERS, XMAS_ELF_LINK_NO_DYNAMIC, XMAS_ELF_LINK_ADDRESS,
- * XMAS_ELF_DATA_RANGE, XMAS_ELF_NOT_MULTIPLE, XMAS_ELF_LINK_NO_ENTRY, XMAS_ELF_SHORT_DATA, XMAS_ELF_LINK_SHORT_TABLE,
- * XMAS_ELF_LINK_BLOOM_COUNT, XMAS_ELF_LINK_CHAIN_INDEX, XMAS_ELF_LINK_CHAIN_DATA, XMAS_ELF_LINK_SYMBOL_INDEX,
- * XMAS_ELF_LINK_UNKNOWN_CLASS, XMAS_ELF_LINK_NOT_MULTIPLE, XMAS_ELF_LINK_RELOCATION_KIND, XMAS_ELF_SYMBOL_INDEX,
- * XMAS_ELF_HASH_DATA, XMAS_ELF_CHAIN_INDEX, XMAS_ELF_CHAIN_SUM, XMAS_ELF_HASH_CYCLE, XMAS_ELF_LINK_SHORT_VERSION,
- * XMAS_ELF_LINK_VERSION_COUNT, XMAS_ELF_TEXT_START, XMAS_ELF_TEXT_END, XMAS_ELF_TEXT_UTF_8, XMAS_ELF_LOAD_TYPE,
- * XMAS_ELF_LOAD_ENTRY_SIZE, XMAS_ELF_LOAD_COUNT, XMAS_ELF_LOAD_TABLE, XMAS_ELF_LOAD_FILE_SIZE, XMAS_ELF_LOAD_EMPTY,
- * XMAS_ELF_LOAD_MISALIGNED, XMAS_ELF_LOAD_ALIGNMENT, XMAS_ELF_LOAD_RANGE, XMAS_ELF_LOAD_DATA, XMAS_ELF_LOAD_OVERLAP,
- * XMAS_ELF_LOAD_ZEROS, XMAS_ELF_LOAD_NO_LOAD, XMAS_ELF_LOAD_HEADERS, XMAS_ELF_LOAD_INTERPRETER, XMAS_ELF_LOAD_RELRO,
- * XMAS_ELF_LOAD_TLS, XMAS_ELF_LOAD_ENTRY, XMAS_ELF_LOAD_IMAGE_SIZE, XMAS_ELF_LOAD_WORD_TYPE, XMAS_ELF_LOAD_NO_SIZE,
- * XMAS_ELF_LOAD_COPY_KIND, XMAS_ELF_LOAD_CALL_SYMBOL, XMAS_ELF_LOAD_UNRESOLVED, XMAS_ELF_LOAD_WORD_ADDRESS,
+ * a symbol takes a look-up in each file up to the one that has it, as `xmas_elf_find_symbol` does after its count,
+ * and each word a pass over program headers: in files made to be slow the time is relocations times what these take.
+ * It needs about 200 KiB of stack. Errors, in the order of the tests: those of the objects, those of a load plan,
+ * XMAS_ELF_LOAD_IMAGE_SIZE, those of a relocation, XMAS_ELF_LOAD_UNRESOLVED, XMAS_ELF_LOAD_WORD_ADDRESS,
  * XMAS_ELF_LOAD_COPY_SOURCE. */
 XMAS_ELF_NODISCARD uint32_t xmas_elf_relocate(const xmas_elf_load_object_t *objects, size_t objects_count,
-    uint64_t of, uint32_t lazy, uint64_t page, uint64_t limit, uint8_t *image, size_t image_size, uint64_t *count)
-    XMAS_ELF_NOEXCEPT;
+    uint64_t of, uint32_t lazy, uint64_t page, uint64_t limit, uint8_t *image, size_t image_size, uint64_t *count,
+    uint64_t *failed) XMAS_ELF_NOEXCEPT;
 
 /* Writes the words of all objects to their images, those of the last object first, as the dynamic linker does. Each
  * file is read once, so it takes less time than a call of `xmas_elf_relocate` for each object. `images` are what
@@ -1425,19 +1430,10 @@ XMAS_ELF_NODISCARD uint32_t xmas_elf_relocate(const xmas_elf_load_object_t *obje
  * (XMAS_ELF_MANY_OBJECTS), and where `images` is not of the size of all images (XMAS_ELF_LOAD_IMAGE_SIZE). Of errors
  * of words the last object with one counts: then the objects after it are relocated, and its words before the first
  * that can't be written are written. Otherwise `images` is unchanged. A relocation that names a symbol takes a
- * look-up in each file up to the one that has it. It needs about 200 KiB of stack. Errors, in the order of the tests:
- * XMAS_ELF_LINK_OBJECT_INDEX, XMAS_ELF_MANY_OBJECTS, XMAS_ELF_SHORT_PART_1, XMAS_ELF_NO_MAGIC,
- * XMAS_ELF_INVALID_CLASS, XMAS_ELF_SHORT_HEADERS, XMAS_ELF_LINK_NO_DYNAMIC, XMAS_ELF_LINK_ADDRESS,
- * XMAS_ELF_DATA_RANGE, XMAS_ELF_NOT_MULTIPLE, XMAS_ELF_LINK_NO_ENTRY, XMAS_ELF_SHORT_DATA, XMAS_ELF_LINK_SHORT_TABLE,
- * XMAS_ELF_LINK_BLOOM_COUNT, XMAS_ELF_LINK_CHAIN_INDEX, XMAS_ELF_LINK_CHAIN_DATA, XMAS_ELF_LINK_SYMBOL_INDEX,
- * XMAS_ELF_LINK_UNKNOWN_CLASS, XMAS_ELF_LINK_NOT_MULTIPLE, XMAS_ELF_LINK_RELOCATION_KIND, XMAS_ELF_SYMBOL_INDEX,
- * XMAS_ELF_HASH_DATA, XMAS_ELF_CHAIN_INDEX, XMAS_ELF_CHAIN_SUM, XMAS_ELF_HASH_CYCLE, XMAS_ELF_LINK_SHORT_VERSION,
- * XMAS_ELF_LINK_VERSION_COUNT, XMAS_ELF_TEXT_START, XMAS_ELF_TEXT_END, XMAS_ELF_TEXT_UTF_8, XMAS_ELF_LOAD_TYPE,
- * XMAS_ELF_LOAD_ENTRY_SIZE, XMAS_ELF_LOAD_COUNT, XMAS_ELF_LOAD_TABLE, XMAS_ELF_LOAD_FILE_SIZE, XMAS_ELF_LOAD_EMPTY,
- * XMAS_ELF_LOAD_MISALIGNED, XMAS_ELF_LOAD_ALIGNMENT, XMAS_ELF_LOAD_RANGE, XMAS_ELF_LOAD_DATA, XMAS_ELF_LOAD_OVERLAP,
- * XMAS_ELF_LOAD_ZEROS, XMAS_ELF_LOAD_NO_LOAD, XMAS_ELF_LOAD_HEADERS, XMAS_ELF_LOAD_INTERPRETER, XMAS_ELF_LOAD_RELRO,
- * XMAS_ELF_LOAD_TLS, XMAS_ELF_LOAD_ENTRY, XMAS_ELF_LOAD_IMAGE_SIZE, XMAS_ELF_LOAD_WORD_TYPE, XMAS_ELF_LOAD_NO_SIZE,
- * XMAS_ELF_LOAD_COPY_KIND, XMAS_ELF_LOAD_CALL_SYMBOL, XMAS_ELF_LOAD_UNRESOLVED, XMAS_ELF_LOAD_WORD_ADDRESS,
+ * look-up in each file up to the one that has it, as `xmas_elf_find_symbol` does after its count, and each word a
+ * pass over program headers: in files made to be slow the time is relocations times what these take. It needs about
+ * 200 KiB of stack. Errors, in the order of the tests: those of the objects, those of a load plan,
+ * XMAS_ELF_LOAD_IMAGE_SIZE, those of a relocation, XMAS_ELF_LOAD_UNRESOLVED, XMAS_ELF_LOAD_WORD_ADDRESS,
  * XMAS_ELF_LOAD_COPY_SOURCE. */
 XMAS_ELF_NODISCARD uint32_t xmas_elf_relocate_all(const xmas_elf_load_object_t *objects, size_t objects_count,
     uint32_t lazy, uint64_t page, uint64_t limit, uint8_t *images, size_t images_size, uint64_t *left,
@@ -1449,24 +1445,21 @@ size_t xmas_elf_message(uint32_t status, uint8_t *out, size_t out_size) XMAS_ELF
 
 /* The names of the libraries that a file asks for (DT_NEEDED, DT_AUXILIARY, DT_FILTER) from index `first` on, in the
  * order of their entries. `xmas_elf_expand` replaces their tokens. No section header is needed. Each call reads the
- * entries from the first on. Errors, in the order of the tests: XMAS_ELF_LINK_NO_DYNAMIC, XMAS_ELF_LINK_ADDRESS,
- * XMAS_ELF_DATA_RANGE, XMAS_ELF_NOT_MULTIPLE, XMAS_ELF_NO_RECORD. Errors of a record, in the order of the tests:
- * XMAS_ELF_LINK_NO_ENTRY, XMAS_ELF_LINK_ADDRESS, XMAS_ELF_DATA_RANGE, XMAS_ELF_TEXT_START, XMAS_ELF_TEXT_END,
- * XMAS_ELF_TEXT_UTF_8. */
+ * entries from the first on, so give room for all, and each name to its end: where entries share one long name, the
+ * time is their number times its size. Errors, in the order of the tests: those of the dynamic segment,
+ * XMAS_ELF_NO_RECORD. Errors of a record, in the order of the tests: those of a text of the dynamic segment. */
 XMAS_ELF_NODISCARD uint32_t xmas_elf_needed_names(const uint8_t *input, size_t input_size,
     const xmas_elf_header_t *header, uint64_t first, xmas_elf_needed_name_t *out, size_t out_count, uint64_t *count)
     XMAS_ELF_NOEXCEPT;
 
 /* The value of the last dynamic entry with a tag, which is the one that the loader of glibc reads of DT_SONAME (14),
  * DT_RPATH (15), DT_RUNPATH (29) and DT_FLAGS_1 (0x6ffffffb). No section header is needed. Errors, in the order of
- * the tests: XMAS_ELF_LINK_NO_DYNAMIC, XMAS_ELF_LINK_ADDRESS, XMAS_ELF_DATA_RANGE, XMAS_ELF_NOT_MULTIPLE,
- * XMAS_ELF_NOT_FOUND. */
+ * the tests: those of the dynamic segment, XMAS_ELF_NOT_FOUND. */
 XMAS_ELF_NODISCARD uint32_t xmas_elf_last_entry(const uint8_t *input, size_t input_size,
     const xmas_elf_header_t *header, uint64_t tag, uint64_t *out) XMAS_ELF_NOEXCEPT;
 
 /* The range of the text that the entry of `xmas_elf_last_entry` names. Errors, in the order of the tests:
- * XMAS_ELF_LINK_NO_DYNAMIC, XMAS_ELF_LINK_ADDRESS, XMAS_ELF_DATA_RANGE, XMAS_ELF_NOT_MULTIPLE, XMAS_ELF_NOT_FOUND,
- * XMAS_ELF_LINK_NO_ENTRY, XMAS_ELF_TEXT_START, XMAS_ELF_TEXT_END, XMAS_ELF_TEXT_UTF_8. */
+ * those of the dynamic segment, XMAS_ELF_NOT_FOUND, those of a text of the dynamic segment. */
 XMAS_ELF_NODISCARD uint32_t xmas_elf_last_text(const uint8_t *input, size_t input_size,
     const xmas_elf_header_t *header, uint64_t tag, xmas_elf_range_t *out) XMAS_ELF_NOEXCEPT;
 
@@ -1482,14 +1475,14 @@ XMAS_ELF_NODISCARD uint32_t xmas_elf_fits(const uint8_t *head, size_t head_size,
 
 /* Whether a file that `xmas_elf_fits` took has what a library must have, and is no executable. What a loader asks of
  * its segments is tested by `xmas_elf_check_load`. Errors, in the order of the tests: XMAS_ELF_SEARCH_NO_LOAD,
- * XMAS_ELF_SEARCH_EXECUTABLE, XMAS_ELF_SEARCH_NO_DYNAMIC, XMAS_ELF_LINK_NO_DYNAMIC, XMAS_ELF_LINK_ADDRESS,
- * XMAS_ELF_DATA_RANGE, XMAS_ELF_NOT_MULTIPLE, XMAS_ELF_SEARCH_SHARED_EXECUTABLE. */
+ * XMAS_ELF_SEARCH_EXECUTABLE, XMAS_ELF_SEARCH_NO_DYNAMIC, those of the dynamic segment,
+ * XMAS_ELF_SEARCH_SHARED_EXECUTABLE. */
 XMAS_ELF_NODISCARD uint32_t xmas_elf_check_library(const uint8_t *input, size_t input_size,
     const xmas_elf_header_t *header) XMAS_ELF_NOEXCEPT;
 
 /* Whether one loader maps a file. `loader` is 1 for glibc, which maps libraries; any other number for Linux, which
- * maps a program. `page` and `limit` are those of `xmas_elf_load_plan`, whose list is stricter than that of each
- * loader. Errors, in the order of the tests: XMAS_ELF_LOAD_BYTE_ORDER, XMAS_ELF_LOAD_IDENT_VERSION,
+ * maps a program. `page` and `limit` are those of `xmas_elf_load_plan`, whose list of errors is another: some files
+ * that load have no plan. Errors, in the order of the tests: XMAS_ELF_LOAD_BYTE_ORDER, XMAS_ELF_LOAD_IDENT_VERSION,
  * XMAS_ELF_LOAD_OS_ABI, XMAS_ELF_LOAD_ABI_VERSION, XMAS_ELF_LOAD_PADDING, XMAS_ELF_LOAD_VERSION, XMAS_ELF_LOAD_TYPE,
  * XMAS_ELF_LOAD_ENTRY_SIZE, XMAS_ELF_LOAD_COUNT, XMAS_ELF_LOAD_TABLE, XMAS_ELF_LOAD_MISALIGNED,
  * XMAS_ELF_LOAD_NO_LOAD, XMAS_ELF_LOAD_EXECUTABLE, XMAS_ELF_LOAD_RANGE, XMAS_ELF_LOAD_DATA, XMAS_ELF_LOAD_OVERLAP,
@@ -1500,8 +1493,9 @@ XMAS_ELF_NODISCARD uint32_t xmas_elf_check_load(const uint8_t *input, size_t inp
 
 /* The bytes of a text with its dynamic string tokens replaced by their values, from byte `first` on.
  * XMAS_ELF_SEARCH_EMPTY_TOKEN if a value is not known: an element of a list then drops out, and an object whose
- * needed name has it is not loaded. Errors, in the order of the tests: XMAS_ELF_SEARCH_EMPTY_TOKEN,
- * XMAS_ELF_NO_RECORD. */
+ * needed name has it is not loaded. Each call goes over the bytes from the first on, so give room for all: they may
+ * be as many as the tokens of the text times the size of a value. Errors, in the order of the tests:
+ * XMAS_ELF_SEARCH_EMPTY_TOKEN, XMAS_ELF_NO_RECORD. */
 XMAS_ELF_NODISCARD uint32_t xmas_elf_expand(const uint8_t *text, size_t text_size, const xmas_elf_tokens_t *tokens,
     uint64_t first, uint8_t *out, size_t out_size, uint64_t *count) XMAS_ELF_NOEXCEPT;
 
@@ -1525,9 +1519,11 @@ XMAS_ELF_NODISCARD uint32_t xmas_elf_candidate_paths(const xmas_elf_search_for_t
     uint64_t *count) XMAS_ELF_NOEXCEPT;
 
 /* The path that a machine gets for a name from the cache of these bytes (/etc/ld.so.cache), from its byte `first` on.
- * Any bytes may be given. The loader of glibc goes on without a cache where it can't be read. Errors, in the order of
- * the tests: XMAS_ELF_SEARCH_NOT_A_CACHE, XMAS_ELF_SEARCH_CACHE_COUNT, XMAS_ELF_SEARCH_CACHE_ORDER,
- * XMAS_ELF_NOT_FOUND, XMAS_ELF_NO_RECORD. */
+ * Any bytes may be given. The loader of glibc goes on without a cache where it can't be read. Each call searches
+ * anew, so give room for the whole path. It compares `name` with the keys of a binary search and of the entries
+ * around it with an equal key, and reads a key of zeros to its end: in a cache made to be slow the time is entries
+ * times the size of a key. Errors, in the order of the tests: XMAS_ELF_SEARCH_NOT_A_CACHE,
+ * XMAS_ELF_SEARCH_CACHE_COUNT, XMAS_ELF_SEARCH_CACHE_ORDER, XMAS_ELF_NOT_FOUND, XMAS_ELF_NO_RECORD. */
 XMAS_ELF_NODISCARD uint32_t xmas_elf_cache_path(const uint8_t *cache, size_t cache_size, const uint8_t *name,
     size_t name_size, const xmas_elf_cache_machine_t *machine, uint64_t first, uint8_t *out, size_t out_size,
     uint64_t *count) XMAS_ELF_NOEXCEPT;
@@ -1537,8 +1533,8 @@ XMAS_ELF_NODISCARD uint32_t xmas_elf_cache_path(const uint8_t *cache, size_t cac
  * next number, and is put at the end of `dependencies`. Without entries of kinds 2 and 3 it is the first of the first
  * object that was not asked for, so the entries of an object can be asked for one after another; `words` and `edges`
  * are not used then, and else have 4 words for each object and one for each entry. XMAS_ELF_NO_RECORD if all were
- * asked for. Each call goes through all entries. Errors, in the order of the tests: XMAS_ELF_NO_RECORD,
- * XMAS_ELF_SEARCH_NO_OBJECT, XMAS_ELF_SEARCH_FEW_WORDS. */
+ * asked for. Each call goes through all entries, so a call for each of them takes time by the square of their number.
+ * Errors, in the order of the tests: XMAS_ELF_NO_RECORD, XMAS_ELF_SEARCH_NO_OBJECT, XMAS_ELF_SEARCH_FEW_WORDS. */
 XMAS_ELF_NODISCARD uint32_t xmas_elf_next_entry(const xmas_elf_dependencies_t *dependencies,
     size_t dependencies_count, uint32_t *words, size_t words_count, uint32_t *edges, size_t edges_count,
     xmas_elf_object_entry_t *out) XMAS_ELF_NOEXCEPT;
@@ -1557,11 +1553,10 @@ XMAS_ELF_NODISCARD uint32_t xmas_elf_start_order(const xmas_elf_dependencies_t *
 /* The versions that a file needs of the object that its needs call `name`, and that this object lacks, from index
  * `first` on, in the order of the needs. `provider` are the bytes of the object, and `provider_header` is its header.
  * A need of another name has the status XMAS_ELF_SEARCH_NO_PROVIDER. Each call reads the needs from the first on, and
- * goes through the definitions of the object for each. Errors, in the order of the tests: XMAS_ELF_LINK_NO_DYNAMIC,
- * XMAS_ELF_LINK_ADDRESS, XMAS_ELF_DATA_RANGE, XMAS_ELF_NOT_MULTIPLE, XMAS_ELF_NO_RECORD. Errors of a record, in the
- * order of the tests: XMAS_ELF_SEARCH_NO_PROVIDER, XMAS_ELF_LINK_SHORT_VERSION, XMAS_ELF_LINK_VERSION_COUNT,
- * XMAS_ELF_LINK_NO_ENTRY, XMAS_ELF_LINK_ADDRESS, XMAS_ELF_DATA_RANGE, XMAS_ELF_TEXT_START, XMAS_ELF_TEXT_END,
- * XMAS_ELF_TEXT_UTF_8. */
+ * goes through the definitions of the object for each: the time is needs times definitions. It reads the names of
+ * definitions with an equal hash number, and those of needs, to their end. Errors, in the order of the tests:
+ * those of the dynamic segment, XMAS_ELF_NO_RECORD. Errors of a record, in the order of the tests:
+ * XMAS_ELF_SEARCH_NO_PROVIDER, those of a version. */
 XMAS_ELF_NODISCARD uint32_t xmas_elf_missing_versions(const uint8_t *input, size_t input_size,
     const xmas_elf_header_t *header, const uint8_t *name, size_t name_size, const uint8_t *provider,
     size_t provider_size, const xmas_elf_header_t *provider_header, uint64_t first, xmas_elf_lacked_version_t *out,
@@ -1584,6 +1579,13 @@ static inline xmas_elf_status_text_t xmas_elf_status_text(uint32_t status) XMAS_
 #endif
     for (; size <= XMAS_ELF_LONGEST_MESSAGE; size++) text.text[size] = 0;
     return text;
+}
+
+/* Whether a status of `xmas_elf_symbols_open`, `xmas_elf_relocations`, `xmas_elf_packed_relocations` or `xmas_elf_dynamics` says
+ * that the section has other data, by its type. Any other error means damage. */
+static inline int xmas_elf_is_other_data(uint32_t status) XMAS_ELF_NOEXCEPT
+{
+    return status == XMAS_ELF_OTHER_DATA || status == XMAS_ELF_INVALID_SH_TYPE || status == XMAS_ELF_NOTE_32;
 }
 
 #ifdef __cplusplus

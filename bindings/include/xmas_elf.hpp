@@ -42,13 +42,14 @@ public:
 
     auto sections() const;
     auto segments() const;
-    /// The first section with a name.
+    /// The first section with a name. Throws if there is none, and sections or their names can't be read.
     std::optional<section> find_section(std::string_view name) const;
     /// The symbols of the dynamic segment, which needs no sections, with their versions.
     auto dynamic_symbols() const;
 
     /// The symbol that `dlsym` gets by a name, or `dlvsym` by a name and a version; none without a dynamic segment. Of several
-    /// with the name it is the first without a version (of number 0 or 1), and else that of the default version.
+    /// with the name it is the first without a version (of number 0 or 1), and else that of the default version. Each call counts
+    /// the symbols anew; with a version a file made to be slow takes time by its symbols times its versions.
     std::optional<symbol> find_symbol(std::string_view name, std::string_view wanted = {}) const
     {
         xmas_elf_found_symbol_t found{};
@@ -124,7 +125,7 @@ public:
     /// segments of type PT_NOTE.
     std::optional<bytes_view> build_id() const;
 
-    /// The bytes of the file for addresses: those of the first loaded segment that has them all.
+    /// The bytes of the file for addresses: those of the last segment of type PT_LOAD that has them all.
     bytes_view bytes_at(std::uint64_t address, std::uint64_t count) const
     {
         xmas_elf_range_t range{};
@@ -241,7 +242,7 @@ class section {
             std::uint64_t count = 0;
             out.resize(512);
             const std::uint32_t status = owner->call(function, index, first, out.data(), out.size(), &count);
-            if (status != XMAS_ELF_NO_RECORD) check(status);
+            if (status != XMAS_ELF_NO_RECORD && !xmas_elf_is_other_data(status)) check(status);
             out.resize(static_cast<std::size_t>(count));
         };
         return items<Record, decltype(fill)>(fill);
@@ -270,13 +271,14 @@ public:
         xmas_elf_symbol_table_t table{};
         const std::uint32_t status = file_->call(xmas_elf_symbols_open, index_, &table);
         const auto fill = [owner = file_, table, status](std::uint64_t first, std::vector<symbol> &out) {
-            if (status == XMAS_ELF_OTHER_DATA || status == XMAS_ELF_INVALID_SH_TYPE) return;
+            if (xmas_elf_is_other_data(status)) return;
             check(status);
             owner->add_symbols(table, first, out);
         };
         return items<symbol, decltype(fill)>(fill);
     }
-    /// The relocations; the addresses in a section of type SHT_RELR; the dynamic entries. Each throws for other sections.
+    /// The relocations; the addresses in a section of type SHT_RELR; the dynamic entries. None if the section has other data, by its
+    /// type. Throws where the table is damaged.
     auto relocations() const { return records<xmas_elf_relocation_t>(xmas_elf_relocations); }
     auto packed_relocations() const { return records<std::uint64_t>(xmas_elf_packed_relocations); }
     auto dynamic() const { return records<xmas_elf_dynamic_t>(xmas_elf_dynamics); }
@@ -368,8 +370,13 @@ inline auto file::segments() const
 
 inline std::optional<section> file::find_section(std::string_view name) const
 {
-    for (const section &one : sections())
+    bool has_sections = false;
+    for (const section &one : sections()) {
         if (one.name() == name) return one;
+        has_sections = true;
+    }
+    xmas_elf_range_t names{};
+    if (has_sections) check(call(xmas_elf_names, &names));
     return std::nullopt;
 }
 

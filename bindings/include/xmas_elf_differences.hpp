@@ -115,8 +115,9 @@ inline std::vector<size_part> size_parts(const file &of, bool with_symbols = fal
     return parts;
 }
 
-/// The parts of two files whose sizes differ, the greatest difference first: what `elfsize --diff` prints. The differences sum to
-/// the difference of the sizes of the files.
+/// The parts of two files whose sizes differ, the greatest difference first: what `elfsize --diff` prints, with symbols what it prints
+/// with `--symbols`. A file whose section headers can't all be read has no sections and no symbols there. The differences sum to the
+/// difference of the sizes of the files.
 inline std::vector<size_change> size_diff(const file &old_file, const file &new_file, bool with_symbols = false)
 {
     std::vector<size_change> changes = size_changes(size_parts(old_file, with_symbols), size_parts(new_file, with_symbols));
@@ -134,7 +135,8 @@ struct debug_candidate {
     std::string path{};
 };
 
-/// The paths at which the debug file of the file at `path` may be, in the order in which gdb tries them.
+/// The paths at which the debug file of the file at `path` may be, in the order in which gdb tries them. A build id or a link that can't
+/// be read gives no path: `build_id`, `sections` and `data` of a section throw.
 inline std::vector<debug_candidate> debug_paths(const file &of, std::string_view path, std::string_view directory = "/usr/lib/debug")
 {
     const auto raw = [](std::string_view text) { return reinterpret_cast<const std::uint8_t *>(text.data()); };

@@ -233,7 +233,7 @@ private:
 /// Whose way of mapping: that of Linux, which maps programs, or of glibc, which maps libraries.
 enum class loader : std::uint32_t { linux_kernel = 0, glibc = 1 };
 
-/// What Linux and glibc put into memory for a file; throws if they don't load it. 0 means pages of 4096 bytes, and for the
+/// What Linux and glibc put into memory for a file; throws if it has no plan. 0 means pages of 4096 bytes, and for the
 /// end of the addresses of Linux.
 inline xmas_elf_load_plan_t load_plan(const file &of, std::uint64_t page = 0, std::uint64_t limit = 0)
 {
@@ -274,24 +274,6 @@ inline xmas_elf_load_object_t load_object(const file &of, std::uint64_t base)
     return object;
 }
 
-/// Throws if the words of the object at index `of` can't be written before the program runs; `size` is that of its image.
-inline void check_image(const std::vector<xmas_elf_load_object_t> &objects, std::size_t of, std::size_t size,
-                        std::uint64_t page = 0, std::uint64_t limit = 0)
-{
-    std::vector<std::uint8_t> marks(size / 8 + 1);
-    check(xmas_elf_check_image(objects.data(), objects.size(), of, page, limit, marks.data(), marks.size()));
-}
-
-/// Writes the words of the object at index `of` to its image, which `load_image` gave, and returns how many have no number: what
-/// functions return, and descriptors of thread-local storage.
-inline std::uint64_t relocate(const std::vector<xmas_elf_load_object_t> &objects, std::size_t of, std::vector<std::uint8_t> &image,
-                              bool lazy = false, std::uint64_t page = 0, std::uint64_t limit = 0)
-{
-    std::uint64_t count = 0;
-    check(xmas_elf_relocate(objects.data(), objects.size(), of, lazy ? 1 : 0, page, limit, image.data(), image.size(), &count));
-    return count;
-}
-
 /// What can't be read or written of one of several objects.
 class object_error : public error {
 public:
@@ -303,6 +285,35 @@ private:
     std::optional<std::size_t> of_;
 };
 
+/// Throws an `object_error` if a status is one, with the index that the call told, if it told that of an object.
+inline void check_objects(std::uint32_t status, std::uint64_t failed, std::size_t count)
+{
+    if (status == XMAS_ELF_OK) return;
+    throw object_error(status, failed < count ? std::optional<std::size_t>(static_cast<std::size_t>(failed)) : std::nullopt);
+}
+
+/// Throws an `object_error` if the words of the object at index `of` can't be written before the program runs; `size` is that of its
+/// image.
+inline void check_image(const std::vector<xmas_elf_load_object_t> &objects, std::size_t of, std::size_t size,
+                        std::uint64_t page = 0, std::uint64_t limit = 0)
+{
+    std::vector<std::uint8_t> marks(size / 8 + 1);
+    std::uint64_t failed = objects.size();
+    const std::uint32_t status = xmas_elf_check_image(objects.data(), objects.size(), of, page, limit, marks.data(), marks.size(), &failed);
+    check_objects(status, failed, objects.size());
+}
+
+/// Writes the words of the object at index `of` to its image, which `load_image` gave, and returns how many have no number: what
+/// functions return, and descriptors of thread-local storage. Throws an `object_error`.
+inline std::uint64_t relocate(const std::vector<xmas_elf_load_object_t> &objects, std::size_t of, std::vector<std::uint8_t> &image,
+                              bool lazy = false, std::uint64_t page = 0, std::uint64_t limit = 0)
+{
+    std::uint64_t count = 0, failed = objects.size();
+    const std::uint32_t status = xmas_elf_relocate(objects.data(), objects.size(), of, lazy ? 1 : 0, page, limit, image.data(), image.size(), &count, &failed);
+    check_objects(status, failed, objects.size());
+    return count;
+}
+
 /// Writes the words of all objects to their images, those of the last object first, and returns how many have no number. Each file is
 /// read once. `images` are those that `load_image` gave, one after another in the order of the objects. Throws an `object_error`.
 inline std::uint64_t relocate_all(const std::vector<xmas_elf_load_object_t> &objects, std::vector<std::uint8_t> &images,
@@ -310,8 +321,8 @@ inline std::uint64_t relocate_all(const std::vector<xmas_elf_load_object_t> &obj
 {
     std::uint64_t left = 0, failed = objects.size();
     const std::uint32_t status = xmas_elf_relocate_all(objects.data(), objects.size(), lazy ? 1 : 0, page, limit, images.data(), images.size(), &left, &failed);
-    if (status == XMAS_ELF_OK) return left;
-    throw object_error(status, failed < objects.size() ? std::optional<std::size_t>(static_cast<std::size_t>(failed)) : std::nullopt);
+    check_objects(status, failed, objects.size());
+    return left;
 }
 
 } // namespace xmas_elf

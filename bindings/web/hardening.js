@@ -1,4 +1,4 @@
-// What makes a file harder to attack.
+// What makes a file harder to attack, and what its dynamic entries say of its kind.
 import * as names from "./names.js";
 
 const BIND_NOW = 24n;
@@ -25,8 +25,18 @@ export function isPie(file) {
   return Boolean(dynamicOf(file)?.isProgram);
 }
 
+/**
+ * The loader of the file's kind: glibc of a shared library, which is of type ET_DYN with dynamic entries, none of which marks a
+ * program, also if it has an interpreter, as libc.so.6; and Linux of any other file.
+ */
+export function loaderOf(file) {
+  const { header, segments, dynamicValues } = file;
+  const isDynamic = dynamicValues !== null || segments.some((it) => it.header.type === names.PT_DYNAMIC);
+  return header.type === names.ET_DYN && isDynamic && !isPie(file) ? names.GLIBC : names.LINUX;
+}
+
 // Whether pages are only readable after relocation, whether the stack isn't executable, and whether memory is writable and executable:
-// by the plan of the load, or by the program headers of a file that isn't loaded.
+// by the plan of the load, or by the program headers of a file without a plan.
 function protectionOf({ load: { plan, mappings }, segments }) {
   const isBoth = ({ flags }) => Boolean(flags & names.EXECUTE && flags & names.WRITE);
   if (plan) {

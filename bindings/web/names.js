@@ -159,6 +159,9 @@ export const ET_REL = 1;
 export const ET_CORE = 4;
 /** The kind of shared objects, and of programs at any address. */
 export const ET_DYN = 3;
+/** The loaders, by the numbers by which the reader's calls take them. */
+export const LINUX = 0;
+export const GLIBC = 1;
 /** The types of segments that hold only sections that are loaded. */
 export const LOADED_SEGMENTS = [PT_LOAD, PT_DYNAMIC, 0x6474e550, 0x6474e551, PT_RELRO, 0x6474e554];
 

@@ -1,6 +1,7 @@
 // Opens a file: asks the worker for all that the panels show, step by step, so that what is there is shown even where
 // the work is stopped or a part can't be read.
 import * as names from "./names.js";
+import { loaderOf } from "./hardening.js";
 import { partsOf } from "./parts.js";
 
 // For each type of section the export that returns its records, and the table of tables that it belongs to.
@@ -37,13 +38,13 @@ export async function survey(client, source) {
   file.sections = file.sectionsEnd.sections;
   file.segmentsEnd = await client.ask("segments");
   file.segments = file.segmentsEnd.segments;
-  file.load = await client.ask("plan");
   await findTables(client, file);
   file.added.push(...noteSegments(file).filter(({ part }) => part).map(({ place, part, align }, at) => noteSection(place, part, align, at)));
   Object.assign(file, partsOf(file, await client.ask("pieces")));
   await findNotes(client, file);
   file.buildId = await buildIdIn(client, file.notes) ?? await buildIdIn(client, await segmentNotes(client, file));
   await findFacts(client, file);
+  file.load = await client.ask("loading", { loader: loaderOf(file), isBigEndian: file.header.encoding === 2 });
   file.features = await featuresIn(client, file);
   file.protections = await client.ask("protections", { tables: symbolTablesOf(file) });
   file.versions = hasDynamic(file) ? await client.ask("versions") : { listed: [], fault: null, ofSymbols: false };

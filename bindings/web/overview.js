@@ -51,19 +51,36 @@ function glance(file) {
   const noId = file.notesFaults.length ? faultNode(file.notesFaults[0].fault) : "none";
   const rows = hardeningOf(file);
   const hardened = rows.map(({ name, said, sort, means }) => element("div", { title: means }, element("dt", {}, name), element("dd", { class: sort }, said)));
-  const meanings = rows.map(({ name, means }) => [name, means]);
+  const meanings = rows.length ? [["Loads", LOADERS[file.load.loader].means], ...rows.map(({ name, means }) => [name, means])] : [];
   return element("section", { class: "card wide first", "aria-label": "At a glance" },
     hardened.length ? element("dl", { class: "hardened" }, hardened) : null,
-    facts([["Loads", loadsNode(file)], ["Libraries needed", needed.length ? list : noLibraries], ...others,
+    facts([["Loads", loadsNode(file)], ...withoutPlan(file), ["Libraries needed", needed.length ? list : noLibraries], ...others,
       ["Build id", file.buildId ? element("code", { class: "id" }, hexBytes(file.buildId)) : noId]]),
     meanings.length ? element("details", { class: "meanings" }, element("summary", {}, "What these words mean"), facts(meanings)) : null);
 }
 
-// Whether Linux and glibc load the file. Object files and core files are no files to load.
-function loadsNode({ header: { type }, load: { fault } }) {
-  if (!fault) return element("span", { class: "fine" }, "yes");
+// Which loader is asked, by the kind of the file, and what about.
+const LOADERS = {
+  [names.LINUX]: { title: "By Linux, which starts programs",
+    means: "Whether Linux starts the file as a program, by its headers. Libraries and symbols aren't looked for." },
+  [names.GLIBC]: { title: "By glibc, which loads shared libraries",
+    means: "Whether glibc loads the file as a shared library, by its headers. Libraries and symbols aren't looked for." },
+};
+
+// Whether the loader of its kind maps the file. Object files and core files are no files to load.
+function loadsNode({ header: { type }, load: { fault, loader } }) {
   const isOther = type === names.ET_REL || type === names.ET_CORE;
-  return element("span", { class: isOther ? "hint" : "bad" }, `no: ${fault.message}`);
+  const sort = fault ? (isOther ? "hint" : "bad") : "fine";
+  return element("span", { class: sort, title: isOther ? null : LOADERS[loader].title }, fault ? `no: ${fault.message}` : "yes");
+}
+
+const PAGES = "Pages in memory";
+
+// What isn't known of a file that is loaded, but has no plan.
+function withoutPlan({ load: { fault, planFault } }) {
+  if (fault || !planFault) return [];
+  return [[PAGES, [element("span", { class: "weak" }, `not known: ${planFault.message}`),
+    element("p", { class: "hint" }, "RELRO, NX and W+X are read from the program headers.")]]];
 }
 
 // What the checks of all sections or segments say.
@@ -99,6 +116,7 @@ function faultList(file) {
       .map(({ section, fault }) => fault && [`Records of ${sectionWords(section)}`, fault]),
     [file.namedFault && ["Entries of the dynamic segment", file.namedFault]],
     [file.versions.fault && ["Versions", file.versions.fault]],
+    [!file.load.fault && file.load.planFault && [PAGES, file.load.planFault]],
     file.notesFaults.map(({ place, fault }) => [`Notes of ${escaped(place)}`, fault]),
   ];
   return lists.flat().filter(Boolean);

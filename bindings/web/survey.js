@@ -49,7 +49,9 @@ export async function sectionsOf(reader, turns) {
     await work.turn(sections.length);
   }
   work.end();
-  const isCut = !work.stopped && BigInt(sections.length) < total;
+  // A number of sections that needs more than 16 bits is in the header of section 0, which may be missing.
+  const isLost = total === 0n && reader.open().record.sh_offset !== 0n;
+  const isCut = !work.stopped && (isLost || BigInt(sections.length) < total);
   const ended = isCut ? faultOf(reader, reader.call("section", { index: sections.length })) : null;
   return { sections, total, ended, stopped: work.stopped };
 }
@@ -85,12 +87,18 @@ function segmentOf(reader, header, index) {
     check: faultOf(reader, reader.call("check_segment", { index })) };
 }
 
-/** What Linux puts into memory for the file, and what it maps; or why it doesn't load it. */
-export function planOf(reader) {
-  const given = { page: 0, limit: 0 };
+/**
+ * What a loader puts into memory for the file, and what it maps: or `planFault`, why there is no plan. `fault` is why the loader
+ * doesn't map the file: some files that are loaded have no plan.
+ */
+export function loadOf(reader, { loader, isBigEndian }) {
+  const given = { page: 0, limit: 0, loader };
   const { status, record: plan } = reader.one("load_plan", given);
-  if (!plan) return { plan: null, mappings: [], fault: faultOf(reader, status) };
-  return { plan, mappings: reader.many("load_mappings", { ...given, loader: 0, first: 0 }).records, fault: null };
+  const own = reader.call("check_load", given);
+  // The check of a library is that of glibc on little-endian machines: a big-endian one must have a plan.
+  const fault = faultOf(reader, own === STATUS.LOAD_BYTE_ORDER && isBigEndian ? status : own);
+  if (!plan) return { loader, fault, plan: null, mappings: [], planFault: faultOf(reader, status) };
+  return { loader, fault, plan, mappings: reader.many("load_mappings", { ...given, first: 0 }).records, planFault: null };
 }
 
 /** The notes of a range, by the alignment of its section or segment. */

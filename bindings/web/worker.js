@@ -11,7 +11,7 @@ import { symbolAt, symbolNames, symbolPieces } from "./symbols_at.js";
 import { segmentTables } from "./segment_tables.js";
 import { Turns } from "./turns.js";
 import { versionsOf } from "./versions_of.js";
-import { headerOf, notesOf, planOf, sectionsOf, segmentsOf, textAt } from "./survey.js";
+import { headerOf, loadOf, notesOf, sectionsOf, segmentsOf, textAt } from "./survey.js";
 
 const PIECE = 4 * 1024 * 1024;
 
@@ -58,7 +58,7 @@ const calls = {
   header: () => headerOf(reader),
   sections: () => sectionsOf(reader, turns),
   segments: () => segmentsOf(reader, turns),
-  plan: () => planOf(reader),
+  loading: (given) => loadOf(reader, given),
   notes: (given) => notesOf(reader, turns, given),
   count: (given) => count(reader, given),
   symbols: (given) => symbolRows(reader, given),

@@ -3,10 +3,11 @@
 
     bindings/c/tests/tasks.py FOLDER [--files N]
 
-FOLDER has the programs, as tools/exports/bindings.sh builds them; N files of the system are compared, 300 where no number is given:
-which symbols a file has (readelf), which names a backtrace has (addr2line), how large functions are (nm), and how files are hardened
-(checksec, if it is installed). Of fifty copies of a program of which parts are missing each program ends with a message and a status, or
-prints all that it prints of the whole.
+FOLDER has the programs, as tools/exports/bindings.sh builds them; N files of the system are compared, 300 where no number is given, and
+a library of class 32 with a build id: which symbols a file has (readelf), which names a backtrace has (addr2line), how large functions
+are (nm), and how files are hardened (checksec, if it is installed). Of fifty copies of a program, and of that library, of which parts
+are missing each program ends with a message and a status, or prints all that it prints of the whole. Sizes are those of the copy: they
+sum to its size.
 """
 import argparse
 import collections
@@ -25,17 +26,30 @@ import damage
 from comparing import Tally, addr2line, is_other_name, nm, run, spread
 
 LARGEST, MOST = 400_000, 50
-LIBC = "/lib/x86_64-linux-gnu/libc.so.6"
-SOURCE = '#include <stdio.h>\nint one, two, *both[] = {&one, &two}; int main(void) { return puts("") + *both[one]; }\n'
+LIBC, LINKER = "/lib/x86_64-linux-gnu/libc.so.6", "/lib64/ld-linux-x86-64.so.2"
+SOURCE = """__attribute__((weak)) int puts(const char *);
+int one, two, *both[] = {&one, &two};
+__attribute__((visibility("hidden"))) int main(void) { return puts("") + *both[one]; }
+"""
+# How gcc links the two files of which parts are missing: a program, and a library of class 32.
+KINDS = {"program": (), "library": ("-m32", "-shared", "-fPIC", "-nostdlib")}
+EXAMPLES = "target/release/examples"
 # Programs of one task in several languages, in the folder.
-SYMBOLS = ("nm_c", "nm_g++", "target/release/examples/nm")
-ADDRESSES = ("addresses_c", "memory", "target/release/examples/addresses")
-# Each program that reads a file, on its standard input too, and what it is asked besides; `+` is an address in the middle of `main`.
-ASKED = {
-    **{it: () for it in (*SYMBOLS, "symbols_c", "symbols_cpp", "names_c", "names_cpp", "dynamic_c")},
-    **{it: ("+",) for it in ADDRESSES},
-    **{it: ("main", "puts") for it in ("find_c", "target/release/examples/find", "dump", "target/release/examples/dump")},
-}
+SYMBOLS = ("nm_c", "nm_g++", f"{EXAMPLES}/nm")
+ADDRESSES = ("addresses_c", "memory", f"{EXAMPLES}/addresses")
+SIZES = ("sizes_c", "sizes", f"{EXAMPLES}/sizes")
+DIFFERENCES = ("differences", f"{EXAMPLES}/differences")
+# Each program that reads a file, and what it is asked. FILE is the path of the file, which is on the standard input too, WHOLE that of
+# the file with all its parts, and MIDDLE an address in the middle of `main`.
+ASKED = (
+    *((it, ("FILE",)) for it in (*SYMBOLS, *SIZES, "symbols_c", "symbols_cpp", "symbols_rs", "names_c", "names_cpp", "names_rs", "dynamic_c")),
+    *((it, ("FILE", "MIDDLE")) for it in ADDRESSES),
+    *((it, ("FILE", "main", "puts")) for it in ("find_c", f"{EXAMPLES}/find", "dump", f"{EXAMPLES}/dump")),
+    *((it, (*option, "WHOLE", "FILE")) for it in DIFFERENCES for option in ((), ("--symbols",))),
+    (f"{EXAMPLES}/hardening", (LIBC, "FILE")),
+)
+# Those that look for the libraries of a program.
+OF_PROGRAMS = (("search", ("FILE",)), ("loads_c", ("FILE", LIBC, LINKER)))
 
 
 def readelf_symbols(path):
@@ -74,14 +88,23 @@ def compare_names(folder, path, tally):
             tally["addresses"] += 1
 
 
+def split_sizes(output):
+    """The lines of the pieces of a file, and those of its symbols."""
+    lines = output.splitlines()
+    pieces = [it for it in lines if re.fullmatch(r"\d+ [a-zE][A-Za-z ]+ \d+", it)]
+    return pieces, lines[len(pieces) :]
+
+
 def compare_sizes(folder, path, tally):
     """The pieces sum to the size of the file; a function that shares no address with another symbol is as large as nm says."""
-    lines = tally.output(path, f"{folder}/sizes", path).splitlines()
-    pieces = [it for it in lines if re.fullmatch(r"\d+ [a-zE][A-Za-z ]+ \d+", it)]
+    shown = [tally.output(path, f"{folder}/{it}", path) for it in SIZES]
+    for program, other in zip(SIZES[1:], shown[1:]):
+        if other != shown[0]:
+            tally.differ(path, "sizes", f"{program} something else", "that of the program in C")
+    pieces, symbols = split_sizes(shown[0])
     total = sum(int(it.split()[0]) for it in pieces)
     if total != path.stat().st_size:
         tally.fault(f"{path}: pieces of {total} bytes, the file has {path.stat().st_size}")
-    found = collections.Counter(it for it in lines if it not in pieces)
     rows = sorted((value, size, name) for value, size, letter, name in nm(path) if letter in "tT" and size)
     alone = [it for it, before, after in zip(rows[1:-1], rows, rows[2:]) if before[0] + before[1] <= it[0] and it[0] + it[1] <= after[0]]
     sections = run(["readelf", "-SW", "--", path]).output
@@ -91,7 +114,7 @@ def compare_sizes(folder, path, tally):
     for value, own, name in alone if start else ():
         if start <= value and value + own <= start + size:
             tally["functions"] += 1
-            if f"{own} {name.partition('@')[0]}" not in {it.partition("@")[0] for it in found}:
+            if f"{own} {name.partition('@')[0]}" not in {it.partition("@")[0] for it in symbols}:
                 tally.fault(f"{path}: no function {name} of {own} bytes")
 
 
@@ -104,7 +127,7 @@ def as_text(value):
 def compare_hardening(folder, path, tally):
     from hardening import checksec, wanted
 
-    names, line = tally.output(path, f"{folder}/target/release/examples/hardening", LIBC, path).splitlines()[:2]
+    names, line = tally.output(path, f"{folder}/{EXAMPLES}/hardening", LIBC, path).splitlines()[:2]
     ours = dict(zip(names.split(","), line.split(",", names.count(","))))
     for name, value in wanted(str(path), checksec(str(path))).items():
         own = "yes" if name in ("rpath", "runpath") and ours[name] else ours[name] or "no"
@@ -124,38 +147,98 @@ def compare(folder, path):
     return tally
 
 
-def compare_damaged(folder, room, tally):
+def linked(room, kind):
+    """A file of a kind, with packed relocations and a build id."""
     (room / "a.c").write_text(SOURCE)
-    done = run(["gcc", str(room / "a.c"), "-o", str(room / "whole"), "-Wl,-z,pack-relative-relocs,--build-id"])
-    main = next(value + size // 2 for value, size, _, name in nm(str(room / "whole")) if name == "main")
-    data = (room / "whole").read_bytes()
-    paths = []
-    for index, it in enumerate(damage.missing(data, 1)):
-        paths.append(room / str(index))
-        paths[-1].write_bytes(it)
-    for program, words in ASKED.items():
-        # Sections are printed with the sizes of their headers, whatever these are.
-        shown = lambda done: done._replace(output="".join(it for it in done.output.splitlines(True) if not it.startswith("section ")))
-        call = lambda path: shown(run([f"{folder}/{program}", str(path), *(f"{main:x}" if it == "+" else it for it in words)], given=path.read_bytes()))
-        whole, errors = call(room / "whole"), 0
-        for path in paths:
-            done = call(path)
+    words = ("-O0", "-Wl,-z,pack-relative-relocs,--build-id", *KINDS[kind])
+    done = run(["gcc", str(room / "a.c"), "-o", str(room / kind), *words])
+    if done.status != 0:
+        sys.exit(f"gcc makes no {kind}: {done.errors}")
+    return room / kind
+
+
+def is_all(program, whole, done, path, size):
+    """Whether a program has printed all of a file. Sizes are those of the file itself, of which parts of the other file are missing."""
+    if program in DIFFERENCES:
+        return sum(int(it.split()[0]) for it in done.output.splitlines()) == path.stat().st_size - size
+    if program in SIZES:
+        (pieces, symbols), (_, wanted) = split_sizes(done.output), split_sizes(whole.output)
+        return symbols == wanted and sum(int(it.split()[0]) for it in pieces) == path.stat().st_size
+    # Sections are printed with the sizes of their headers, whatever these are.
+    printed = lambda it: [line for line in it.output.splitlines() if not line.startswith("section ")]
+    return printed(done) == printed(whole) and done.errors == whole.errors
+
+
+def compare_damaged(folder, path, asked, tally):
+    main = next(value + size // 2 for value, size, _, name in nm(str(path)) if name == "main")
+    names = {"WHOLE": str(path), "MIDDLE": f"{main:x}"}
+    copies = [path.with_name(f"{path.name}-{index}") for index in range(50)]
+    for copy, data in zip(copies, damage.missing(path.read_bytes(), 1)):
+        copy.write_bytes(data)
+
+    def ended(program, words, file):
+        done = run([f"{folder}/{program}", *({**names, "FILE": str(file)}.get(it, it) for it in words)], given=file.read_bytes())
+        return done._replace(output=done.output.replace(str(file), "FILE"))
+
+    for program, words in asked:
+        whole, errors = ended(program, words, path), 0
+        for copy in copies:
+            done = ended(program, words, copy)
             tally["damaged files"] += 1
-            errors += done.status != 0
-            if done.status not in (0, 1) or (done.status == 1 and not done.errors) or (done.status == 0 and (done.output, done.errors) != whole[1:]):
-                tally.fault(f"{program} {path.name}: status {done.status}, {done.errors.strip() or 'no message'}, {len(done.output)} bytes for {len(whole.output)}")
-        if whole.status != 0 or not errors:
-            tally.fault(f"{program}: status {whole.status} of the whole file, {errors} errors")
+            is_said = done.status == 1 and (done.errors or done.output.startswith("no: "))
+            errors += bool(is_said)
+            if not is_said and (done.status != 0 or not is_all(program, whole, done, copy, path.stat().st_size)):
+                tally.fault(f"{program} {copy.name}: status {done.status}, {done.errors.strip() or 'no message'}, {len(done.output)} bytes for {len(whole.output)}")
+        if whole.status != 0 or not errors and program not in DIFFERENCES:
+            tally.fault(f"{program} {path.name}: status {whole.status} of the whole file, {errors} errors")
+
+
+def compare_cut(folder, path, tally):
+    """Of a file whose last section header is cut off, which is that of names, programs that read section by section print the symbols
+    of those before, and then the error."""
+    cut = path.with_name(f"{path.name}-cut")
+    cut.write_bytes(path.read_bytes()[:-1])
+    for program in SYMBOLS[:2]:
+        whole, done = (run([f"{folder}/{program}", str(it)]) for it in (path, cut))
+        tally["damaged files"] += 1
+        if (done.status, done.output) != (1, whole.output) or str(cut) not in done.errors or not whole.output:
+            tally.fault(f"{program} {cut.name}: status {done.status}, {len(done.output)} bytes for {len(whole.output)}, {done.errors.strip()}")
+
+
+def compare_large(folder, path, tally):
+    """Of a file whose section headers are above 64 MiB, behind bytes that take no place on the disk, the symbols are those of the file."""
+    held = damage.Headers(bytearray(path.read_bytes()))
+    places, size, start = held.places("sh"), held.layout.section_size, 65 << 20
+    table = b"".join(bytes(held.content[it : it + size]) for it in places)
+    held.layout.fill(held.content, 0, held.layout.header, shoff=start)
+    large = path.with_name(f"{path.name}-large")
+    with open(large, "wb") as file:
+        file.write(held.content)
+        file.seek(start)
+        file.write(table)
+    for program in SYMBOLS:
+        whole, done = (tally.output(it, f"{folder}/{program}", str(it)) for it in (path, large))
+        tally["large files"] += 1
+        if done != whole:
+            tally.fault(f"{program} {large.name}: {len(done)} bytes for {len(whole)}")
 
 
 if __name__ == "__main__":
     parser = argparse.ArgumentParser(description=__doc__, formatter_class=argparse.RawDescriptionHelpFormatter)
     parser.add_argument("folder")
     parser.add_argument("--files", type=int, default=300)
-    given, total = parser.parse_args(), Tally("the programs", "files", "symbols", "addresses", "functions", "words", "damaged files")
+    given, total = parser.parse_args(), Tally("the programs", "files", "symbols", "addresses", "functions", "words", "damaged files", "large files")
     with tempfile.TemporaryDirectory() as room:
-        compare_damaged(given.folder, pathlib.Path(room), total)
+        program, library = (linked(pathlib.Path(room), it) for it in KINDS)
+        compare_damaged(given.folder, program, (*ASKED, *OF_PROGRAMS), total)
+        compare_damaged(given.folder, library, ASKED, total)
+        compare_cut(given.folder, program, total)
+        compare_large(given.folder, program, total)
+        total.update(compare(given.folder, library))
+    files = spread(given.files, LARGEST)
+    if len(files) < given.files:
+        total.fault(f"the system has only {len(files)} such files")
     with concurrent.futures.ThreadPoolExecutor(os.cpu_count()) as pool:
-        for tally in pool.map(functools.partial(compare, given.folder), spread(given.files, LARGEST)):
+        for tally in pool.map(functools.partial(compare, given.folder), files):
             total.update(tally)
     sys.exit(total.ended())

@@ -7,7 +7,7 @@ PYTHON = pathlib.Path(__file__).resolve().parent.parent
 ROOT = PYTHON.parent.parent
 if "XMAS_ELF_INSTALLED" not in os.environ:
     sys.path.insert(0, str(PYTHON))
-sys.path[1:1] = [str(ROOT / "tools" / folder) for folder in ("compare", "exports")]
+sys.path[1:1] = [str(ROOT / folder) for folder in ("tools/compare", "tools/exports", "oracle")]
 
 import damage  # noqa: E402
 

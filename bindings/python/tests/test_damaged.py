@@ -1,5 +1,7 @@
 """Damaged files: each call returns, or raises ElfError, and nothing else."""
 import gc
+import re
+import shutil
 import subprocess
 import sys
 
@@ -7,7 +9,7 @@ import damage
 import pytest
 from conftest import PYTHON, ROOT
 
-from xmas_elf import ElfError, ElfFile
+from xmas_elf import ElfError, ElfFile, LoadObject, Tree, relocate, size_diff
 from xmas_elf._archive import check
 
 
@@ -91,16 +93,32 @@ def test_file_cut_in_its_sections():
         next(sections)
 
 
-def test_an_example_says_what_is_lost(tmp_path, whole):
-    """Of fifty files of which parts are missing the example prints all symbols, or why it can't."""
+def program_of_the_page():
+    """The first program of the package's page, of a path that is given, without what the overview says of the loader."""
+    program = re.search(r"^```python$(.*?)^```$", (PYTHON / "README.md").read_text(), re.M | re.S)[1]
+    changed = program.replace('"/usr/lib/x86_64-linux-gnu/libc.so.6"', "sys.argv[1]").replace("file.overview()", 'file.overview()._replace(loads="")')
+    assert changed.count("sys.argv") == changed.count("_replace") == 1
+    return "import sys\n" + changed
+
+
+@pytest.mark.parametrize("program", ["the example", "the page"])
+def test_a_program_says_what_is_lost(program, tmp_path, whole):
+    """Of fifty files of which parts are missing a program prints all of the file, or why it can't."""
+    command = [ROOT / "bindings/examples/symbols.py"] if program == "the example" else ["-c", program_of_the_page()]
+
     def ended(data):
         (tmp_path / "file").write_bytes(data)
-        return subprocess.run([sys.executable, ROOT / "bindings/examples/symbols.py", tmp_path / "file"], cwd=PYTHON,
-            env={"PYTHONPATH": str(PYTHON)}, capture_output=True, text=True)
+        return subprocess.run([sys.executable, *command, tmp_path / "file"], cwd=PYTHON, env={"PYTHONPATH": str(PYTHON)}, capture_output=True, text=True)
+
     wanted, found = ended(whole), [ended(data) for data in damage.missing(whole, 1)]
     assert wanted.returncode == 0 and len(found) == 50 and {it.returncode for it in found} == {0, 1}
     for it in found:
-        assert (it.stdout, it.stderr) == (wanted.stdout, "") if it.returncode == 0 else str(tmp_path / "file") in it.stderr and "Traceback" not in it.stderr
+        if it.returncode == 0:
+            assert (it.stdout, it.stderr) == (wanted.stdout, "")
+        elif program == "the example":
+            assert str(tmp_path / "file") in it.stderr and "Traceback" not in it.stderr
+        else:
+            assert re.search(r"^xmas_elf\S*ElfError: \w", it.stderr, re.M)
 
 
 def named(items, *fields):
@@ -112,6 +130,23 @@ def named(items, *fields):
     return found
 
 
+def relocated(file):
+    """The words of a program with its libraries, and how many have no number. Its headers aren't among them."""
+    files = [file, *(ElfFile.load_from_path(it) for it in LIBRARIES)]
+    image = file.load_image()
+    numberless = relocate([LoadObject(it, index << 32) for index, it in enumerate(files, 1)], 0, image)
+    return bytes(image[PLACES["words"] :]), numberless
+
+
+def libraries(file):
+    PLACES["copy"].write_bytes(file.input)
+    tree = Tree(PLACES["copy"])
+    if tree.error:
+        raise tree.error
+    return [[(it.name, it.path, it.how) for it in tree.objects], tree.missing, tree.missing_versions, [it.path for it in tree.start_order]]
+
+
+LIBRARIES = ("/lib/x86_64-linux-gnu/libc.so.6", "/lib64/ld-linux-x86-64.so.2")
 # What new users ask for of a file: each either is an error, or all that the whole file has.
 CALLS = {
     "sections": lambda file: named(file.sections(), "type"),
@@ -131,8 +166,17 @@ CALLS = {
     "overview": lambda file: file.overview()._replace(loads=""),
     "hardening": lambda file: file.hardening(),
     "bytes of memory": lambda file: bytes(file.bytes_at(ADDRESSES[0], 64)),
+    "the symbols of a section": lambda file: [(it.begin, it.end, it.symbol and named([it.symbol])) for it in file.symbol_pieces(".text")],
+    "the plan of a load": lambda file: file.load_plan(),
+    "words of memory": relocated,
+    "the debug file by its link": lambda file: file.debug_file((), PLACES["whole"]).path,
+    "the debug file by its build id": lambda file: file.debug_file((PLACES["store"],)).path,
+    "libraries": libraries,
 }
-ADDRESSES = []
+# Addresses in the symbols of the whole file. Its path, that of the folder with its debug file and that of a copy, and where words are in memory.
+ADDRESSES, PLACES = [], {}
+# The build id is in a section and in a segment.
+SAFE = ("the build id", "the debug file by its build id")
 
 
 @pytest.mark.parametrize("call", CALLS)
@@ -146,17 +190,42 @@ def test_nothing_is_lost_silently(call, whole):
             assert CALLS[call](ElfFile(data)) == wanted, index
         except ElfError:
             raised += 1
-    # The build id is in a section and in a segment.
-    assert index == 49 and (raised or call == "the build id")
+    assert index == 49 and (raised or call in SAFE)
+
+
+@pytest.mark.parametrize("symbols", [False, True])
+def test_sizes_are_those_of_the_file(symbols, whole):
+    """Each byte of a file of which parts are missing is in one piece, and the differences of the sizes sum to that of the files."""
+    summed = 0
+    for data in damage.missing(whole, 1):
+        file = tried(lambda: ElfFile(data))
+        if file is None:
+            continue
+        assert sum(it.size for it in file.pieces()) == len(data)
+        changes = tried(lambda: size_diff(ElfFile(whole), file, symbols))
+        assert changes is not None or symbols
+        summed += changes is not None
+        assert changes is None or sum(it.difference for it in changes) == len(data) - len(whole)
+    assert summed > 20
 
 
 @pytest.fixture(scope="module")
 def whole(tmp_path_factory):
+    """A program, whose debug file has a link in it, and is in the folder for its build id too."""
     folder = tmp_path_factory.mktemp("whole")
     (folder / "a.c").write_text("#include <stdio.h>\nint one, two, *both[] = {&one, &two}; int main(void) { return puts(\"\") + *both[one]; }\n")
-    subprocess.run(["gcc", folder / "a.c", "-o", folder / "a", "-Wl,-z,pack-relative-relocs,--build-id"], check=True)
+    for command in (
+        ["gcc", "a.c", "-o", "a", "-g", "-Wl,-z,pack-relative-relocs,--build-id"], ["objcopy", "--only-keep-debug", "a", "a.debug"],
+        ["objcopy", "--strip-debug", "--add-gnu-debuglink=a.debug", "a"],
+    ):
+        subprocess.run(command, check=True, cwd=folder)
     data = (folder / "a").read_bytes()
-    ADDRESSES[:] = [it.value + it.size // 2 for it in ElfFile(data).symbols() if it.size and it.is_defined]
+    file = ElfFile(data)
+    ADDRESSES[:] = [it.value + it.size // 2 for it in file.symbols() if it.size and it.is_defined]
+    PLACES.update(whole=str(folder / "a"), store=str(folder / "store"), copy=folder / "copy", words=file.load_plan().relro.start)
+    stored = folder / "store/.build-id" / file.build_id.hex()[:2] / f"{file.build_id.hex()[2:]}.debug"
+    stored.parent.mkdir(parents=True)
+    shutil.copy(folder / "a.debug", stored)
     return data
 
 

@@ -46,19 +46,28 @@ def said_of(program, paths):
     return verdict
 
 
+def candidates():
+    """Modules of Python, which ask for symbols of a program that isn't there; and files of the system, each half of them spread over
+    all."""
+    modules = sorted(pathlib.Path("/usr/lib").glob("python3*/lib-dynload/*.so"))
+    files = spread(2 * FILES, 2_000_000)
+    return [*modules[:20], *files[::2], *files[1::2]]
+
+
 def test_programs_of_the_system_beside_ldd(program):
+    """So many that `ldd` lists, each of a program or a library with its libraries."""
     found = {True: 0, False: 0}
-    # Modules of Python ask for symbols of a program that isn't there.
-    modules = sorted(it for it in pathlib.Path("/usr/lib").glob("python3*/lib-dynload/*.so"))
-    for path in [*spread(FILES, 2_000_000), *modules[:20]]:
+    for path in candidates():
         files, is_whole = ldd(path) or ([], True)
         if not 0 < len(files) <= 64:
             continue
         verdict = said_of(program, files)
         assert bool(verdict) == is_whole, (files, str(verdict))
         found[is_whole] += 1
+        if sum(found.values()) == FILES:
+            break
     print(found)
-    assert sum(found.values()) >= FILES * 4 // 5
+    assert sum(found.values()) == FILES
 
 
 def built(tmp_path, *words):
@@ -105,7 +114,13 @@ def test_each_reason(program, tmp_path):
     other = bytearray(whole)
     other[18:20] = int(constants.EM_S390).to_bytes(2, "little")
     cut.write_bytes(other)
-    assert said_of(program, [main, library, *others, str(cut)]).status == Status.LOAD_MACHINE
+    verdict = said_of(program, [main, library, *others, str(cut)])
+    assert (verdict.status, verdict.of) == (Status.LOAD_MACHINE, len(files))
+    # One whose dynamic segment is empty is named before the words of any file.
+    dynamic = next(it for it in ElfFile(whole).segments() if it.type == constants.PT_DYNAMIC)
+    cut.write_bytes(whole[: dynamic.offset] + bytes(dynamic.file_size) + whole[dynamic.offset + dynamic.file_size :])
+    verdict = said_of(program, [main, library, *others, str(cut)])
+    assert (verdict.status, verdict.of) == (Status.LINK_NO_ENTRY, len(files))
 
 
 def test_numbers_of_files(tmp_path):

@@ -530,11 +530,11 @@ def test_words_of_a_program_and_its_library(tmp_path):
     assert images[0][value(program, "number")] == 7
     with pytest.raises(ElfError) as raised:
         relocate(objects, 2, images[0])
-    assert raised.value.status == Status.LINK_OBJECT_INDEX
+    assert (raised.value.status, raised.value.of) == (Status.LINK_OBJECT_INDEX, None)
     # Without the library the program's symbols are in no object.
     with pytest.raises(ElfError, match="^Symbol is in no object: (number|twice)$") as raised:
         relocate(objects[:1], 0, images[0])
-    assert raised.value.status == Status.LOAD_UNRESOLVED and raised.value.about in ("number", "twice")
+    assert (raised.value.status, raised.value.of) == (Status.LOAD_UNRESOLVED, 0) and raised.value.about in ("number", "twice")
 
 
 def test_words_of_all_objects_in_one_call(tmp_path):
@@ -563,7 +563,30 @@ def test_words_of_all_objects_in_one_call(tmp_path):
         assert (raised.value.status, raised.value.of) == (status, None)
     with pytest.raises(ElfError) as raised:
         relocate([objects[0]] + [objects[1]] * 64, 0, program.load_image())
-    assert raised.value.status == Status.MANY_OBJECTS
+    assert (raised.value.status, raised.value.of) == (Status.MANY_OBJECTS, None)
+
+
+def test_errors_of_words_have_the_index_of_their_object(tmp_path):
+    """That of the first file that can't be read or has no plan, whichever object the words are of."""
+    program, library, objects = program_and_library(tmp_path)
+    image, whole = program.load_image(), (tmp_path / "libb.so").read_bytes()
+    dynamic = next(it for it in library.segments() if it.type == constants.PT_DYNAMIC)
+    empty = whole[: dynamic.offset] + bytes(dynamic.file_size) + whole[dynamic.offset + dynamic.file_size :]
+    object_file = whole[:16] + bytes([constants.ET_REL]) + whole[17:]
+    for data, status in ((empty, Status.LINK_NO_ENTRY), (object_file, Status.LOAD_TYPE)):
+        several = [*objects, LoadObject(ElfFile(data)), LoadObject(ElfFile(data))]
+        for of in (0, 1):
+            for call in (lambda: check_image(several, of), lambda: relocate(several, of, image)):
+                with pytest.raises(ElfError) as raised:
+                    call()
+                assert (raised.value.status, raised.value.of) == (status, 2)
+    for call, status, of in (
+        (lambda: check_image(objects, 1, limit=4096), Status.LOAD_RANGE, 1),
+        (lambda: relocate(objects, 0, image[1:]), Status.LOAD_IMAGE_SIZE, None),
+    ):
+        with pytest.raises(ElfError) as raised:
+            call()
+        assert (raised.value.status, raised.value.of) == (status, of)
 
 
 def test_a_missing_symbol_is_named_with_its_version(tmp_path):

@@ -42,9 +42,9 @@ class AddressIndex:
         self._file, self._table = file, table
         part = declared.RANGE.pack(*indices)
         self._index = create_string_buffer(declared.ADDRESS_INDEX.size)
-        for words, numbers in ((0, 0), (None, None)):
-            if words is None:
-                words, numbers = self.sizes.words, self.sizes.numbers
+        for is_known in (False, True):
+            # The first call says how many words and numbers the index takes.
+            words, numbers = (self.sizes.words, self.sizes.numbers) if is_known else (0, 0)
             self._words, self._numbers = create_string_buffer(4 * words), create_string_buffer(8 * numbers)
             memory = self._words, words, self._numbers, numbers
             check(library.xmas_elf_address_index(*file._input, table, part, within, *memory, self._index))

@@ -78,6 +78,19 @@ def debug_paths_of(file: Any, search: Sequence[str], path: Optional[str]) -> Ite
             yield how, os.fsdecode(one)
 
 
+def check_sources(file: Any, search: Sequence[str], path: Optional[str]) -> None:
+    """Raises if a part of the file that may name its debug file can't be read: the notes, where directories are searched; the section
+    headers, their names and the link, where the file has a path."""
+    if search:
+        _ = file.build_id
+    for section in file.sections() if path is not None else ():
+        # A name that isn't UTF-8 is that of another section.
+        if section.name is None and section.name_status != Status.TEXT_UTF_8:
+            raise ElfError(section.name_status)
+        if section.name == ".gnu_debuglink":
+            section.data()
+
+
 def opened_candidate(file: Any, how: DebugHow, path: str, load: Callable[[str], Any]) -> Tuple[Union[None, Status, int], Any]:
     """Whether the debug file is at a path, and the file if it is; None if no file is there."""
     if not os.path.isfile(path):

@@ -164,7 +164,8 @@ def _place(part: _Part) -> int:
 def size_diff(old: Any, new: Any, symbols: bool = False) -> List[SizeChange]:
     """The parts of two files whose sizes differ, the greatest difference first: what `elfsize --diff` prints, with `symbols`
     what it prints with `--symbols`. The n-th part of a kind and a name of the old file is matched with the n-th of the new
-    one; segments have no names. The differences sum to the difference of the sizes of the files."""
+    one; segments have no names. A file whose section headers can't all be read has no sections and no symbols there. The
+    differences sum to the difference of the sizes of the files."""
     olds, news = _Parts(old, symbols), _Parts(new, symbols)
     room, count = len(olds.parts) + len(news.parts), c_uint64()
     changes = create_string_buffer(max(1, room * declared.SIZE_CHANGE.size))
@@ -178,5 +179,5 @@ def _change(olds: _Parts, news: _Parts, old_index: int, new_index: int, old_size
     old = None if files == _NEW else olds.at(old_index)
     new = None if files == _GONE else news.at(new_index)
     (kind, _), name = new or old  # type: ignore[misc]
-    indices = (None if it is None else it[0][1] for it in (old, new))
-    return SizeChange(kind, name.decode("utf-8", "surrogateescape"), *indices, old_size, new_size)
+    indices = [None if it is None else it[0][1] for it in (old, new)]
+    return SizeChange(kind, name.decode("utf-8", "surrogateescape"), indices[0], indices[1], old_size, new_size)

@@ -9,20 +9,21 @@ from typing import Any, BinaryIO, Dict, Iterable, Iterator, List, Optional, Sequ
 from . import _declarations as declared
 from ._addresses import AddressIndex, SymbolAt
 from ._archive import ElfError, check, library
-from ._debug import SEARCH, DebugCandidate, debug_paths_of, opened_candidate
+from ._debug import SEARCH, DebugCandidate, check_sources, debug_paths_of, opened_candidate
 from ._declarations import Status
 from ._hardening import Hardening, hardening_of
-from ._loading import Loader, LoadPlan, Verdict, load_plan_of, verdict_of
+from ._loading import Loader, LoadPlan, Verdict, load_plan_of, loader_of, verdict_of
 from ._numbers import unsigned, utf_8
 from ._overview import Overview, overview_of
 from ._parts import Dynamic, Header, Note, Relocation, Section, Segment, Symbol
 from ._parts import entries_of_segment, packed_relocations_of_segment, relocations_of_segment, section_of, segment_of, symbols_of
+from ._parts import up_to_null
 from ._pieces import Piece, SectionSymbols, SymbolPiece, pieces_of, symbol_pieces_of
 from ._process import load_image_of
 from ._reading import Reading
 from ._rows import Row, batches, one, rows
 from ._versions import Version, versions
-from .constants import DT, DT_NEEDED, DT_NULL, DT_RPATH, DT_RUNPATH, DT_SONAME, DT_SYMTAB, ELFOSABI, EM, ET
+from .constants import DT, DT_NEEDED, DT_RPATH, DT_RUNPATH, DT_SONAME, DT_SYMTAB, ELFOSABI, EM, ET
 from .constants import NT_GNU_BUILD_ID, PT_LOAD, PT_NOTE
 from .constants import SHT_DYNAMIC, SHT_DYNSYM, SHT_NOTE, SHT_REL, SHT_RELA, SHT_RELR, SHT_SYMTAB, SHT_SYMTAB_SHNDX
 
@@ -98,7 +99,7 @@ class ElfFile(Reading):
         check(library.xmas_elf_check_header(*self._input))
 
     def overview(self) -> Overview:
-        """What a first look at a file asks for: what it needs, its build id, how it is hardened, and whether it is loaded."""
+        """What a first look at a file asks for: what it needs, its build id, how it is hardened, and what `loads` says."""
         return overview_of(self)
 
     def hardening(self, libc: Union[None, str, "os.PathLike[str]"] = None) -> Hardening:
@@ -106,15 +107,24 @@ class ElfFile(Reading):
         library at the path, of this system's where none is given."""
         return hardening_of(self, libc)
 
+    @property
+    def loader(self) -> Loader:
+        """The loader that `loads` asks: glibc about a shared library, which is a file of type ET_DYN with dynamic entries, none
+        of which marks a program (DF_1_PIE or DT_DEBUG), also if it has an interpreter, as libc.so.6; and Linux about any other
+        file."""
+        return loader_of(self)
+
     def loads(self, page: int = 0, limit: int = 0) -> Verdict:
-        """Whether Linux and glibc load the file, by its header and program headers: true or false, and the text `yes`, or `no`
-        with the reason. `page` and `limit` are those of `load_plan`."""
+        """Whether one loader maps the file, that of `loader`: Linux as a program, or glibc as a library that a program starts
+        with. It is true or false, and the text `yes`, or `no` with the reason. Its header and program headers decide;
+        libraries and symbols aren't looked for. A file that is loaded may have no `load_plan`. What glibc tests is known of
+        little-endian libraries; a big-endian one must have a plan. `page` and `limit` are those of `load_plan`."""
         return verdict_of(self, unsigned(page), unsigned(limit))
 
     def load_plan(self, page: int = 0, limit: int = 0) -> LoadPlan:
-        """What Linux and glibc put into memory for the file; an error if they don't load it. `page` is the size of a page, a
-        power of two, and `limit` the end of the addresses that a loader may use; 0 means 4096, and for the limit of
-        Linux on x86-64, or on 386 for a file of class 32."""
+        """What Linux and glibc put into memory for the file. An error if it has no plan, as some files for which `loads` is
+        true. `page` is the size of a page, a power of two, and `limit` the end of the addresses that a loader may use; 0 means
+        4096, and for the limit that of Linux: on x86-64, on AArch64 for its files, and on 386 for a file of class 32."""
         return load_plan_of(self, unsigned(page), unsigned(limit))
 
     def load_image(self, by: Loader = Loader.LINUX, page: int = 0, limit: int = 0) -> bytearray:
@@ -137,22 +147,26 @@ class ElfFile(Reading):
 
     def debug_file(self, search: Sequence[str] = SEARCH, path: Optional[str] = None) -> Optional["ElfFile"]:
         """The separate debug file of the file, or None: the first of `debug_candidates` that is the debug file. A file that is
-        another's, or none, is skipped: `debug_candidates` says why."""
+        another's, or none, is skipped: `debug_candidates` says why. An error if there is none, and a part of the file that may
+        name it can't be read."""
         for how, place in debug_paths_of(self, search, path or self.path):
             _, debug = opened_candidate(self, how, place, ElfFile.load_from_path)
             if debug is not None:
                 return debug  # type: ignore[no-any-return]
+        check_sources(self, search, path or self.path)
         return None
 
     def debug_candidates(self, search: Sequence[str] = SEARCH, path: Optional[str] = None) -> Iterator[DebugCandidate]:
         """The paths at which the debug file may be, in the order in which gdb tries them, and what is at each: by the build id
         in the directories of `search`; by the name in `.gnu_debuglink` in the folder of the file at `path`, in `.debug` there,
-        and in the same folder under the directories. `path` is that of the file, where it was loaded from a path."""
+        and in the same folder under the directories. `path` is that of the file, where it was loaded from a path. A part of the
+        file that may name one and can't be read raises after the last path."""
         for how, place in debug_paths_of(self, search, path or self.path):
             status, debug = opened_candidate(self, how, place, ElfFile.load_from_path)
             if debug is not None:
                 debug.close()
             yield DebugCandidate(place, how, status)
+        check_sources(self, search, path or self.path)
 
     # Sections.
 
@@ -305,10 +319,7 @@ class ElfFile(Reading):
         """The dynamic entries up to that with tag 0 (DT_NULL), which is the last: those of the section of type SHT_DYNAMIC,
         or else of the segment of type PT_DYNAMIC. None if the file has neither."""
         table = next(iter(self._sections_of(SHT_DYNAMIC)), None)
-        for entry in table.dynamic() if table else entries_of_segment(self):
-            yield entry
-            if entry.tag == DT_NULL:
-                return
+        yield from up_to_null(table.dynamic() if table else entries_of_segment(self))
 
     @property
     def needed(self) -> List[str]:

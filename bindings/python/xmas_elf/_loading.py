@@ -2,14 +2,14 @@
 from __future__ import annotations
 
 from enum import IntEnum
-from typing import Any, List, NamedTuple, Optional
+from typing import Any, Dict, Iterable, List, NamedTuple, Optional
 
 from . import _declarations as declared
-from ._archive import ElfError
+from ._archive import ElfError, check, library
 from ._declarations import Status, _document
-from ._parts import permissions
+from ._parts import Dynamic, entries_of_segment, permissions, up_to_null
 from ._rows import rows
-from .constants import PF
+from .constants import DF_1, DT_DEBUG, DT_FLAGS_1, ET_DYN, PF, PT_DYNAMIC
 
 
 class Loader(IntEnum):
@@ -57,13 +57,13 @@ class TlsTemplate(NamedTuple):
 
 
 class Verdict(NamedTuple):
-    """Whether Linux and glibc load a file, or a program with its libraries: true or false, and as a text `yes`, or `no` with the
-    reason."""
+    """Whether a file, or a program with its libraries, is loaded: true or false, and as a text `yes`, or `no` with the reason."""
 
     loads: bool
     status: int
     text: str
     of: Optional[int] = None
+    by: Optional[Loader] = None
 
     def __bool__(self) -> bool:
         return self.loads
@@ -108,10 +108,11 @@ _document(
 )
 _document(
     Verdict,
-    loads="Whether they load it.",
-    status="The status: OK, or why they don't.",
+    loads="Whether it is loaded.",
+    status="The status: OK, or why it isn't.",
     text="The text of the status; of a program with its libraries after the file that it is about, and before the name.",
     of="Of a program with its libraries the index of the file that the reason is about; otherwise None.",
+    by="The loader that the verdict is about: of one file that of `ElfFile.loader`; None if the reason isn't one loader's.",
 )
 _document(
     LoadPlan,
@@ -131,12 +132,63 @@ def _mappings(file: Any, page: int, limit: int, by: Loader) -> List[Mapping]:
     return [Mapping(start, end, offset, PF(flags), Contents(contents)) for start, end, offset, flags, contents in found]
 
 
-def verdict_of(file: Any, page: int, limit: int) -> Verdict:
+def marks_program(values: Dict[int, int]) -> bool:
+    """Whether one of the dynamic entries, values by their tags, is there in programs alone: DF_1_PIE, or DT_DEBUG."""
+    return bool(DF_1(values.get(DT_FLAGS_1, 0)) & DF_1.DF_1_PIE) or DT_DEBUG in values
+
+
+def _dynamic_values(file: Any) -> Dict[int, int]:
+    """The dynamic entries as values by their tags: those of the section, or else of the segment, as far as they can be read."""
+    readers: Iterable[Iterable[Dynamic]] = (file.dynamic(), up_to_null(entries_of_segment(file)))
+    for entries in readers:
+        try:
+            values = {int(entry.tag): entry.value for entry in entries}
+        except ElfError:
+            continue
+        if values:
+            return values
+    return {}
+
+
+def _has_dynamic_segment(file: Any) -> bool:
     try:
-        file._asked("xmas_elf_load_plan", declared.LOAD_PLAN, page, limit)
+        return any(it.type == PT_DYNAMIC for it in file.segments())
+    except ElfError:
+        # The program headers that can be read have none.
+        return False
+
+
+def loader_of(file: Any) -> Loader:
+    if file.header.type != ET_DYN:
+        return Loader.LINUX
+    values = _dynamic_values(file)
+    is_library = not marks_program(values) and (bool(values) or _has_dynamic_segment(file))
+    return Loader.GLIBC if is_library else Loader.LINUX
+
+
+def check_load(file: Any, by: Loader, page: int = 0, limit: int = 0) -> None:
+    """Raises if a loader doesn't map the file."""
+    check(library.xmas_elf_check_load(*file._input, page, limit, int(by)))
+
+
+def _check_kind(file: Any, by: Loader, page: int, limit: int) -> None:
+    """Raises if the loader of its kind doesn't map the file."""
+    try:
+        check_load(file, by, page, limit)
     except ElfError as error:
-        return Verdict(False, error.status, str(error))
-    return Verdict(True, Status.OK, "")
+        # The check of a library is that of glibc on little-endian machines.
+        if error.status != Status.LOAD_BYTE_ORDER or file.little_endian:
+            raise
+        file._asked("xmas_elf_load_plan", declared.LOAD_PLAN, page, limit)
+
+
+def verdict_of(file: Any, page: int, limit: int) -> Verdict:
+    by = loader_of(file)
+    try:
+        _check_kind(file, by, page, limit)
+    except ElfError as error:
+        return Verdict(False, error.status, str(error), by=by)
+    return Verdict(True, Status.OK, "", by=by)
 
 
 def load_plan_of(file: Any, page: int, limit: int) -> LoadPlan:

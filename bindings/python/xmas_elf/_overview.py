@@ -5,7 +5,8 @@ from typing import TYPE_CHECKING, Any, List, NamedTuple, Optional, Tuple
 
 from ._archive import ElfError
 from ._declarations import _document
-from .constants import DF, DF_1, DT_BIND_NOW, DT_DEBUG, DT_FLAGS, DT_FLAGS_1, DT_RPATH, DT_RUNPATH
+from ._loading import marks_program
+from .constants import DF, DF_1, DT_BIND_NOW, DT_FLAGS, DT_FLAGS_1, DT_RPATH, DT_RUNPATH
 from .constants import EM, ET, ET_DYN, PF, PF_W, PF_X, PT_GNU_RELRO, PT_GNU_STACK, PT_INTERP, PT_LOAD
 
 if TYPE_CHECKING:
@@ -52,7 +53,8 @@ _document(
     wx="Whether memory is mapped writable and executable.",
     rpath="The folders of DT_RPATH.",
     runpath="The folders of DT_RUNPATH.",
-    loads="Whether Linux and glibc load it: `yes`, or `no` with the reason.",
+    loads="What `ElfFile.loads` says: whether Linux maps it as a program, or glibc as a library, by its kind: `yes`, or `no` with the "
+    "reason.",
 )
 
 
@@ -66,7 +68,7 @@ def _shown(value: Any) -> str:
 
 def _protection_of(file: "ElfFile") -> Tuple[bool, Optional[PF], List[PF]]:
     """Whether pages are only readable after relocation, the permissions of the stack, and those of the mappings: by the plan
-    of the load, or by the program headers of a file that isn't loaded."""
+    of the load, or by the program headers of a file without a plan."""
     try:
         plan = file.load_plan()
     except ElfError:
@@ -93,7 +95,7 @@ def overview_of(file: "ElfFile") -> Overview:
         interpreter=interpreter,
         needed=file.needed,
         build_id=None if build_id is None else build_id.hex(),
-        pie=file.header.type == ET_DYN and (bool(flags_1 & DF_1.DF_1_PIE) or DT_DEBUG in values),
+        pie=file.header.type == ET_DYN and marks_program(values),
         relro=("full" if bind_now else "partial") if has_relro else "none",
         nx=stack is not None and not stack & PF_X,
         bind_now=bind_now,

@@ -4,14 +4,14 @@ from __future__ import annotations
 from itertools import chain, repeat
 from reprlib import Repr
 from struct import Struct
-from typing import Any, Callable, Iterator, List, NamedTuple, Tuple, Type, TypeVar
+from typing import Any, Callable, Iterable, Iterator, List, NamedTuple, Tuple, Type, TypeVar
 
 from . import _declarations as declared
 from ._archive import check, library
 from ._declarations import _document
 from ._numbers import unsigned
 from ._rows import NUMBER, Row, batches, of_segment, one, rows
-from .constants import DT, EM_386, EM_AARCH64, EM_X86_64, PF, PF_R, PF_W, PF_X, PT, R_386, R_AARCH64, R_X86_64
+from .constants import DT, DT_NULL, EM_386, EM_AARCH64, EM_X86_64, PF, PF_R, PF_W, PF_X, PT, R_386, R_AARCH64, R_X86_64
 from .constants import SHF, SHN, SHN_LORESERVE, SHN_UNDEF, SHT, SHT_NOBITS, SHT_NULL, STB, STT, STV
 
 _Record = TypeVar("_Record", bound=Tuple[Any, ...])
@@ -163,6 +163,14 @@ def _as(kind: Type[_Record], records: Iterator[Row]) -> Iterator[_Record]:
 def entries_of_segment(file: Any) -> Iterator[Dynamic]:
     """The dynamic entries of the segment of type PT_DYNAMIC, those after the entry with tag 0 too."""
     return (Dynamic(DT(tag), value) for tag, value in of_segment(file, "xmas_elf_dynamic_entries", declared.DYNAMIC))
+
+
+def up_to_null(entries: Iterable[Dynamic]) -> Iterator[Dynamic]:
+    """The dynamic entries up to that with tag 0 (DT_NULL), which is the last."""
+    for entry in entries:
+        yield entry
+        if entry.tag == DT_NULL:
+            return
 
 
 def relocations_of_segment(file: Any) -> Iterator[Relocation]:

@@ -58,22 +58,42 @@ def load_image_of(file: Any, by: int, page: int, limit: int) -> bytearray:
 
 
 def check_image(objects: Sequence[LoadObject], of: int, page: int = 0, limit: int = 0) -> None:
-    """Raises if the words of the object at index `of` can't be written before the program runs."""
-    span = objects[of].file.load_plan(page, limit).span
-    marks = bytearray((span.end - span.start) // 8 + 1)
-    check(library.xmas_elf_check_image(*_Packed(objects).arguments, of, page, limit, address_of(view_of(marks)), len(marks)))
+    """Raises if the words of the object at index `of` can't be written before the program runs. The error has the index of its
+    object in `of`: this one, or the first whose file can't be read or has no `load_plan`."""
+    packed, failed = _Packed(objects), c_uint64(len(objects))
+    marks = bytearray(_size(objects, of, page, limit) // 8 + 1)
+    _check(library.xmas_elf_check_image(*packed.arguments, of, page, limit, address_of(view_of(marks)), len(marks), byref(failed)), objects, failed)
 
 
 def relocate(objects: Sequence[LoadObject], of: int, image: bytearray, lazy: bool = False, page: int = 0, limit: int = 0) -> int:
     """Writes the words of the object at index `of` to its image, which `ElfFile.load_image` gave, and returns how many have no
-    number: what functions return, and descriptors of thread-local storage. The error LOAD_UNRESOLVED has the name of the
-    first symbol that is in no object."""
-    packed, count = _Packed(objects), c_uint64()
-    status = library.xmas_elf_relocate(*packed.arguments, of, int(lazy), page, limit, address_of(view_of(image)), len(image), byref(count))
-    if status == Status.LOAD_UNRESOLVED:
-        raise ElfError(status, _unresolved(objects, of))
-    check(status)
+    number: what functions return, and descriptors of thread-local storage. The error has the index of its object in `of`: this one,
+    or the first whose file can't be read or has no `load_plan`; LOAD_UNRESOLVED has the name of the first symbol that is in no
+    object."""
+    packed, count, failed = _Packed(objects), c_uint64(), c_uint64(len(objects))
+    status = library.xmas_elf_relocate(
+        *packed.arguments, of, int(lazy), page, limit, address_of(view_of(image)), len(image), byref(count), byref(failed)
+    )
+    _check(status, objects, failed)
     return count.value
+
+
+def _check(status: int, objects: Sequence[LoadObject], failed: c_uint64) -> None:
+    """Raises if a call has an error, with the index of the object that has it, if one has."""
+    if not status:
+        return
+    of = failed.value if failed.value < len(objects) else None
+    about = _unresolved(objects, of) if status == Status.LOAD_UNRESOLVED and of is not None else None
+    raise ElfError(status, about, of)
+
+
+def _size(objects: Sequence[LoadObject], of: int, page: int, limit: int) -> int:
+    """The size of the image of an object; an error has its index."""
+    try:
+        span = objects[of].file.load_plan(page, limit).span
+    except ElfError as error:
+        raise ElfError(error.status, error.about, of) from None
+    return int(span.end - span.start)
 
 
 class Relocated(NamedTuple):
@@ -95,27 +115,20 @@ def relocate_all(objects: Sequence[LoadObject], lazy: bool = False, page: int = 
     file is read once; the images of the objects are not read. An error has the index of the object in `of`, and LOAD_UNRESOLVED the
     name of the first symbol that is in no object."""
     images = _images(objects, page, limit)
-    memory = images[0].obj if images else bytearray()
+    memory: Any = images[0].obj if images else bytearray()
     packed, left, failed = _Packed(objects), c_uint64(), c_uint64(len(objects))
     status = library.xmas_elf_relocate_all(
         *packed.arguments, int(lazy), page, limit, address_of(view_of(memory)), len(memory), byref(left), byref(failed)
     )
-    if status:
-        of = failed.value if failed.value < len(objects) else None
-        about = _unresolved(objects, of) if status == Status.LOAD_UNRESOLVED and of is not None else None
-        raise ElfError(status, about, of)
+    _check(status, objects, failed)
     return Relocated(images, left.value)
 
 
 def _images(objects: Sequence[LoadObject], page: int, limit: int) -> List[memoryview]:
     """The images of all objects before relocation, one after another in one `bytearray`."""
     ends = [0]
-    for index, it in enumerate(objects):
-        try:
-            span = it.file.load_plan(page, limit).span
-        except ElfError as error:
-            raise ElfError(error.status, error.about, index) from None
-        ends.append(ends[-1] + span.end - span.start)
+    for index in range(len(objects)):
+        ends.append(ends[-1] + _size(objects, index, page, limit))
     memory = memoryview(bytearray(ends[-1]))
     images = [memory[start:end] for start, end in zip(ends, ends[1:])]
     for index, (it, image) in enumerate(zip(objects, images)):
@@ -181,9 +194,11 @@ def _place(end: int, size: int, align: int, first: int) -> int:
 
 def loads(files: Sequence[Any], lazy: bool = False, page: int = 0, limit: int = 0) -> Verdict:
     """Whether a program loads with its libraries, each an `ElfFile`, in the order in which they are loaded, the program first: true
-    or false, and the text `yes`, or `no` with the file and the reason. The first of these is the reason: a file has no plan; a
-    library that a file needs is not among the files; the tables or the words of a file can't be read or written; a symbol is in
-    no file. With `lazy` jump slots get their symbols later. It takes up to 64 files."""
+    or false, and the text `yes`, or `no` with the file and the reason. The first of these is the reason: a file has no
+    `load_plan`, since what memory holds must be known; a library that a file needs is not among the files; the tables or the
+    words of a file can't be read or written; a symbol is in no file. Some files that Linux and glibc load have no plan, so a
+    program with this reason may start all the same: `Tree.loads` says what they do. With `lazy` jump slots get their symbols
+    later. It takes up to 64 files."""
     if not 0 < len(files) <= MOST_OBJECTS:
         raise ValueError(f"between 1 and {MOST_OBJECTS} files are wanted")
     for index, step in _steps([LoadObject(it) for it in files], lazy, page, limit):
@@ -210,8 +225,6 @@ def _steps(objects: List[LoadObject], lazy: bool, page: int, limit: int) -> Iter
     for index in range(len(objects)):
         yield index, lambda: _check_needed(objects[index].file, names)
     for index in range(len(objects)):
-        yield index, lambda: _check_file(objects[0], objects[index], page, limit)
-    for index in range(len(objects)):
         yield index, lambda: check_image(objects, index, page, limit)
     yield 0, lambda: relocate_all(objects, lazy, page, limit)
 
@@ -230,13 +243,4 @@ def _check_needed(file: Any, names: Container[str]) -> None:
     for name in file.needed:
         if name not in names:
             raise ElfError(Status.NOT_FOUND, name)
-
-
-def _check_file(first: LoadObject, it: LoadObject, page: int, limit: int) -> None:
-    """Raises if a file can't be read as an object of the program. A call for an object that isn't there reads the files, and
-    then says so."""
-    arguments = _Packed((first, it)).arguments
-    status = library.xmas_elf_check_image(*arguments, 2, page, limit, None, 0)
-    if status != Status.LINK_OBJECT_INDEX:
-        check(status)
 

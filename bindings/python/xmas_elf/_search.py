@@ -115,10 +115,6 @@ def check_library(file: Any) -> None:
     check(library.xmas_elf_check_library(*file._input))
 
 
-def check_load(file: Any, loader: int) -> None:
-    check(library.xmas_elf_check_load(*file._input, 0, 0, loader))
-
-
 class Cache:
     """The bytes of ld.so.cache, as a machine reads them."""
 

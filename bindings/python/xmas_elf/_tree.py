@@ -10,7 +10,7 @@ from . import _search as search
 from ._archive import ElfError
 from ._declarations import Status, _document
 from ._file import ElfFile
-from ._loading import Loader, Verdict
+from ._loading import Loader, Verdict, check_load
 from ._rooted import Root
 from ._search import AUXILIARY, DT_RPATH, DT_RUNPATH, DT_SONAME, FILTER, HOW, MISSING, NEEDED, Asker, Values
 from ._systems import Processor, own_processor, system_of
@@ -84,7 +84,9 @@ class TreeObject:
         self._origin, self._kind, self._entry = os.fsencode(origin), NEEDED, (0, 0)
         self._names: List[bytes] = []
         self._entries: List[Tuple[bytes, int, bool]] = []
-        self._r_path = self._run_path = self._soname = None
+        self._r_path: Optional[bytes] = None
+        self._run_path: Optional[bytes] = None
+        self._soname: Optional[bytes] = None
         self._no_default = search.has_flag(file, _NODEFLIB)
 
     def __repr__(self) -> str:
@@ -417,21 +419,17 @@ class Tree:
         return [missing for _, missing in sorted(found, key=lambda one: one[0])]
 
     def loads(self) -> Verdict:
-        """Whether Linux and glibc load the program with its libraries: true or false, and the text `yes`, or `no` with the first reason.
-        The program and its interpreter are those that Linux maps, the libraries those that glibc does; each library and each version is
-        there, but for those without which the program starts all the same. Symbols aren't looked up: `xmas_elf.loads` does this."""
-        for index, text, status in self._reasons():
-            return Verdict(False, status, text, index)
-        return Verdict(True, Status.OK, "")
+        """Whether the program is loaded with its libraries: true or false, and the text `yes`, or `no` with the first reason. Linux maps
+        the program and its interpreter, and glibc the libraries, each by its own checks; each library and each version is there, but
+        for those without which the program starts all the same. Symbols aren't looked up: `xmas_elf.loads` does this."""
+        return next(self._reasons(), Verdict(True, Status.OK, ""))
 
-    def _reasons(self) -> Iterator[Tuple[int, str, int]]:
+    def _reasons(self) -> Iterator[Verdict]:
         """Why the program isn't loaded, each with the index of the object that it is about."""
         program = self._loaded[0]
-        verdict = program.file.loads()
-        if not verdict:
-            yield 0, f"{program.path}: {verdict.text}", verdict.status
+        yield from self._load_reasons(program, Loader.LINUX)
         if self._interpreter_path is not None and self._interpreter is None:
-            yield 0, f"{program.path}: {self._interpreter_path} not found", Status.NOT_FOUND
+            yield Verdict(False, Status.NOT_FOUND, f"{program.path}: {self._interpreter_path} not found", 0)
         if self._interpreter is not None:
             yield from self._load_reasons(self._interpreter, Loader.LINUX)
         checked = {0}
@@ -439,22 +437,23 @@ class Tree:
             name, kind, _ = self._loaded[number]._entries[entry]
             found = self._order.found[number][entry]
             if found == MISSING and kind != AUXILIARY:
-                yield self._index(self._loaded[number]), f"{self._loaded[number].path}: {os.fsdecode(name)} not found", Status.NOT_FOUND
+                text = f"{self._loaded[number].path}: {os.fsdecode(name)} not found"
+                yield Verdict(False, Status.NOT_FOUND, text, self._index(self._loaded[number]))
             if found < len(self._loaded) and found not in checked:
                 checked.add(found)
                 if self._loaded[found] is not self._interpreter:
                     yield from self._load_reasons(self._loaded[found], Loader.GLIBC)
         if self.error is not None:
-            yield 0, f"{self.error.about}: {ElfError(self.error.status)}", int(self.error.status)
+            yield Verdict(False, int(self.error.status), f"{self.error.about}: {ElfError(self.error.status)}", 0)
         for missing in self.missing_versions:
             if missing.lack == Lack.STRONG:
-                yield 0, str(missing), Status.NOT_FOUND
+                yield Verdict(False, Status.NOT_FOUND, str(missing), 0)
 
-    def _load_reasons(self, it: TreeObject, loader: Loader) -> Iterator[Tuple[int, str, int]]:
+    def _load_reasons(self, it: TreeObject, loader: Loader) -> Iterator[Verdict]:
         try:
-            search.check_load(it.file, loader)
+            check_load(it.file, loader)
         except ElfError as error:
-            yield self._index(it), f"{it.path}: {error}", int(error.status)
+            yield Verdict(False, error.status, f"{it.path}: {error}", self._index(it), loader)
 
     def _index(self, it: TreeObject) -> int:
         return self.objects.index(it) if it in self.objects else 0

@@ -35,7 +35,8 @@ pub fn debug_crc(bytes: &[u8]) -> u32 {
 impl ElfFile<'_> {
     /// The path at an index at which the debug file of the file at `path` may be, in the order in which gdb tries them: how it is
     /// found, and the size of the path, whose bytes are written to the front of `text`, as many as fit. `directory` is that of
-    /// debug files, such as `/usr/lib/debug`. None if there are no more.
+    /// debug files, such as `/usr/lib/debug`. None if there are no more. A build id or a link that can't be read gives no path:
+    /// `build_id`, `sections` and `data` of a section return the error.
     pub fn debug_path(&self, path: &[u8], directory: &[u8], index: u64, text: &mut [u8]) -> Option<(DebugHow, u64)> {
         let DebugCandidate { size, how } = ffi::debug_path(self.input, &self.header, path, directory, index, text).ok()?;
         Some((DebugHow::of(how), size))

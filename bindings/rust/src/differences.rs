@@ -156,7 +156,8 @@ fn rows<'a>(sized: &Sized<'a>) -> Vec<SizePart<'a>> {
 
 /// The parts of two files whose sizes differ, the greatest difference first: sections, segments, the headers and what is in no
 /// part, and with `with_symbols` the symbols of `.symtab`. Parts are matched by kind and name, as in [`size_changes`]; segments
-/// have no names. The differences sum to the difference of the sizes of the files.
+/// have no names. A file whose section headers can't all be read has no sections and no symbols there. The differences sum to
+/// the difference of the sizes of the files.
 pub fn size_diff<'a>(old: &ElfFile<'a>, new: &ElfFile<'a>, with_symbols: bool) -> Result<Vec<PartChange<'a>>, Error> {
     let (old, new) = (Parts::of(old, with_symbols)?, Parts::of(new, with_symbols)?);
     let (mut olds, mut news) = (rows(&old), rows(&new));

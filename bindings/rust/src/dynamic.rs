@@ -59,18 +59,15 @@ impl<'a> ElfFile<'a> {
     /// else of the segment of type PT_DYNAMIC. None if the file has neither.
     pub fn dynamic(&self) -> Result<impl Iterator<Item = Dynamic> + '_, Error> {
         let section = self.sections()?.find(|section| section.type_ == SHT_DYNAMIC);
-        if section.is_none() {
-            begun(self, ffi::dynamic_entries(self.input, &self.header, 0, &mut []))?;
-        }
-        let of_segment = section.is_none().then(|| Batch::<Dynamic, 64>::items(|first, out| ffi::dynamic_entries(self.input, &self.header, first, out)));
+        let of_segment = if section.is_none() { Some(self.entries_of_segment()?) } else { None };
         let of_section = section.map(|section| section.dynamic()).transpose()?;
-        let mut entries = of_section.into_iter().flatten().chain(of_segment.into_iter().flatten());
-        let mut is_last = false;
-        Ok(core::iter::from_fn(move || {
-            let entry = if is_last { None } else { entries.next() };
-            is_last = entry.is_some_and(|entry| entry.tag == DT_NULL);
-            entry
-        }))
+        Ok(up_to_null(of_section.into_iter().flatten().chain(of_segment.into_iter().flatten())))
+    }
+
+    // The entries of the segment of type PT_DYNAMIC, those after the entry with tag 0 too.
+    pub(crate) fn entries_of_segment(&self) -> Result<impl Iterator<Item = Dynamic> + '_, Error> {
+        begun(self, ffi::dynamic_entries(self.input, &self.header, 0, &mut []))?;
+        Ok(Batch::<Dynamic, 64>::items(|first, out| ffi::dynamic_entries(self.input, &self.header, first, out)))
     }
 
     /// The symbols of the dynamic segment (DT_SYMTAB), from index 0 on, as many as `dynamic_symbol_count` says; none if
@@ -105,7 +102,8 @@ impl<'a> ElfFile<'a> {
 
     /// The symbol of the dynamic segment that `dlsym` gets by a name, or `dlvsym` by a name and a version; none if there is
     /// none, or no dynamic segment. Of several with the name it is the first without a version (of number 0 or 1), and else
-    /// that of the default version. Each call counts the symbols anew.
+    /// that of the default version. Each call counts the symbols anew; with a version a file made to be slow takes time by its
+    /// symbols times its versions.
     pub fn find_symbol(&self, name: &str, version: Option<&str>) -> Result<Option<DynamicSymbol<'a>>, Error> {
         let version = version.unwrap_or_default();
         let said = match ffi::find_symbol(self.input, &self.header, name.as_bytes(), version.as_bytes()) {
@@ -167,6 +165,16 @@ impl<'a> ElfFile<'a> {
     pub fn version_needs_from(&self, first: u64, out: &mut [Version]) -> Result<usize, Error> {
         ffi::version_needs(self.input, &self.header, first, out).map(|count| count as usize)
     }
+}
+
+// The entries up to that of tag 0 (DT_NULL), which is the last.
+pub(crate) fn up_to_null(mut entries: impl Iterator<Item = Dynamic>) -> impl Iterator<Item = Dynamic> {
+    let mut is_last = false;
+    core::iter::from_fn(move || {
+        let entry = if is_last { None } else { entries.next() };
+        is_last = entry.is_some_and(|entry| entry.tag == DT_NULL);
+        entry
+    })
 }
 
 // The number that bytes are.

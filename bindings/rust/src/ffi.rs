@@ -109,9 +109,9 @@ extern "C" {
     fn xmas_elf_load_image(input: *const u8, input_len: usize, header: *const Header, page: u64, limit: u64,
         loader: u32, image: *mut u8, image_len: usize) -> u32;
     fn xmas_elf_check_image(objects: *const LoadObject<'_>, objects_len: usize, of: u64, page: u64, limit: u64,
-        marks: *mut u8, marks_len: usize) -> u32;
+        marks: *mut u8, marks_len: usize, failed: *mut u64) -> u32;
     fn xmas_elf_relocate(objects: *const LoadObject<'_>, objects_len: usize, of: u64, lazy: u32, page: u64,
-        limit: u64, image: *mut u8, image_len: usize, count: *mut u64) -> u32;
+        limit: u64, image: *mut u8, image_len: usize, count: *mut u64, failed: *mut u64) -> u32;
     fn xmas_elf_relocate_all(objects: *const LoadObject<'_>, objects_len: usize, lazy: u32, page: u64, limit: u64,
         images: *mut u8, images_len: usize, left: *mut u64, failed: *mut u64) -> u32;
     fn xmas_elf_message(status: u32, out: *mut u8, out_len: usize) -> usize;
@@ -160,7 +160,9 @@ pub(crate) fn check_header(input: &[u8], header: &Header) -> Result<(), Error> {
     result_of(status, ())
 }
 
-/// The numbers of sections and segments that the file claims; its tables may be cut off before. It returns no error.
+/// The numbers of sections and segments that the file claims; its tables may be cut off before. If the ELF header has
+/// the number 0 and an `sh_offset`, the number of sections is in section 0, and 0 if that is missing: `section` at
+/// index 0 then returns the reason. It returns no error.
 pub(crate) fn counts(input: &[u8], header: &Header) -> Result<Counts, Error> {
     let mut out = Counts::default();
     // SAFETY: see the head of this file.
@@ -206,7 +208,9 @@ pub(crate) fn sections(input: &[u8], header: &Header, first: u64, out: &mut [Sec
 }
 
 /// The first section with a name. A section of type 19 (SHT_RELR), or whose name can't be read, is skipped, and a
-/// name that is not UTF-8 is never found. Errors: `NotFound`.
+/// name that is not UTF-8 is never found. The call compares `name` with the names of the sections up to the one that
+/// it finds, each as far as they are equal: in a file made to be slow the time is sections times the size of `name`.
+/// Errors: `NotFound`.
 pub(crate) fn find_section(input: &[u8], header: &Header, name: &[u8]) -> Result<SectionHeader, Error> {
     let mut out = SectionHeader::default();
     // SAFETY: see the head of this file.
@@ -215,8 +219,9 @@ pub(crate) fn find_section(input: &[u8], header: &Header, name: &[u8]) -> Result
     result_of(status, out)
 }
 
-/// The index of the first section with a name: that of the section that `find_section` gives, which takes less time.
-/// Errors: `NotFound`.
+/// The index of the first section with a name: that of the section that `find_section` gives, which takes less time:
+/// this call reads the whole name of each section up to that one, so where sections share one long name the time is
+/// their number times its size. Errors: `NotFound`.
 pub(crate) fn find_section_index(input: &[u8], header: &Header, name: &[u8]) -> Result<u64, Error> {
     let mut out = u64::default();
     // SAFETY: see the head of this file.
@@ -238,7 +243,8 @@ pub(crate) fn section_data(input: &[u8], header: &Header, index: u64) -> Result<
 
 /// The ranges of the names of sections from index `first` on, each with a status of its own, without the zero bytes
 /// that end them. They are UTF-8. A section of any type has a name. The call gives as many names as `sections` gives
-/// headers. Errors: `NoRecord`. Errors of a record, in the order of the tests: `ReservedIndex`, `ShortSectionHeader`,
+/// headers. It reads each name to its end: where sections share one long name, the time is their number times its
+/// size. Errors: `NoRecord`. Errors of a record, in the order of the tests: `ReservedIndex`, `ShortSectionHeader`,
 /// `ShortSectionOffset`, `TextStart`, `TextEnd`, `TextUtf8`.
 pub(crate) fn section_names(input: &[u8], header: &Header, first: u64, out: &mut [Name]) -> Result<u64, Error> {
     let mut count = u64::default();
@@ -321,7 +327,8 @@ pub(crate) fn symbols(input: &[u8], table: &SymbolTable, first: u64, out: &mut [
 
 /// The ranges of the names of these symbols, each with a status of its own: the texts at each symbol's `name` in the
 /// string table. The call gives as many names as `symbols` gives symbols. If `strings_status` of the table is not 0,
-/// it is the status of each name; `DataRange` is for a string table that does not lie in the input. Errors, in the
+/// it is the status of each name; `DataRange` is for a string table that does not lie in the input. The call reads
+/// each name to its end: where symbols share one long name, the time is their number times its size. Errors, in the
 /// order of the tests: `DataRange`, `NotMultiple`, `NoRecord`. Errors of a record, in the order of the tests:
 /// `DataRange`, `TextStart`, `TextEnd`, `TextUtf8`.
 pub(crate) fn symbol_names(input: &[u8], table: &SymbolTable, first: u64, out: &mut [Name]) -> Result<u64, Error> {
@@ -383,8 +390,8 @@ pub(crate) fn dynamics(input: &[u8], header: &Header, section: u64, first: u64,
 }
 
 /// The dynamic entries of the last segment of type PT_DYNAMIC from index `first` on, also those after the entry with
-/// tag 0. No section header is needed. Errors, in the order of the tests: `LinkNoDynamic`, `LinkAddress`,
-/// `DataRange`, `UnknownClass`, `NotMultiple`, `NoRecord`.
+/// tag 0. No section header is needed. Each call reads all program headers, so give room for many. Errors, in the
+/// order of the tests: `LinkNoDynamic`, `LinkAddress`, `DataRange`, `UnknownClass`, `NotMultiple`, `NoRecord`.
 pub(crate) fn dynamic_entries(input: &[u8], header: &Header, first: u64, out: &mut [Dynamic]) -> Result<u64, Error> {
     let mut count = u64::default();
     // SAFETY: see the head of this file.
@@ -431,8 +438,8 @@ pub(crate) fn note(input: &[u8], header: &Header, part: &Range, align: u64) -> R
 }
 
 /// The range of the file bytes for addresses `address .. address + count`: those of the last PT_LOAD segment that has
-/// them all. No section header is needed. Of a segment without file bytes the offset is 0. Errors, in the order of
-/// the tests: `LinkAddress`, `DataRange`.
+/// them all. No section header is needed. Of a segment without file bytes the offset is 0. Each call reads all
+/// program headers. Errors, in the order of the tests: `LinkAddress`, `DataRange`.
 pub(crate) fn bytes_at(input: &[u8], header: &Header, address: u64, count: u64) -> Result<Range, Error> {
     let mut out = Range::default();
     // SAFETY: see the head of this file.
@@ -445,7 +452,8 @@ pub(crate) fn bytes_at(input: &[u8], header: &Header, address: u64, count: u64) 
 /// needs, for 14 (DT_SONAME) the name of the library, for 29 (DT_RUNPATH) and 15 (DT_RPATH) the folders where the
 /// dynamic linker looks for libraries. The entries are those of the last segment of type PT_DYNAMIC before the entry
 /// with tag 0, so no section header is needed. `NoRecord` is for a tag that no more entries have. Each call reads the
-/// entries from the first on, so give room for all where a file may have many. Errors, in the order of the tests:
+/// entries from the first on, so give room for all where a file may have many. It reads each text to its end: where
+/// entries share one long text, the time is their number times its size. Errors, in the order of the tests:
 /// `LinkNoDynamic`, `LinkAddress`, `DataRange`, `NotMultiple`, `NoRecord`. Errors of a record, in the order of the
 /// tests: `LinkNoEntry`, `LinkAddress`, `DataRange`, `TextStart`, `TextEnd`, `TextUtf8`.
 pub(crate) fn dynamic_texts(input: &[u8], header: &Header, tag: u64, first: u64,
@@ -489,11 +497,13 @@ pub(crate) fn file_symbols_open(input: &[u8], header: &Header) -> Result<SymbolT
 /// own: the first definition with the symbol's number but for the one that names the file, and else the first need
 /// with it. The call gives as many versions as the table of `dynamic_symbols_open` has symbols. `NotFound` is for a
 /// file whose symbols have no versions. Each call counts the symbols anew, so give room for all. A version with a
-/// number of 64 or more is searched for among all definitions and needs, once for each symbol that has it. Errors, in
-/// the order of the tests: `LinkNoDynamic`, `LinkAddress`, `DataRange`, `NotMultiple`, `LinkNoEntry`, `ShortData`,
-/// `LinkShortTable`, `LinkBloomCount`, `LinkChainIndex`, `LinkChainData`, `LinkSymbolIndex`, `NotFound`, `NoRecord`.
-/// Errors of a record, in the order of the tests: `LinkShortVersion`, `LinkVersionCount`, `LinkNoEntry`,
-/// `LinkAddress`, `DataRange`, `TextStart`, `TextEnd`, `TextUtf8`.
+/// number of 64 or more is searched for among all definitions and needs, once for each symbol that has it: in a file
+/// made to be slow the time is symbols times definitions and needs. Names are read to their end for each symbol, also
+/// where many have one version with a long name. Errors, in the order of the tests: `LinkNoDynamic`, `LinkAddress`,
+/// `DataRange`, `NotMultiple`, `LinkNoEntry`, `ShortData`, `LinkShortTable`, `LinkBloomCount`, `LinkChainIndex`,
+/// `LinkChainData`, `LinkSymbolIndex`, `NotFound`, `NoRecord`. Errors of a record, in the order of the tests:
+/// `LinkShortVersion`, `LinkVersionCount`, `LinkNoEntry`, `LinkAddress`, `DataRange`, `TextStart`, `TextEnd`,
+/// `TextUtf8`.
 pub(crate) fn dynamic_symbol_versions(input: &[u8], header: &Header, first: u64,
     out: &mut [Version]) -> Result<u64, Error> {
     let mut count = u64::default();
@@ -505,7 +515,8 @@ pub(crate) fn dynamic_symbol_versions(input: &[u8], header: &Header, first: u64,
 
 /// The versions that the file defines (DT_VERDEF) from index `first` on, in their order, each with a status of its
 /// own: a record that is cut off is the last one. No section header is needed. Each call reads the records from the
-/// first on, so give room for all. Errors, in the order of the tests: `LinkNoDynamic`, `LinkAddress`, `DataRange`,
+/// first on, so give room for all. It reads each name to its end: where records share one long name, the time is
+/// their number times its size. Errors, in the order of the tests: `LinkNoDynamic`, `LinkAddress`, `DataRange`,
 /// `NotMultiple`, `NoRecord`. Errors of a record, in the order of the tests: `LinkShortVersion`, `LinkNoEntry`,
 /// `LinkAddress`, `DataRange`, `TextStart`, `TextEnd`, `TextUtf8`.
 pub(crate) fn version_definitions(input: &[u8], header: &Header, first: u64,
@@ -518,9 +529,10 @@ pub(crate) fn version_definitions(input: &[u8], header: &Header, first: u64,
 }
 
 /// The versions that the file needs of libraries (DT_VERNEED) from index `first` on, in their order, as
-/// `version_definitions` gives the others. Errors, in the order of the tests: `LinkNoDynamic`, `LinkAddress`,
-/// `DataRange`, `NotMultiple`, `NoRecord`. Errors of a record, in the order of the tests: `LinkShortVersion`,
-/// `LinkVersionCount`, `LinkNoEntry`, `LinkAddress`, `DataRange`, `TextStart`, `TextEnd`, `TextUtf8`.
+/// `version_definitions` gives the others, and at the same cost. Errors, in the order of the tests: `LinkNoDynamic`,
+/// `LinkAddress`, `DataRange`, `NotMultiple`, `NoRecord`. Errors of a record, in the order of the tests:
+/// `LinkShortVersion`, `LinkVersionCount`, `LinkNoEntry`, `LinkAddress`, `DataRange`, `TextStart`, `TextEnd`,
+/// `TextUtf8`.
 pub(crate) fn version_needs(input: &[u8], header: &Header, first: u64, out: &mut [Version]) -> Result<u64, Error> {
     let mut count = u64::default();
     // SAFETY: see the head of this file.
@@ -535,11 +547,13 @@ pub(crate) fn version_needs(input: &[u8], header: &Header, first: u64, out: &mut
 /// if there is exactly one. A symbol counts if it has a value, or is absolute or thread-local, and a type that
 /// linkers use: also one that is not defined and has a value. The symbol is found only if other files can use it: its
 /// binding is global, weak or unique, and its visibility the default or protected. If no symbol is found, that is no
-/// error. Each call counts the symbols of the dynamic segment anew; for many names `look_ups` is faster, which knows
-/// no versions. Errors, in the order of the tests: `TextUtf8`, `LinkNoDynamic`, `LinkAddress`, `DataRange`,
-/// `NotMultiple`, `LinkNoEntry`, `ShortData`, `LinkShortTable`, `LinkBloomCount`, `LinkChainIndex`, `LinkChainData`,
-/// `LinkSymbolIndex`, `HashData`, `ChainIndex`, `SymbolIndex`, `ChainSum`, `HashCycle`, `LinkShortVersion`,
-/// `LinkVersionCount`, `TextStart`, `TextEnd`.
+/// error. Each call counts the symbols of the dynamic segment anew, and goes along the chain of the name; with a
+/// version it finds that of each symbol with the name, which is searched for among all definitions and needs if its
+/// number is 64 or more. In a file made to be slow the time is symbols times definitions and needs. For many names
+/// `look_ups` is faster, which knows no versions. Errors, in the order of the tests: `TextUtf8`, `LinkNoDynamic`,
+/// `LinkAddress`, `DataRange`, `NotMultiple`, `LinkNoEntry`, `ShortData`, `LinkShortTable`, `LinkBloomCount`,
+/// `LinkChainIndex`, `LinkChainData`, `LinkSymbolIndex`, `HashData`, `ChainIndex`, `SymbolIndex`, `ChainSum`,
+/// `HashCycle`, `LinkShortVersion`, `LinkVersionCount`, `TextStart`, `TextEnd`.
 pub(crate) fn find_symbol(input: &[u8], header: &Header, name: &[u8], version: &[u8]) -> Result<FoundSymbol, Error> {
     let mut out = FoundSymbol::default();
     // SAFETY: see the head of this file.
@@ -554,10 +568,11 @@ pub(crate) fn find_symbol(input: &[u8], header: &Header, name: &[u8], version: &
 /// error. In a table that does not pass `check_hash`, a look-up may return an error or miss a symbol; it reads no
 /// more chain entries than the table has. `DataRange` is for a range that passes the end of `names`. Any table may be
 /// given: the call compares its ranges with the input. `symbols` gives a symbol by its index, for the `symbols` of
-/// the table. `names` may be another file, and the ranges those of the names of its symbols. Errors of a record, in
-/// the order of the tests: `DataRange`, `TextUtf8`, `ShortData`, `LinkShortTable`, `LinkBloomCount`, `NotMultiple`,
-/// `HashData`, `ChainIndex`, `SymbolIndex`, `ChainSum`, `HashCycle`, `LinkChainIndex`, `LinkSymbolIndex`,
-/// `LinkChainData`.
+/// the table. `names` may be another file, and the ranges those of the names of its symbols. A look-up takes time by
+/// the chain of its name: in a file made to be slow one chain has all symbols, and the time of a call is names times
+/// symbols. Errors of a record, in the order of the tests: `DataRange`, `TextUtf8`, `ShortData`, `LinkShortTable`,
+/// `LinkBloomCount`, `NotMultiple`, `HashData`, `ChainIndex`, `SymbolIndex`, `ChainSum`, `HashCycle`,
+/// `LinkChainIndex`, `LinkSymbolIndex`, `LinkChainData`.
 pub(crate) fn look_ups(input: &[u8], table: &FoundTable, names: &[u8], ranges: &[Range], out: &mut [Answer]) {
     // SAFETY: see the head of this file.
     unsafe { xmas_elf_look_ups(input.as_ptr(), input.len(), table, names.as_ptr(), names.len(), ranges.as_ptr(),
@@ -579,11 +594,12 @@ pub(crate) fn hash_open(input: &[u8], header: &Header, section: u64) -> Result<F
 
 /// Checks a hash table that `hash_open` found. If it is OK, look-ups return no error for the table, and each finds a
 /// symbol if one that is not local has the name; in GNU's table one from its first on that is defined. Call it once
-/// before many look-ups. GNU's table takes one pass over the table and one over the symbols and their names; a table
-/// of the other kind that was made to be slow takes a few nanoseconds times the product of its buckets and chains.
-/// Errors, in the order of the tests: `DataRange`, `ShortData`, `LinkShortTable`, `LinkBloomCount`, `NotMultiple`,
-/// `HashData`, `ChainIndex`, `SymbolIndex`, `ChainSum`, `HashCycle`, `LinkChainIndex`, `LinkSymbolIndex`,
-/// `LinkChainData`, `HashMissing`, `LinkMissing`.
+/// before many look-ups. GNU's table takes one pass over the table and one over the symbols and their names: where
+/// symbols share one long name, the time is their number times its size. So does a table of the other kind whose
+/// buckets share no chain; one that was made to be slow takes a few nanoseconds times the sum of its buckets, chains
+/// and symbols times the lesser of chains and symbols. Errors, in the order of the tests: `DataRange`, `ShortData`,
+/// `LinkShortTable`, `LinkBloomCount`, `NotMultiple`, `HashData`, `ChainIndex`, `SymbolIndex`, `ChainSum`,
+/// `HashCycle`, `LinkChainIndex`, `LinkSymbolIndex`, `LinkChainData`, `HashMissing`, `LinkMissing`.
 pub(crate) fn check_hash(input: &[u8], table: &FoundTable) -> Result<(), Error> {
     // SAFETY: see the head of this file.
     let status = unsafe { xmas_elf_check_hash(input.as_ptr(), input.len(), table) };
@@ -597,8 +613,9 @@ pub(crate) fn check_hash(input: &[u8], table: &FoundTable) -> Result<(), Error> 
 /// symbols' section, of size 0 where there is none; `within` is the index of a section whose symbols alone are asked
 /// for, as in an object file, where values are offsets in sections, and else 0. A symbol names addresses if it is in
 /// a section, has no type or is a function or an object, and has a name; labels that assemblers make and mapping
-/// symbols don't. It takes time n log n for n symbols. `words` and `numbers` are changed in no call that is not OK.
-/// Errors, in the order of the tests: `DataRange`, `NotMultiple`, `IndexManySymbols`, `IndexFewWords`.
+/// symbols don't. It reads all symbols of the table, with `within` those of other sections too, and takes time n log
+/// n for the n that are in the index. `words` and `numbers` are changed in no call that is not OK. Errors, in the
+/// order of the tests: `DataRange`, `NotMultiple`, `IndexManySymbols`, `IndexFewWords`.
 pub(crate) fn address_index(input: &[u8], header: &Header, table: &SymbolTable, indices: &Range, within: u32,
     words: &mut [u32], numbers: &mut [u64]) -> Result<AddressIndex, Error> {
     let mut out = AddressIndex::default();
@@ -612,9 +629,9 @@ pub(crate) fn address_index(input: &[u8], header: &Header, table: &SymbolTable, 
 /// covers `size` addresses from its `value` on, and with size 0 its value alone. Of several that cover an address,
 /// one with a size comes first, then the one that begins last, the smallest, a function before an object, a global
 /// one before a weak one before a local one, and the first of the table. If no symbol covers an address, that is no
-/// error. A question takes time log n for n symbols. With other words or numbers than those of `address_index` a
-/// symbol may be missed, and one that is found covers the address, but may be one that names none. Errors, in the
-/// order of the tests: `DataRange`, `NotMultiple`.
+/// error. The time of a question grows with the square of log n for n symbols. With other words or numbers than those
+/// of `address_index` it may grow with n, a symbol may be missed, and one that is found covers the address, but may
+/// be one that names none. Errors, in the order of the tests: `DataRange`, `NotMultiple`.
 pub(crate) fn symbols_at(input: &[u8], index: &AddressIndex, words: &[u32], numbers: &[u64], addresses: &[u64],
     out: &mut [FoundAt]) -> Result<(), Error> {
     // SAFETY: see the head of this file.
@@ -646,8 +663,10 @@ pub(crate) fn pieces(input: &[u8], header: &Header, first: u64, words: &mut [u32
 /// finds for it, or that of no symbol. `index` is a record of `address_index`, which may be called without words for
 /// it, with the index of a section as `within`, and `begin` and `end` are the addresses of its first byte and after
 /// its last one; in an object file, 0 and its size. The call takes `words` and `numbers` of the record, and builds
-/// the index in them anew: they may hold anything before and after. Errors, in the order of the tests: `DataRange`,
-/// `NotMultiple`, `IndexManySymbols`, `IndexFewWords`.
+/// the index in them anew: they may hold anything before and after. Each call reads all symbols of the table: a call
+/// for each section of a file takes time by sections times symbols. In a copy of the table that is sorted by section
+/// it takes time by the symbols of the section alone; the page c/README.md has the code. Errors, in the order of the
+/// tests: `DataRange`, `NotMultiple`, `IndexManySymbols`, `IndexFewWords`.
 pub(crate) fn symbol_pieces(input: &[u8], index: &AddressIndex, begin: u64, end: u64, first: u64, words: &mut [u32],
     numbers: &mut [u64], out: &mut [Piece]) -> Result<u64, Error> {
     let mut count = u64::default();
@@ -663,8 +682,9 @@ pub(crate) fn symbol_pieces(input: &[u8], index: &AddressIndex, begin: u64, end:
 /// names and kinds. Each part is in exactly one row, one of an equal size too; parts are matched by kind and name,
 /// the n-th of a name with the n-th. The differences of the sizes sum to the difference of the sums. The call sorts
 /// both lists by kind, name and place, and writes the rows to the front of `changes`, which has room for as many as
-/// both lists have parts; `count` is their number. Without that room nothing is changed. It takes time n log n for n
-/// parts. No two of the three arrays share a byte. Errors: `IndexFewWords`.
+/// both lists have parts; `count` is their number. Without that room nothing is changed. It takes n log n comparisons
+/// for n parts, each with as many bytes as two names have in common. No two of the three arrays share a byte. Errors:
+/// `IndexFewWords`.
 pub(crate) fn size_changes(olds: &mut [SizePart<'_>], news: &mut [SizePart<'_>],
     changes: &mut [SizeChange]) -> Result<u64, Error> {
     let mut count = u64::default();
@@ -679,7 +699,8 @@ pub(crate) fn size_changes(olds: &mut [SizePart<'_>], news: &mut [SizePart<'_>],
 /// .gnu_debuglink: in the folder of the file, in `.debug` there, and, if `path` begins with a slash, in the same
 /// folder under `directory`. Ask from index 0 on; `NoRecord` means that there are no more. It writes the bytes of the
 /// path to the front of `text`, as many as fit, without a zero byte at the end, and the number of all to `size` of
-/// `out`. A candidate that is there passes `check_debug`, or is another file's. Errors: `NoRecord`.
+/// `out`. A candidate that is there passes `check_debug`, or is another file's. A build id or a link that can't be
+/// read gives no path. Each call searches the sections of the file anew. Errors: `NoRecord`.
 pub(crate) fn debug_path(input: &[u8], header: &Header, path: &[u8], directory: &[u8], index: u64,
     text: &mut [u8]) -> Result<DebugCandidate, Error> {
     let mut out = DebugCandidate::default();
@@ -709,12 +730,13 @@ pub(crate) fn debug_crc(bytes: &[u8]) -> Result<u32, Error> {
     result_of(status, out)
 }
 
-/// Whether Linux and glibc load a file, and what they put into memory for it. `page` is the size of a page, a power
-/// of two; 0 means 4096. `limit` is the end of the addresses that a loader may use; 0 means that of Linux: 0xffffe000
-/// for a file of class 32, 0x1000000000000 for one of class 64 for AArch64, and else 0x7ffffffff000, that of x86-64.
-/// The load segments are those of type PT_LOAD. Errors, in the order of the tests: `LoadType`, `LoadEntrySize`,
-/// `LoadCount`, `LoadTable`, `LoadFileSize`, `LoadEmpty`, `LoadMisaligned`, `LoadAlignment`, `LoadRange`, `LoadData`,
-/// `LoadOverlap`, `LoadZeros`, `LoadNoLoad`, `LoadHeaders`, `LoadInterpreter`, `LoadRelro`, `LoadTls`, `LoadEntry`.
+/// What Linux and glibc put into memory for a file, or why there is no plan. Some files that they load have none:
+/// `check_load` says which they load. `page` is the size of a page, a power of two; 0 means 4096. `limit` is the end
+/// of the addresses that a loader may use; 0 means that of Linux: 0xffffe000 for a file of class 32, 0x1000000000000
+/// for one of class 64 for AArch64, and else 0x7ffffffff000, that of x86-64. The load segments are those of type
+/// PT_LOAD. Errors, in the order of the tests: `LoadType`, `LoadEntrySize`, `LoadCount`, `LoadTable`, `LoadFileSize`,
+/// `LoadEmpty`, `LoadMisaligned`, `LoadAlignment`, `LoadRange`, `LoadData`, `LoadOverlap`, `LoadZeros`, `LoadNoLoad`,
+/// `LoadHeaders`, `LoadInterpreter`, `LoadRelro`, `LoadTls`, `LoadEntry`.
 pub(crate) fn load_plan(input: &[u8], header: &Header, page: u64, limit: u64) -> Result<Plan, Error> {
     let mut out = Plan::default();
     // SAFETY: see the head of this file.
@@ -757,25 +779,29 @@ pub(crate) fn load_image(input: &[u8], header: &Header, page: u64, limit: u64, l
 /// writable unless the file asks for writes elsewhere (DT_TEXTREL), and has no byte in common with one of these
 /// tables or with another word. Of the objects only the files are read. `page` and `limit` are those of `load_plan`,
 /// which each file must pass. `marks` has at least a bit for each byte of the span of the object's plan: its size in
-/// bytes, divided by 8, and one more. What it holds before and after has no meaning. A call takes up to 64 objects;
-/// for more it returns `ManyObjects`. It reads all files before it tests `of`, so `LinkObjectIndex` comes before
-/// errors of the files only where there is no object. A relocation that names a symbol takes a look-up in each file
-/// up to the one that has it. Errors, in the order of the tests: `LinkObjectIndex`, `ManyObjects`, `ShortPart1`,
-/// `NoMagic`, `InvalidClass`, `ShortHeaders`, `LinkNoDynamic`, `LinkAddress`, `DataRange`, `NotMultiple`,
-/// `LinkNoEntry`, `ShortData`, `LinkShortTable`, `LinkBloomCount`, `LinkChainIndex`, `LinkChainData`,
-/// `LinkSymbolIndex`, `LinkUnknownClass`, `LinkNotMultiple`, `LinkRelocationKind`, `SymbolIndex`, `HashData`,
-/// `ChainIndex`, `ChainSum`, `HashCycle`, `LinkShortVersion`, `LinkVersionCount`, `TextStart`, `TextEnd`, `TextUtf8`,
-/// `LoadType`, `LoadEntrySize`, `LoadCount`, `LoadTable`, `LoadFileSize`, `LoadEmpty`, `LoadMisaligned`,
+/// bytes, divided by 8, and one more. What it holds before and after has no meaning. If a call is not OK, `failed` is
+/// the index of the object with the error: that of the first file that can't be read or has no plan, else `of`. It is
+/// unchanged where none has it: with no object or none at `of` (`LinkObjectIndex`), with more than 64
+/// (`ManyObjects`), and where `marks` is too short (`LoadFewMarks`). A call takes up to 64 objects; for more it
+/// returns `ManyObjects`. It reads all files before it tests `of`, so `LinkObjectIndex` comes before errors of the
+/// files only where there is no object. A relocation that names a symbol takes a look-up in each file up to the one
+/// that has it, as `find_symbol` does after its count, and each word a pass over program headers: in files made to be
+/// slow the time is relocations times what these take. Errors, in the order of the tests: `LinkObjectIndex`,
+/// `ManyObjects`, `ShortPart1`, `NoMagic`, `InvalidClass`, `ShortHeaders`, `LinkNoDynamic`, `LinkAddress`,
+/// `DataRange`, `NotMultiple`, `LinkNoEntry`, `ShortData`, `LinkShortTable`, `LinkBloomCount`, `LinkChainIndex`,
+/// `LinkChainData`, `LinkSymbolIndex`, `LinkUnknownClass`, `LinkNotMultiple`, `LinkRelocationKind`, `SymbolIndex`,
+/// `HashData`, `ChainIndex`, `ChainSum`, `HashCycle`, `LinkShortVersion`, `LinkVersionCount`, `TextStart`, `TextEnd`,
+/// `TextUtf8`, `LoadType`, `LoadEntrySize`, `LoadCount`, `LoadTable`, `LoadFileSize`, `LoadEmpty`, `LoadMisaligned`,
 /// `LoadAlignment`, `LoadRange`, `LoadData`, `LoadOverlap`, `LoadZeros`, `LoadNoLoad`, `LoadHeaders`,
 /// `LoadInterpreter`, `LoadRelro`, `LoadTls`, `LoadEntry`, `LoadDynamic`, `LoadNoEntry`, `LoadNoAddends`,
 /// `LoadAddends`, `LoadNoSlots`, `LoadRelocationSize`, `LoadNotMultiple`, `LoadUnreadable`, `LoadFirstPacked`,
 /// `LoadSlotKind`, `LoadMachine`, `LoadRelativeCount`, `LoadSlotType`, `LoadFewMarks`, `LoadWordType`, `LoadNoSize`,
 /// `LoadCopyKind`, `LoadCallSymbol`, `LoadWordAddress`, `LoadReadOnly`, `LoadWordsOverlap`, `LoadWordInTable`.
-pub(crate) fn check_image(objects: &[LoadObject<'_>], of: u64, page: u64, limit: u64,
-    marks: &mut [u8]) -> Result<(), Error> {
+pub(crate) fn check_image(objects: &[LoadObject<'_>], of: u64, page: u64, limit: u64, marks: &mut [u8],
+    failed: &mut u64) -> Result<(), Error> {
     // SAFETY: see the head of this file.
     let status = unsafe { xmas_elf_check_image(objects.as_ptr(), objects.len(), of, page, limit, marks.as_mut_ptr(),
-        marks.len()) };
+        marks.len(), failed) };
     result_of(status, ())
 }
 
@@ -786,24 +812,29 @@ pub(crate) fn check_image(objects: &[LoadObject<'_>], of: u64, page: u64, limit:
 /// is called first, and any other number where they get them now. Relocate an object whose bytes are copied
 /// (R_X86_64_COPY) before the one that they are copied to, and give it its image then; `image` shares no byte with
 /// the images of objects. If `check_image` is OK for the object, each byte is that of the one word over it, else that
-/// of the file. If a call is not OK, the words before the first that can't be written are written. A call takes up to
-/// 64 objects; for more it returns `ManyObjects`. It reads all files before it tests `of`, so `LinkObjectIndex` comes
+/// of the file. If a call is not OK, the words before the first that can't be written are written, and `failed` is
+/// the index of the object with the error: that of the first file that can't be read or has no plan, else `of`. It is
+/// unchanged where none has it: with no object or none at `of` (`LinkObjectIndex`), with more than 64
+/// (`ManyObjects`), and where `image` is not of the size of the span (`LoadImageSize`). A call takes up to 64
+/// objects; for more it returns `ManyObjects`. It reads all files before it tests `of`, so `LinkObjectIndex` comes
 /// before errors of the files only where there is no object. A relocation that names a symbol takes a look-up in each
-/// file up to the one that has it. It needs about 200 KiB of stack. Errors, in the order of the tests:
-/// `LinkObjectIndex`, `ManyObjects`, `ShortPart1`, `NoMagic`, `InvalidClass`, `ShortHeaders`, `LinkNoDynamic`,
-/// `LinkAddress`, `DataRange`, `NotMultiple`, `LinkNoEntry`, `ShortData`, `LinkShortTable`, `LinkBloomCount`,
-/// `LinkChainIndex`, `LinkChainData`, `LinkSymbolIndex`, `LinkUnknownClass`, `LinkNotMultiple`, `LinkRelocationKind`,
-/// `SymbolIndex`, `HashData`, `ChainIndex`, `ChainSum`, `HashCycle`, `LinkShortVersion`, `LinkVersionCount`,
-/// `TextStart`, `TextEnd`, `TextUtf8`, `LoadType`, `LoadEntrySize`, `LoadCount`, `LoadTable`, `LoadFileSize`,
-/// `LoadEmpty`, `LoadMisaligned`, `LoadAlignment`, `LoadRange`, `LoadData`, `LoadOverlap`, `LoadZeros`, `LoadNoLoad`,
-/// `LoadHeaders`, `LoadInterpreter`, `LoadRelro`, `LoadTls`, `LoadEntry`, `LoadImageSize`, `LoadWordType`,
-/// `LoadNoSize`, `LoadCopyKind`, `LoadCallSymbol`, `LoadUnresolved`, `LoadWordAddress`, `LoadCopySource`.
-pub(crate) fn relocate(objects: &[LoadObject<'_>], of: u64, lazy: u32, page: u64, limit: u64,
-    image: &mut [u8]) -> Result<u64, Error> {
+/// file up to the one that has it, as `find_symbol` does after its count, and each word a pass over program headers:
+/// in files made to be slow the time is relocations times what these take. It needs about 200 KiB of stack. Errors,
+/// in the order of the tests: `LinkObjectIndex`, `ManyObjects`, `ShortPart1`, `NoMagic`, `InvalidClass`,
+/// `ShortHeaders`, `LinkNoDynamic`, `LinkAddress`, `DataRange`, `NotMultiple`, `LinkNoEntry`, `ShortData`,
+/// `LinkShortTable`, `LinkBloomCount`, `LinkChainIndex`, `LinkChainData`, `LinkSymbolIndex`, `LinkUnknownClass`,
+/// `LinkNotMultiple`, `LinkRelocationKind`, `SymbolIndex`, `HashData`, `ChainIndex`, `ChainSum`, `HashCycle`,
+/// `LinkShortVersion`, `LinkVersionCount`, `TextStart`, `TextEnd`, `TextUtf8`, `LoadType`, `LoadEntrySize`,
+/// `LoadCount`, `LoadTable`, `LoadFileSize`, `LoadEmpty`, `LoadMisaligned`, `LoadAlignment`, `LoadRange`, `LoadData`,
+/// `LoadOverlap`, `LoadZeros`, `LoadNoLoad`, `LoadHeaders`, `LoadInterpreter`, `LoadRelro`, `LoadTls`, `LoadEntry`,
+/// `LoadImageSize`, `LoadWordType`, `LoadNoSize`, `LoadCopyKind`, `LoadCallSymbol`, `LoadUnresolved`,
+/// `LoadWordAddress`, `LoadCopySource`.
+pub(crate) fn relocate(objects: &[LoadObject<'_>], of: u64, lazy: u32, page: u64, limit: u64, image: &mut [u8],
+    failed: &mut u64) -> Result<u64, Error> {
     let mut count = u64::default();
     // SAFETY: see the head of this file.
     let status = unsafe { xmas_elf_relocate(objects.as_ptr(), objects.len(), of, lazy, page, limit,
-        image.as_mut_ptr(), image.len(), &mut count) };
+        image.as_mut_ptr(), image.len(), &mut count, failed) };
     result_of(status, count)
 }
 
@@ -817,16 +848,17 @@ pub(crate) fn relocate(objects: &[LoadObject<'_>], of: u64, lazy: u32, page: u64
 /// where none has it: with no object (`LinkObjectIndex`), with more than 64 (`ManyObjects`), and where `images` is
 /// not of the size of all images (`LoadImageSize`). Of errors of words the last object with one counts: then the
 /// objects after it are relocated, and its words before the first that can't be written are written. Otherwise
-/// `images` is unchanged. A relocation that names a symbol takes a look-up in each file up to the one that has it. It
-/// needs about 200 KiB of stack. Errors, in the order of the tests: `LinkObjectIndex`, `ManyObjects`, `ShortPart1`,
-/// `NoMagic`, `InvalidClass`, `ShortHeaders`, `LinkNoDynamic`, `LinkAddress`, `DataRange`, `NotMultiple`,
-/// `LinkNoEntry`, `ShortData`, `LinkShortTable`, `LinkBloomCount`, `LinkChainIndex`, `LinkChainData`,
-/// `LinkSymbolIndex`, `LinkUnknownClass`, `LinkNotMultiple`, `LinkRelocationKind`, `SymbolIndex`, `HashData`,
-/// `ChainIndex`, `ChainSum`, `HashCycle`, `LinkShortVersion`, `LinkVersionCount`, `TextStart`, `TextEnd`, `TextUtf8`,
-/// `LoadType`, `LoadEntrySize`, `LoadCount`, `LoadTable`, `LoadFileSize`, `LoadEmpty`, `LoadMisaligned`,
-/// `LoadAlignment`, `LoadRange`, `LoadData`, `LoadOverlap`, `LoadZeros`, `LoadNoLoad`, `LoadHeaders`,
-/// `LoadInterpreter`, `LoadRelro`, `LoadTls`, `LoadEntry`, `LoadImageSize`, `LoadWordType`, `LoadNoSize`,
-/// `LoadCopyKind`, `LoadCallSymbol`, `LoadUnresolved`, `LoadWordAddress`, `LoadCopySource`.
+/// `images` is unchanged. A relocation that names a symbol takes a look-up in each file up to the one that has it, as
+/// `find_symbol` does after its count, and each word a pass over program headers: in files made to be slow the time
+/// is relocations times what these take. It needs about 200 KiB of stack. Errors, in the order of the tests:
+/// `LinkObjectIndex`, `ManyObjects`, `ShortPart1`, `NoMagic`, `InvalidClass`, `ShortHeaders`, `LinkNoDynamic`,
+/// `LinkAddress`, `DataRange`, `NotMultiple`, `LinkNoEntry`, `ShortData`, `LinkShortTable`, `LinkBloomCount`,
+/// `LinkChainIndex`, `LinkChainData`, `LinkSymbolIndex`, `LinkUnknownClass`, `LinkNotMultiple`, `LinkRelocationKind`,
+/// `SymbolIndex`, `HashData`, `ChainIndex`, `ChainSum`, `HashCycle`, `LinkShortVersion`, `LinkVersionCount`,
+/// `TextStart`, `TextEnd`, `TextUtf8`, `LoadType`, `LoadEntrySize`, `LoadCount`, `LoadTable`, `LoadFileSize`,
+/// `LoadEmpty`, `LoadMisaligned`, `LoadAlignment`, `LoadRange`, `LoadData`, `LoadOverlap`, `LoadZeros`, `LoadNoLoad`,
+/// `LoadHeaders`, `LoadInterpreter`, `LoadRelro`, `LoadTls`, `LoadEntry`, `LoadImageSize`, `LoadWordType`,
+/// `LoadNoSize`, `LoadCopyKind`, `LoadCallSymbol`, `LoadUnresolved`, `LoadWordAddress`, `LoadCopySource`.
 pub(crate) fn relocate_all(objects: &[LoadObject<'_>], lazy: u32, page: u64, limit: u64, images: &mut [u8],
     failed: &mut u64) -> Result<u64, Error> {
     let mut left = u64::default();
@@ -845,9 +877,10 @@ pub(crate) fn message(status: u32, out: &mut [u8]) -> usize {
 
 /// The names of the libraries that a file asks for (DT_NEEDED, DT_AUXILIARY, DT_FILTER) from index `first` on, in the
 /// order of their entries. `expand` replaces their tokens. No section header is needed. Each call reads the entries
-/// from the first on. Errors, in the order of the tests: `LinkNoDynamic`, `LinkAddress`, `DataRange`, `NotMultiple`,
-/// `NoRecord`. Errors of a record, in the order of the tests: `LinkNoEntry`, `LinkAddress`, `DataRange`, `TextStart`,
-/// `TextEnd`, `TextUtf8`.
+/// from the first on, so give room for all, and each name to its end: where entries share one long name, the time is
+/// their number times its size. Errors, in the order of the tests: `LinkNoDynamic`, `LinkAddress`, `DataRange`,
+/// `NotMultiple`, `NoRecord`. Errors of a record, in the order of the tests: `LinkNoEntry`, `LinkAddress`,
+/// `DataRange`, `TextStart`, `TextEnd`, `TextUtf8`.
 pub(crate) fn needed_names(input: &[u8], header: &Header, first: u64, out: &mut [NeededName]) -> Result<u64, Error> {
     let mut count = u64::default();
     // SAFETY: see the head of this file.
@@ -898,11 +931,11 @@ pub(crate) fn check_library(input: &[u8], header: &Header) -> Result<(), Error> 
 }
 
 /// Whether one loader maps a file. `loader` is 1 for glibc, which maps libraries; any other number for Linux, which
-/// maps a program. `page` and `limit` are those of `load_plan`, whose list is stricter than that of each loader.
-/// Errors, in the order of the tests: `LoadByteOrder`, `LoadIdentVersion`, `LoadOsAbi`, `LoadAbiVersion`,
-/// `LoadPadding`, `LoadVersion`, `LoadType`, `LoadEntrySize`, `LoadCount`, `LoadTable`, `LoadMisaligned`,
-/// `LoadNoLoad`, `LoadExecutable`, `LoadRange`, `LoadData`, `LoadOverlap`, `LoadFileSize`, `LoadInterpreter`,
-/// `LoadEmpty`, `LoadEntry`, `LoadNoDynamic`, `LoadRelro`, `LoadTls`.
+/// maps a program. `page` and `limit` are those of `load_plan`, whose list of errors is another: some files that load
+/// have no plan. Errors, in the order of the tests: `LoadByteOrder`, `LoadIdentVersion`, `LoadOsAbi`,
+/// `LoadAbiVersion`, `LoadPadding`, `LoadVersion`, `LoadType`, `LoadEntrySize`, `LoadCount`, `LoadTable`,
+/// `LoadMisaligned`, `LoadNoLoad`, `LoadExecutable`, `LoadRange`, `LoadData`, `LoadOverlap`, `LoadFileSize`,
+/// `LoadInterpreter`, `LoadEmpty`, `LoadEntry`, `LoadNoDynamic`, `LoadRelro`, `LoadTls`.
 pub(crate) fn check_load(input: &[u8], header: &Header, page: u64, limit: u64, loader: u32) -> Result<(), Error> {
     // SAFETY: see the head of this file.
     let status = unsafe { xmas_elf_check_load(input.as_ptr(), input.len(), header, page, limit, loader) };
@@ -911,7 +944,9 @@ pub(crate) fn check_load(input: &[u8], header: &Header, page: u64, limit: u64, l
 
 /// The bytes of a text with its dynamic string tokens replaced by their values, from byte `first` on.
 /// `SearchEmptyToken` if a value is not known: an element of a list then drops out, and an object whose needed name
-/// has it is not loaded. Errors, in the order of the tests: `SearchEmptyToken`, `NoRecord`.
+/// has it is not loaded. Each call goes over the bytes from the first on, so give room for all: they may be as many
+/// as the tokens of the text times the size of a value. Errors, in the order of the tests: `SearchEmptyToken`,
+/// `NoRecord`.
 pub(crate) fn expand(text: &[u8], tokens: &Tokens<'_>, first: u64, out: &mut [u8]) -> Result<u64, Error> {
     let mut count = u64::default();
     // SAFETY: see the head of this file.
@@ -948,8 +983,11 @@ pub(crate) fn candidate_paths(search: &SearchFor<'_>, askers: &[SearchAsker<'_>]
 }
 
 /// The path that a machine gets for a name from the cache of these bytes (/etc/ld.so.cache), from its byte `first`
-/// on. Any bytes may be given. The loader of glibc goes on without a cache where it can't be read. Errors, in the
-/// order of the tests: `SearchNotACache`, `SearchCacheCount`, `SearchCacheOrder`, `NotFound`, `NoRecord`.
+/// on. Any bytes may be given. The loader of glibc goes on without a cache where it can't be read. Each call searches
+/// anew, so give room for the whole path. It compares `name` with the keys of a binary search and of the entries
+/// around it with an equal key, and reads a key of zeros to its end: in a cache made to be slow the time is entries
+/// times the size of a key. Errors, in the order of the tests: `SearchNotACache`, `SearchCacheCount`,
+/// `SearchCacheOrder`, `NotFound`, `NoRecord`.
 pub(crate) fn cache_path(cache: &[u8], name: &[u8], machine: &CacheMachine<'_>, first: u64,
     out: &mut [u8]) -> Result<u64, Error> {
     let mut count = u64::default();
@@ -964,8 +1002,8 @@ pub(crate) fn cache_path(cache: &[u8], name: &[u8], machine: &CacheMachine<'_>, 
 /// next number, and is put at the end of `dependencies`. Without entries of kinds 2 and 3 it is the first of the
 /// first object that was not asked for, so the entries of an object can be asked for one after another; `words` and
 /// `edges` are not used then, and else have 4 words for each object and one for each entry. `NoRecord` if all were
-/// asked for. Each call goes through all entries. Errors, in the order of the tests: `NoRecord`, `SearchNoObject`,
-/// `SearchFewWords`.
+/// asked for. Each call goes through all entries, so a call for each of them takes time by the square of their
+/// number. Errors, in the order of the tests: `NoRecord`, `SearchNoObject`, `SearchFewWords`.
 pub(crate) fn next_entry(dependencies: &[Dependencies<'_>], words: &mut [u32],
     edges: &mut [u32]) -> Result<ObjectEntry, Error> {
     let mut out = ObjectEntry::default();
@@ -995,9 +1033,10 @@ pub(crate) fn start_order(dependencies: &[Dependencies<'_>], words: &mut [u32], 
 /// The versions that a file needs of the object that its needs call `name`, and that this object lacks, from index
 /// `first` on, in the order of the needs. `provider` are the bytes of the object, and `provider_header` is its
 /// header. A need of another name has the status `SearchNoProvider`. Each call reads the needs from the first on, and
-/// goes through the definitions of the object for each. Errors, in the order of the tests: `LinkNoDynamic`,
-/// `LinkAddress`, `DataRange`, `NotMultiple`, `NoRecord`. Errors of a record, in the order of the tests:
-/// `SearchNoProvider`, `LinkShortVersion`, `LinkVersionCount`, `LinkNoEntry`, `LinkAddress`, `DataRange`,
+/// goes through the definitions of the object for each: the time is needs times definitions. It reads the names of
+/// definitions with an equal hash number, and those of needs, to their end. Errors, in the order of the tests:
+/// `LinkNoDynamic`, `LinkAddress`, `DataRange`, `NotMultiple`, `NoRecord`. Errors of a record, in the order of the
+/// tests: `SearchNoProvider`, `LinkShortVersion`, `LinkVersionCount`, `LinkNoEntry`, `LinkAddress`, `DataRange`,
 /// `TextStart`, `TextEnd`, `TextUtf8`.
 pub(crate) fn missing_versions(input: &[u8], header: &Header, name: &[u8], provider: &[u8], provider_header: &Header,
     first: u64, out: &mut [LackedVersion]) -> Result<u64, Error> {

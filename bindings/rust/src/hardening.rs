@@ -1,7 +1,8 @@
 //! How a file is hardened, in the words of `checksec`.
 
 use crate::constants::*;
-use crate::{ElfFile, Error};
+use crate::dynamic::up_to_null;
+use crate::{Dynamic, ElfFile, Error, Loader};
 
 /// What is read-only before the program runs.
 #[derive(Clone, Copy, Debug, PartialEq, Eq, Hash)]
@@ -74,30 +75,53 @@ const CANARY: [&str; 3] = ["__stack_chk_fail", "__stack_chk_guard", "__intel_sec
 const X86_FEATURES: u32 = 0xc000_0002;
 const AARCH64_FEATURES: u32 = 0xc000_0000;
 
-// What the dynamic entries say.
+// What the dynamic entries say. Of several with the same tag the last counts.
 #[derive(Clone, Copy, Default)]
 struct Entries {
-    is_bound_now: bool,
-    is_program: bool,
+    are_some: bool,
+    has_bind_now: bool,
+    has_debug: bool,
+    flags: u64,
+    flags_1: u64,
 }
 
 impl Entries {
-    fn of(file: &ElfFile<'_>) -> Result<Entries, Error> {
-        Ok(file.dynamic()?.fold(Entries::default(), |said, entry| Entries {
-            is_bound_now: said.is_bound_now
-                || match entry.tag {
-                    DT_BIND_NOW => true,
-                    DT_FLAGS => entry.value & DF_BIND_NOW != 0,
-                    DT_FLAGS_1 => entry.value & DF_1_NOW != 0,
-                    _ => false,
-                },
-            is_program: said.is_program || entry.tag == DT_DEBUG || entry.tag == DT_FLAGS_1 && entry.value & DF_1_PIE != 0,
-        }))
+    fn of(entries: impl Iterator<Item = Dynamic>) -> Entries {
+        let mut said = Entries::default();
+        for entry in entries {
+            said.are_some = true;
+            match entry.tag {
+                DT_BIND_NOW => said.has_bind_now = true,
+                DT_DEBUG => said.has_debug = true,
+                DT_FLAGS => said.flags = entry.value,
+                DT_FLAGS_1 => said.flags_1 = entry.value,
+                _ => {}
+            }
+        }
+        said
+    }
+
+    // Those of a section, or else of the segment, as far as they can be read.
+    fn readable(file: &ElfFile<'_>) -> Entries {
+        let said = file.dynamic().map(Entries::of).unwrap_or_default();
+        if said.are_some {
+            return said;
+        }
+        file.entries_of_segment().map(|entries| Entries::of(up_to_null(entries))).unwrap_or_default()
+    }
+
+    fn is_bound_now(&self) -> bool {
+        self.has_bind_now || self.flags & DF_BIND_NOW != 0 || self.flags_1 & DF_1_NOW != 0
+    }
+
+    // Whether one of them is there in programs alone.
+    fn is_program(&self) -> bool {
+        self.has_debug || self.flags_1 & DF_1_PIE != 0
     }
 }
 
 // Whether pages are only readable after relocation, and the permissions of the stack: by the plan of the load, or by the
-// program headers of a file that isn't loaded.
+// program headers of a file without a plan.
 fn protection_of(file: &ElfFile<'_>) -> Result<(bool, Option<u32>), Error> {
     if let Ok(plan) = file.load_plan() {
         return Ok((plan.relro().is_some_and(|relro| relro.start < relro.end), plan.stack_flags()));
@@ -139,12 +163,12 @@ fn property_in(mut rest: &[u8], wanted: u32, align: usize, big: bool) -> Option<
 impl<'a> ElfFile<'a> {
     /// How the file is hardened, in the words of `checksec`. An error if a part that it needs can't be read.
     pub fn hardening(&self) -> Result<Hardening<'a>, Error> {
-        let entries = Entries::of(self)?;
+        let entries = self.dynamic().map(Entries::of)?;
         let (has_relro, stack) = protection_of(self)?;
         let x86 = if [EM_X86_64, EM_386].contains(&self.header.machine) { property_bits(self, X86_FEATURES)? } else { 0 };
         let aarch64 = if self.header.machine == EM_AARCH64 { property_bits(self, AARCH64_FEATURES)? } else { 0 };
         Ok(Hardening {
-            relro: match (has_relro, entries.is_bound_now) {
+            relro: match (has_relro, entries.is_bound_now()) {
                 (false, _) => Relro::None,
                 (true, false) => Relro::Partial,
                 (true, true) => Relro::Full,
@@ -153,7 +177,7 @@ impl<'a> ElfFile<'a> {
             nx: stack.is_some_and(|flags| flags & PF_X == 0),
             pie: match self.header.type_ {
                 ET_EXEC => Pie::No,
-                ET_DYN if entries.is_program => Pie::Yes,
+                ET_DYN if entries.is_program() => Pie::Yes,
                 ET_DYN => Pie::SharedObject,
                 ET_REL => Pie::Object,
                 _ => Pie::Other,
@@ -216,8 +240,28 @@ impl<'a> ElfFile<'a> {
         Ok(found)
     }
 
-    /// Whether Linux and glibc load the file, by its header and program headers, or why they don't.
+    /// The loader that [`ElfFile::loads`] asks: glibc about a shared library, which is a file of type ET_DYN with dynamic
+    /// entries, none of which marks a program (DF_1_PIE or DT_DEBUG), also if it has an interpreter, as libc.so.6; and Linux
+    /// about any other file.
+    pub fn loader(&self) -> Loader {
+        let entries = Entries::readable(self);
+        let is_dynamic = entries.are_some || self.readable_segments().any(|segment| segment.type_ == PT_DYNAMIC);
+        if self.header.type_ == ET_DYN && is_dynamic && !entries.is_program() {
+            Loader::Glibc
+        } else {
+            Loader::Linux
+        }
+    }
+
+    /// Whether one loader maps the file, that of [`ElfFile::loader`]: Linux as a program, or glibc as a library that a program
+    /// starts with; or why it doesn't. Its header and program headers decide; libraries and symbols aren't looked for. A file
+    /// that is loaded may have no [`ElfFile::load_plan`]. What glibc tests is known of little-endian libraries; a big-endian
+    /// one must have a plan.
     pub fn loads(&self) -> Result<(), Error> {
-        self.load_plan().map(|_| ())
+        match self.check_load(self.loader()) {
+            // The check of a library is that of glibc on little-endian machines.
+            Err(Error::LoadByteOrder) if self.header.encoding == 2 => self.load_plan().map(|_| ()),
+            said => said,
+        }
     }
 }

@@ -176,7 +176,7 @@ impl<'f, 'a> Section<'f, 'a> {
 pub(crate) fn unless_other<T>(said: Result<T, Error>) -> Result<Option<T>, Error> {
     match said {
         Ok(found) => Ok(Some(found)),
-        Err(Error::OtherData | Error::InvalidShType | Error::NoRecord) => Ok(None),
+        Err(Error::OtherData | Error::InvalidShType | Error::Note32 | Error::NoRecord) => Ok(None),
         Err(error) => Err(error),
     }
 }

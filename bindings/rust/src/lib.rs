@@ -248,7 +248,7 @@ impl<'a> ElfFile<'a> {
         self.name_of(&one(|out| ffi::symbol_names(self.input, table, index, out))?)
     }
 
-    /// The bytes that the file has for so many addresses from one on: those of the first loaded segment that has
+    /// The bytes that the file has for so many addresses from one on: those of the last segment of type PT_LOAD that has
     /// them all. It needs no section header.
     pub fn bytes_at(&self, address: u64, count: u64) -> Result<&'a [u8], Error> {
         Ok(self.bytes(ffi::bytes_at(self.input, &self.header, address, count)?))
@@ -275,8 +275,9 @@ impl<'a> ElfFile<'a> {
         SectionSymbols::new(self)
     }
 
-    /// The plan of a load: whether Linux and glibc load the file, and what they put where. Pages have 4096 bytes, and the
-    /// addresses that a loader may use end where those of Linux on x86-64 end, or on 386 for a file of class 32.
+    /// The plan of a load: what Linux and glibc put where, or why there is none, as of some files that they load
+    /// ([`ElfFile::loads`]). Pages have 4096 bytes, and the addresses that a loader may use end where those of Linux end: on
+    /// x86-64, on AArch64 for its files, and on 386 for a file of class 32.
     pub fn load_plan(&self) -> Result<LoadPlan<'_, 'a>, Error> {
         self.load_plan_with(0, 0)
     }

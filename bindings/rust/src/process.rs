@@ -38,15 +38,16 @@ impl<'a> LoadObject<'a> {
 /// Checks that the words of the object at index `of` can be written before the program runs. Each file must have a plan for this
 /// page size and limit, of which 0 are those of Linux. `marks` has a bit for each byte of the span of its plan: so many bytes as an
 /// eighth of them, and one more.
-pub fn check_image(objects: &[LoadObject<'_>], of: usize, page: u64, limit: u64, marks: &mut [u8]) -> Result<(), Error> {
-    ffi::check_image(objects, of as u64, page, limit, marks)
+pub fn check_image(objects: &[LoadObject<'_>], of: usize, page: u64, limit: u64, marks: &mut [u8]) -> Result<(), ObjectError> {
+    with_object(objects, |failed| ffi::check_image(objects, of as u64, page, limit, marks, failed))
 }
 
 /// Writes the words of the object at index `of` to its image, which [`LoadPlan::fill`](crate::LoadPlan::fill) filled. Each file must
 /// have a plan for this page size and limit, of which 0 are those of Linux. The result is the number of words without a number, which
 /// are left to the caller: results of functions, and descriptors of thread-local storage.
-pub fn relocate(objects: &[LoadObject<'_>], of: usize, when: Binding, page: u64, limit: u64, image: &mut [u8]) -> Result<u64, Error> {
-    ffi::relocate(objects, of as u64, u32::from(when == Binding::Lazy), page, limit, image)
+pub fn relocate(objects: &[LoadObject<'_>], of: usize, when: Binding, page: u64, limit: u64, image: &mut [u8]) -> Result<u64, ObjectError> {
+    let lazy = u32::from(when == Binding::Lazy);
+    with_object(objects, |failed| ffi::relocate(objects, of as u64, lazy, page, limit, image, failed))
 }
 
 /// What can't be read or written of one of several objects.
@@ -69,13 +70,20 @@ impl fmt::Display for ObjectError {
 
 impl core::error::Error for ObjectError {}
 
+/// What a call for these objects returns, which writes the index of the one with the error to its argument, if one has it.
+fn with_object<T>(objects: &[LoadObject<'_>], call: impl FnOnce(&mut u64) -> Result<T, Error>) -> Result<T, ObjectError> {
+    let mut failed = u64::MAX;
+    call(&mut failed).map_err(|error| {
+        let object = usize::try_from(failed).ok().filter(|object| *object < objects.len());
+        ObjectError { error, object }
+    })
+}
+
 /// Writes the words of all objects to their images, those of the last object first, as the dynamic linker does. Each file is read once,
 /// and must have a plan for this page size and limit, of which 0 are those of Linux. `images` are those that
 /// [`LoadPlan::fill`](crate::LoadPlan::fill) filled, one after another in the order of the objects; those of the objects are not read.
 /// The result is the number of words without a number, which are left to the caller.
 pub fn relocate_all(objects: &[LoadObject<'_>], when: Binding, page: u64, limit: u64, images: &mut [u8]) -> Result<u64, ObjectError> {
-    let mut failed = u64::MAX;
-    let answer = ffi::relocate_all(objects, u32::from(when == Binding::Lazy), page, limit, images, &mut failed);
-    let object = usize::try_from(failed).ok().filter(|object| *object < objects.len());
-    answer.map_err(|error| ObjectError { error, object })
+    let lazy = u32::from(when == Binding::Lazy);
+    with_object(objects, |failed| ffi::relocate_all(objects, lazy, page, limit, images, failed))
 }

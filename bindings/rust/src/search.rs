@@ -225,7 +225,7 @@ impl<'a> ElfFile<'a> {
         ffi::check_library(self.input, &self.header)
     }
 
-    /// Whether Linux maps the file as a program, or glibc as a library.
+    /// Whether Linux maps the file as a program, or glibc as a library that a program starts with.
     pub fn check_load(&self, by: crate::Loader) -> Result<(), Error> {
         ffi::check_load(self.input, &self.header, 0, 0, u32::from(by == crate::Loader::Glibc))
     }

@@ -490,7 +490,8 @@ fn words_are_those_of_the_process() {
     let mut image = std::vec![0; (plan.span().end - plan.span().start) as usize];
     assert_eq!(plan.fill(crate::Loader::Linux, &mut image[1..]), Err(Error::LoadImageSize));
     plan.fill(crate::Loader::Linux, &mut image).expect("an image of this size");
-    assert_eq!(crate::check_image(&objects, 0, 0, 0, &mut []), Err(Error::LoadFewMarks));
+    let few = crate::ObjectError { error: Error::LoadFewMarks, object: None };
+    assert_eq!(crate::check_image(&objects, 0, 0, 0, &mut []), Err(few));
     crate::check_image(&objects, 0, 0, 0, &mut std::vec![0; image.len() / 8 + 1]).expect("words that can be written");
     let left = crate::relocate(&objects, 0, crate::Binding::Now, 0, 0, &mut image).expect("all symbols");
     // One call for all objects writes the same to this one.
@@ -525,7 +526,33 @@ fn words_are_those_of_the_process() {
     let words = memory.chunks(8).zip(image[relro.start as usize..].chunks(8)).zip((relro.start..).step_by(8));
     let others = words.filter(|((one, other), at)| one != other && !(dynamic.address..dynamic.address + dynamic.size).contains(at));
     assert!(others.count() as u64 <= left);
-    assert_eq!(crate::relocate(&objects, objects.len(), crate::Binding::Lazy, 0, 0, &mut image), Err(Error::LinkObjectIndex));
+    let none = crate::ObjectError { error: Error::LinkObjectIndex, object: None };
+    assert_eq!(crate::relocate(&objects, objects.len(), crate::Binding::Lazy, 0, 0, &mut image), Err(none));
+}
+
+#[test]
+fn errors_have_the_index_of_their_object() {
+    let own = std::fs::read("/proc/self/exe").expect("a file");
+    let file = crate::ElfFile::new(&own).expect("an ELF file");
+    let span = file.load_plan().expect("it runs").span();
+    let size = (span.end - span.start) as usize;
+    let (mut marks, mut image) = (std::vec![0; size / 8 + 1], std::vec![0; size]);
+    let whole = crate::LoadObject::new(&own);
+    // The words of the object itself: without its libraries it has a symbol that nothing has.
+    let unresolved = crate::ObjectError { error: Error::LoadUnresolved, object: Some(1) };
+    assert_eq!(crate::relocate(&[whole, whole], 1, crate::Binding::Now, 0, 0, &mut image), Err(unresolved));
+    // Another file that can't be read, of whatever object the words are.
+    let short = crate::ObjectError { error: Error::ShortPart1, object: Some(2) };
+    let objects = [whole, whole, crate::LoadObject::new(&own[..3])];
+    for of in 0..4 {
+        assert_eq!(crate::check_image(&objects, of, 0, 0, &mut marks), Err(short));
+        assert_eq!(crate::relocate(&objects, of, crate::Binding::Now, 0, 0, &mut image), Err(short));
+    }
+    // Another that has no plan: its load segments are past the first addresses.
+    let limited = crate::ObjectError { error: Error::LoadRange, object: Some(0) };
+    assert_eq!(crate::check_image(&[whole], 0, 0, 4096, &mut marks), Err(limited));
+    let misfit = crate::ObjectError { error: Error::LoadImageSize, object: None };
+    assert_eq!(crate::relocate(&[whole], 0, crate::Binding::Now, 0, 0, &mut image[1..]), Err(misfit));
 }
 
 #[test]

@@ -1,6 +1,6 @@
 //! Damaged files: every call returns, and each part that it gives lies in the input.
 
-use xmas_elf_proved::constants::SHT_NULL;
+use xmas_elf_proved::constants::{ET_DYN, SHT_NULL};
 use xmas_elf_proved::program::Type;
 use xmas_elf_proved::{Answer, ByteRange, Dynamic, ElfFile, Entry, Error, HashTable, Loader, Name, ProgramHeader, Relocation, Section, SectionHeader, Version, VersionKind};
 
@@ -250,7 +250,19 @@ fn visit_symbol_map(file: &ElfFile<'_>) {
     }
 }
 
-// Mappings of a file that is loaded are not empty, follow each other in the span, and lie in the file.
+// Linux maps each file with a plan. What a loader says is no error that only plans have, but of a big-endian library.
+fn visit_loads(file: &ElfFile<'_>) {
+    let is_library = file.loader() == Loader::Glibc;
+    assert!(file.load_plan().is_err() || file.check_load(Loader::Linux).is_ok());
+    assert!(!is_library || file.header().type_ == ET_DYN);
+    if is_library && file.header().encoding == 2 {
+        return assert_eq!(file.loads().err(), file.load_plan().err());
+    }
+    assert_eq!(file.loads(), file.check_load(file.loader()));
+    assert!(!matches!(file.loads(), Err(Error::LoadAlignment | Error::LoadZeros | Error::LoadHeaders)));
+}
+
+// Mappings of a file with a plan are not empty, follow each other in the span, and lie in the file.
 fn visit_load_plan(file: &ElfFile<'_>) {
     let Ok(plan) = file.load_plan() else {
         return;
@@ -309,7 +321,7 @@ fn visit(input: &[u8]) -> usize {
     visit_load_plan(&file);
     // Of a file whose headers can't be read no word is said.
     assert!(file.hardening().is_err() || file.sections().is_ok() && file.segments().is_ok());
-    assert_eq!(file.loads().err(), file.load_plan().err());
+    visit_loads(&file);
     assert!(file.build_id().ok().flatten().map_or(true, |id| lies_in(input, id)));
     assert!(file.notes().take(200).flatten().all(|note| lies_in(input, note.name) && lies_in(input, note.desc)));
     assert!(file.dynamic().map_or(true, |entries| entries.take(200).count() <= 200));

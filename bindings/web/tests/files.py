@@ -25,6 +25,9 @@ int (*volatile outer)(int) = inner;
 int main(int count, char **words) { return outer(count) + words[0][0]; }
 """
 
+# A program that ends with the status 42, wherever it is.
+MOVED = ".globl _start\n_start: mov $60, %eax\n mov $42, %edi\n syscall\n"
+
 # How programs are linked that are hardened in different ways.
 WAYS = (["-no-pie"], ["-pie", "-Wl,-z,norelro"], ["-Wl,-z,relro,-z,lazy"], ["-Wl,-z,relro,-z,now"], ["-z", "execstack"],
         ["-nostdlib", "-no-pie", "-Wl,-N,-e,main"], ["-fstack-protector-all"], ["-fcf-protection=full", "-static-pie"])
@@ -64,6 +67,17 @@ def programs(room):
 def hardened(room):
     """A program for each way, and an object file."""
     return [compiled(room / f"hardened-{index}.elf", "int main(void) { return 0; }\n", *words) for index, words in enumerate([*WAYS, ["-c"]])]
+
+
+def packed(room):
+    """A program at any address without dynamic entries, as packers make them. Linux starts it."""
+    plain = room / "plain"
+    command = ["gcc", "-nostdlib", "-static", "-no-pie", "-x", "assembler", "-", "-o", plain]
+    subprocess.run(command, input=MOVED, text=True, check=True)
+    path = changed(room, plain, "packed", lambda data: data[:16] + b"\3" + data[17:])
+    path.chmod(0o755)
+    assert subprocess.run([path]).returncode == 42
+    return path
 
 
 def written(path, data):

@@ -5,7 +5,8 @@
 
 Drops files on the page and compares what it shows with readelf; opens damaged and foreign files, an empty one and one that
 doesn't fit; filters and scrolls a long table; stops work; and goes through the page by the keyboard. FOLDER is a built one,
-bindings/web/out/site where none is given. It needs Debian's selenium and its driver.
+bindings/web/out/site where none is given. N files of the system are compared, 300 where no number is given. It needs Debian's
+selenium and its driver.
 """
 import argparse
 import functools
@@ -20,10 +21,11 @@ import threading
 import time
 
 TOP = pathlib.Path(__file__).resolve().parents[3]
-sys.path[1:1] = [str(TOP / "tools"), str(TOP / "tools" / "compare")]
+sys.path[1:1] = [str(TOP / it) for it in ("tools", "tools/compare", "oracle")]
 import comparing
 import damage
 import files
+import loaders
 import readelf_rows as readelf
 import screenshots
 from chromium import By, Chromium
@@ -171,15 +173,48 @@ def try_hardening(test):
         test.same(f"{path}: hardening", test.page.run(TERMS % "document.querySelectorAll('.hardened dt')"), readelf.hardening(path))
 
 
+BY_LINUX, BY_GLIBC = "By Linux, which starts programs", "By glibc, which loads shared libraries"
+LOADS = "(() => { const it = document.querySelector('.card.first .facts dd span'); return [it.className, it.textContent, it.title]; })()"
+
+
 def try_loads(test):
-    """Whether the file loads, or why not, is said of each."""
+    """Whether the file loads, or why not, is said of each, and by which loader."""
     cut = files.changed(test.room, LIBC, f"half-{LIBC.name}", lambda data: data[: len(data) // 2])
-    said = {LIBC: ("fine", "yes"), cut: ("bad", "no: Load segment is past the end of the file"),
-            TOP / "crates/elfnm/data/add.o": ("hint", "no: Type is neither executable nor shared object")}
+    program, unlinked = files.programs(test.room)
+    said = {LIBC: ("fine", "yes", BY_GLIBC), cut: ("bad", "no: Load segment is past the end of the file", BY_GLIBC),
+            program: ("fine", "yes", BY_LINUX), files.without_sections(test.room, program): ("fine", "yes", BY_LINUX),
+            files.without_sections(test.room, LIBM): ("fine", "yes", BY_GLIBC), files.packed(test.room): ("fine", "yes", BY_LINUX),
+            unlinked: ("hint", "no: Type is neither executable nor shared object", "")}
     for path, wanted in said.items():
         test.open(path, tab="Overview")
-        shown = "(() => { const it = document.querySelector('.card.first .facts dd span'); return [it.className, it.textContent]; })()"
-        test.same(f"{path}: loads", tuple(test.page.run(shown)), wanted)
+        test.same(f"{path}: loads", tuple(test.page.run(LOADS)), wanted)
+        test.same(f"{path}: pages in memory", test.page.texts(".card.first .facts .weak"), [])
+
+
+# Changes of oracle/loaders.py, each with what the page says where the file isn't loaded, or is loaded without a plan.
+MADE = {"Alignment": "Alignment of a load segment is not a power of two", "Overlap": "Load segment begins before the end of the one before it",
+        "Zeros": "Load segment has zeros but is not readable and writable", "Data": "Load segment is past the end of the file",
+        "FileSize": "Load segment is larger in the file than in memory", "IdentVersion": "Version in the first bytes is not 1",
+        "Misaligned": "Address and offset of a load segment differ modulo the page size",
+        "Misaligned: no bytes": "Address and offset of a load segment differ modulo the page size"}
+
+
+def try_loads_of_made_files(test):
+    """The verdict is what Linux does with a program here, and glibc with a library. Of a file that is loaded, but has no plan, the
+    page says so."""
+    room = loaders.Room(str(test.room), "")
+    changes = {it[0]: it[1] for it in loaders.CASES}
+    for error, name in itertools.product(MADE, ("program", "library")):
+        path = room.changed(changes[error], name).rename(test.room / f"{error} {name}")
+        is_program = name == "program"
+        is_loaded = subprocess.run([path]).returncode == 42 if is_program else loaders.by_glibc(str(path)) == "loaded"
+        test.open(path, tab="Overview")
+        wanted = ["fine", "yes"] if is_loaded else ["bad", f"no: {MADE[error]}"]
+        test.same(f"{error}, {name}: loads", test.page.run(LOADS), [*wanted, BY_LINUX if is_program else BY_GLIBC])
+        has_plan = error == "IdentVersion" or not is_loaded
+        test.same(f"{error}, {name}: pages in memory", test.page.texts(".card.first .facts .weak"), [] if has_plan else [f"not known: {MADE[error]}"])
+        unread = [it for it in test.page.texts(".faults li") if it.startswith("Pages in memory")]
+        test.same(f"{error}, {name}: what can't be read", unread, [] if has_plan else [f"Pages in memory{MADE[error]}"])
 
 
 def try_zeros(test):
@@ -611,7 +646,7 @@ def try_old_browser(test):
 def main():
     parser = argparse.ArgumentParser()
     parser.add_argument("--site", type=pathlib.Path, default=TOP / "bindings/web/out/site")
-    parser.add_argument("--files", type=int, default=50)
+    parser.add_argument("--files", type=int, default=300, help="how many files of the system are compared")
     parser.add_argument("--only", default="")
     parser.add_argument("--screenshots", action="store_true", help="writes the pictures, and compares no others")
     options = parser.parse_args()
