@@ -1,26 +1,40 @@
 #!/usr/bin/env python3
-"""plural.py [SMALL LARGE]: how the time of each plural call of the package for Python, and of the export below it, grows with the file.
+"""How the time of each plural call of the package for Python, with the export below it, and of the other plural exports grows.
 
-Writes files with SMALL and LARGE records of each kind; 2000 and 8000 where no numbers are given. Prints for each call the nanoseconds
-for each of its records in both, and how many times as long one takes in the large file. The status is 1 if that is more than twice
-as long. It needs the package that `tools/exports/python.sh --build` builds."""
+    bench/plural.py [SMALL LARGE]        prints the table: nanoseconds for each record of a call, over files (or lists) with SMALL and
+                                         LARGE records, 2000 and 8000 where no numbers are given, and how many times as long a record
+                                         takes in the large one
+    bench/plural.py --write [--on MACHINE] [SMALL LARGE]
+                                         puts it into docs/COSTS.md too, with the commit and the machine
+
+The status is 1 if a record takes more than twice as long, or twice as long as it may: of the calls of SQUARE the time grows with the
+square of the number of records, as their comments say. It needs the package that `tools/exports/python.sh --build` builds."""
+import argparse
 import ctypes
+import functools
 import pathlib
+import platform
+import re
 import struct
 import subprocess
 import sys
 import tempfile
 import time
+from array import array
 
 HERE = pathlib.Path(__file__).resolve().parent
-sys.path[:0] = [str(HERE.parent / folder) for folder in ("bindings/python", "tools/compare")]
+sys.path[:0] = [str(HERE.parent / folder) for folder in ("bindings/python", "tools/compare", "tools")]
 import damage
 import xmas_elf
+from pages.sources import git
 from xmas_elf import LoadObject, _declarations as declared
-from xmas_elf._archive import library
+from xmas_elf._archive import check, library
+from xmas_elf._search import MISSING, NEEDED, NOT_ASKED, Held
 
 MOST = 2.0
 PAGE = 4096
+BYTE = struct.Struct("@B")
+COSTS, FIRST, LAST = HERE.parent / "docs/COSTS.md", "<!-- plural -->\n", "<!-- /plural -->"
 # The most segments of a plan, whose table has a page.
 MOST_SEGMENTS = 72
 PT_LOAD, PT_DYNAMIC = 1, 2
@@ -41,10 +55,10 @@ def segment(kind: int, start: int, size: int) -> bytes:
     return struct.pack("<IIQQQQQQ", kind, 6, start, start, start, size, size, PAGE if kind == PT_LOAD else 8)
 
 
-def shared(count: int) -> bytes:
+def shared(count: int, letter: bytes = b"f") -> bytes:
     """A shared object without section headers, with so many needed libraries, symbols, versions of both kinds, relocations, and
-    words of packed ones."""
-    names = [b"lib.so", *(b"f%d" % index for index in range(count))]
+    words of packed ones. The names of symbols and versions begin with a letter."""
+    names = [b"lib.so", *(b"%s%d" % (letter, index) for index in range(count))]
     starts = [1]
     for name in names:
         starts.append(starts[-1] + len(name) + 1)
@@ -140,7 +154,7 @@ def records_of(items) -> int:
     return sum(1 for _ in items)
 
 
-# Each call: the file that it reads, the exports that it times, and the number of its records.
+# Each call of the package: the file that it reads, the exports that it times, and the number of its records.
 CALLS = {
     "sections": (sectioned, "sections, section_names", lambda it: records_of(it.sections())),
     "symbols": (sectioned, "symbols, symbol_names", lambda it: records_of(it.symbols())),
@@ -168,12 +182,153 @@ CALLS = {
 }
 
 
-def time_each(call, data: bytes) -> float:
-    """The nanoseconds of processor time for each record of a call over a file that is read anew: the least of five."""
+# The exports that no such call times: each is called with room for all that it writes.
+
+
+def filled(export: str, layout: struct.Struct, room: int, *arguments) -> int:
+    """Has an export write so many records, which are all."""
+    out, count = ctypes.create_string_buffer(room * layout.size), ctypes.c_uint64()
+    check(getattr(library, f"xmas_elf_{export}")(*arguments, 0, out, room, ctypes.byref(count)))
+    assert count.value == room, f"{export}: {count.value} records, not {room}"
+    return room
+
+
+def naming(packed: bytes, held: Held) -> ctypes.Array:
+    """Records, with what keeps the texts that they name."""
+    records = ctypes.create_string_buffer(packed, len(packed))
+    records.held = held
+    return records
+
+
+def needed_names(data: bytes):
+    file = xmas_elf.ElfFile(data)
+    room = len(file.needed)
+    return lambda: filled("needed_names", declared.NEEDED_NAME, room, *file._input)
+
+
+def missing_versions(data: bytes):
+    """Those that a file needs of a library which defines as many others."""
+    file = xmas_elf.ElfFile(data)
+    count, name = len(file.needed), b"lib.so"
+    other = xmas_elf.ElfFile(shared(count, b"g"))
+    return lambda: filled("missing_versions", declared.LACKED_VERSION, count, *file._input, name, len(name), *other._input)
+
+
+def folders_of(count: int) -> list:
+    return [b"/d%d" % it for it in range(count)]
+
+
+def searched(folders: list) -> tuple:
+    """The records of a search for a name in the folders of LD_LIBRARY_PATH alone."""
+    held, texts = Held(), (b"lib.so", b":".join(folders), b"", b"", b"")
+    none = held.text(b"")
+    search = declared.SEARCH_FOR.pack(*(part for it in texts for part in held.text(it)), *held.texts([b""]), *3 * none)
+    return naming(search, held), declared.SEARCH_ASKER.pack(*5 * none, 0, 0), 1
+
+
+def candidates(folders: list):
+    asked = searched(folders)
+    return lambda: filled("candidates", declared.CANDIDATE_PATH, len(folders), *asked)
+
+
+def candidate_paths(folders: list):
+    asked, size = searched(folders), sum(len(it + b"/lib.so") + 1 for it in folders)
+    return lambda: filled("candidate_paths", BYTE, size, *asked) and len(folders)
+
+
+def dependencies(found: list) -> tuple:
+    """The records of objects by what their entries found, and room for words and edges."""
+    held, words, edges = Held(), 4 * len(found), sum(map(len, found))
+    kinds = [array("I", [NEEDED] * len(it)) for it in found]
+    packed = b"".join(declared.DEPENDENCIES.pack(held.text(it)[0], len(it), held.text(kind)[0], len(it)) for it, kind in zip(found, kinds))
+    return naming(packed, held), len(found), (ctypes.c_uint32 * words)(), words, (ctypes.c_uint32 * edges)(), edges
+
+
+def next_entries(count: int):
+    """Asks for each entry of a program, none of which finds a library."""
+    found = array("I", [NOT_ASKED] * count)
+    asked = dependencies([found])
+    out = ctypes.create_string_buffer(declared.OBJECT_ENTRY.size)
+
+    def ask() -> int:
+        for entry in range(count):
+            check(library.xmas_elf_next_entry(*asked, out))
+            assert declared.OBJECT_ENTRY.unpack(out) == (0, entry)
+            found[entry] = MISSING
+        return count
+    return ask
+
+
+def start_order(count: int):
+    """Of a program that needs all libraries, each of which needs the next."""
+    found = [array("I", range(1, count)), *(array("I", [it + 1] if it + 1 < count else []) for it in range(1, count))]
+    asked = dependencies(found)
+    listed, starts, number = (ctypes.c_uint32 * count)(), (ctypes.c_uint32 * (3 * count))(), ctypes.c_uint64()
+
+    def ask() -> int:
+        check(library.xmas_elf_start_order(*asked, listed, count, starts, 3 * count, ctypes.byref(number)))
+        assert number.value == count - 1
+        return count
+    return ask
+
+
+def expand(count: int):
+    held, text = Held(), b"$LIB/" * count
+    tokens = declared.TOKENS.pack(*(part for it in (b"/bin", b"lib64", b"x86_64") for part in held.text(it)))
+    asked = text, len(text), naming(tokens, held)
+    return lambda: filled("expand", BYTE, count * len(b"lib64/"), *asked) and count
+
+
+def cache_of(count: int) -> bytes:
+    """A cache with so many libraries (glibc, dl-cache.h), whose keys fall."""
+    keys = [b"f%d" % it for it in reversed(range(count))]
+    texts = b"".join(it + b"\0/lib/" + it + b"\0" for it in keys)
+    place, entries = 48 + 24 * count, b""
+    for key in keys:
+        entries += struct.pack("<iIIIQ", 0x303, place, place + len(key) + 1, 0, 0)
+        place += 2 * len(key) + len(b"\0/lib/\0")
+    return struct.pack("<20sIIB3xI12x", b"glibc-ld.so.cache1.1", count, len(texts), 2, 0) + entries + texts
+
+
+def cached_paths(cache: bytes):
+    """The path of each library, by a call for each."""
+    count = struct.unpack_from("<I", cache, 20)[0]
+    machine = declared.CACHE_MACHINE.pack(0, 0, 0, 0, 0x303, 0x303, 1)
+    asked = [(b"f%d" % it, len(b"/lib/f%d" % it)) for it in range(count)]
+
+    def ask() -> int:
+        for name, size in asked:
+            filled("cache_path", BYTE, size, cache, len(cache), name, len(name), machine)
+        return count
+    return ask
+
+
+# Each export: what it reads, its name, and what makes a call of it, which returns the number of its records.
+ALONE = {
+    "names that are needed": (shared, "needed_names", needed_names),
+    "versions that are missing": (shared, "missing_versions", missing_versions),
+    "candidates": (folders_of, "candidates", candidates),
+    "paths of candidates": (folders_of, "candidate_paths", candidate_paths),
+    "entries, a call for each": (int, "next_entry", next_entries),
+    "objects that start": (int, "start_order", start_order),
+    "tokens": (int, "expand", expand),
+    "names in a cache, a call for each": (cache_of, "cache_path", cached_paths),
+}
+# Of these the time grows with the square of the number of records.
+SQUARE = {"versions that are missing", "candidates", "paths of candidates", "entries, a call for each"}
+
+
+def of_file(call):
+    """What makes a call of the package, over a file that is read anew."""
+    return lambda data: functools.partial(call, xmas_elf.ElfFile(data))
+
+
+def time_each(prepare, made) -> float:
+    """The nanoseconds of processor time for each record of a call that is prepared anew: the least of five."""
     def once() -> float:
-        file = xmas_elf.ElfFile(data)
+        call = prepare(made)
         start = time.process_time_ns()
-        records = call(file)
+        records = call()
         return (time.process_time_ns() - start) / max(1, records)
     return min(once() for _ in range(5))
 
@@ -182,15 +337,43 @@ def shown(number: float) -> str:
     return f"{number:,.0f}" if number >= 100 else f"{number:.2f}"
 
 
+def measured(sizes: list) -> tuple:
+    """The lines of the table, and the calls whose records take too long in the large file."""
+    rows = {name: (make, exports, of_file(call)) for name, (make, exports, call) in CALLS.items()} | ALONE
+    files = {make: [make(size) for size in sizes] for make in dict.fromkeys(make for make, _, _ in rows.values())}
+    lines, grown = [f"|Call|Exports (`xmas_elf_`)|ns a record, {sizes[0]:,}|{sizes[1]:,}|Growth|", "|---|---|---:|---:|---:|"], []
+    for name, (make, exports, prepare) in rows.items():
+        first, last = (time_each(prepare, made) for made in files[make])
+        lines.append(f"|{name}|{', '.join(f'`{it}`' for it in exports.split(', '))}|{shown(first)}|{shown(last)}|{last / first:.2f}|")
+        grown += [name] if last > MOST * first * (sizes[1] / sizes[0] if name in SQUARE else 1) else []
+    return lines, grown
+
+
+def machine() -> str:
+    model = re.search(r"model name\s*: (.*)", pathlib.Path("/proc/cpuinfo").read_text(encoding="utf-8"))
+    return model[1] if model else platform.machine()
+
+
+def put(lines: list, on: str) -> None:
+    """Puts the table into the page."""
+    text, commit = COSTS.read_text(encoding="utf-8"), git("rev-parse", "--short=8", "HEAD").strip()
+    front, _, rest = text.partition(FIRST)
+    said = f"Measured at {commit} by `bench/plural.py` on {on}."
+    COSTS.write_text("\n".join([front + FIRST + said, "", *lines, LAST]) + rest.partition(LAST)[2], encoding="utf-8")
+
+
 def main() -> int:
-    sizes = [int(word) for word in sys.argv[1:3]] or [2000, 8000]
-    files = {make: [make(size) for size in sizes] for make in dict.fromkeys(make for make, _, _ in CALLS.values())}
-    grown = []
-    print(f"|Call|Exports (`xmas_elf_`)|ns a record, {sizes[0]:,}|{sizes[1]:,}|Growth|\n|---|---|---:|---:|---:|")
-    for name, (make, exports, call) in CALLS.items():
-        first, last = (time_each(call, data) for data in files[make])
-        print(f"|{name}|{', '.join(f'`{it}`' for it in exports.split(', '))}|{shown(first)}|{shown(last)}|{last / first:.2f}|")
-        grown += [name] if last > MOST * first else []
+    parser = argparse.ArgumentParser(description=__doc__, formatter_class=argparse.RawDescriptionHelpFormatter)
+    parser.add_argument("--write", action="store_true")
+    parser.add_argument("--on", metavar="MACHINE", default=machine())
+    parser.add_argument("sizes", nargs="*", type=int, metavar="SIZE")
+    given = parser.parse_args()
+    if len(given.sizes) not in (0, 2):
+        parser.error("give two sizes, or none")
+    lines, grown = measured(given.sizes or [2000, 8000])
+    print("\n".join(lines))
+    if given.write:
+        put(lines, given.on)
     if grown:
         print("grows:", ", ".join(grown), file=sys.stderr)
     return int(bool(grown))

@@ -63,8 +63,11 @@ static uint64_t read_all(void)
 
 static uint64_t check_all(void)
 {
-    uint64_t began = __rdtsc();
-    for (size_t i = 0; i < count; i++) check(xmas_elf_check_image(loads, count, i, 4096, 0, marks, sizes[i] / 8 + 1), i);
+    uint64_t failed = 0, began = __rdtsc();
+    for (size_t i = 0; i < count; i++) {
+        uint32_t status = xmas_elf_check_image(loads, count, i, 4096, 0, marks, sizes[i] / 8 + 1, &failed);
+        check(status, failed);
+    }
     return __rdtsc() - began;
 }
 

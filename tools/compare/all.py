@@ -8,7 +8,6 @@
 The comparisons are those of all.toml. XMAS_ELF_CRATE: a folder with the files of the Rust crate, where Cargo has no registry. One that
 needs what isn't here is skipped, and one that was skipped or failed keeps its table in the page.
 """
-import argparse
 import collections
 import os
 import pathlib
@@ -18,23 +17,17 @@ import shutil
 import subprocess
 import sys
 import time
-import tomllib
 
-ROOT = pathlib.Path(__file__).resolve().parents[2]
+sys.path.insert(0, str(pathlib.Path(__file__).resolve().parents[1]))
+from pages.sources import ROOT, git, parser_of, table_of, unfolded
+
 PAGE = ROOT / "docs" / "TESTS.md"
 ROOM = re.compile(r"(?<=<!-- oracles -->\n).*?(?=<!-- /oracles -->)", re.S)
 
-TABLE = tomllib.loads(pathlib.Path(__file__).with_suffix(".toml").read_text(encoding="utf-8"))
+TABLE = table_of(__file__)
 CRATE = os.environ.get("XMAS_ELF_CRATE", "")
 LISTS = {**TABLE["lists"], "folder": CRATE, "crate": CRATE and f"--crate {CRATE}"}
-
-
-def spread(text: str) -> list[str]:
-    """The words of a text, with the words of a list in place of its name."""
-    found = []
-    for word in text.split():
-        found += spread(LISTS[word[1:]]) if word[0] == "@" else [word]
-    return found
+LISTS = {name: text.split() for name, text in LISTS.items()}
 
 
 class Oracle(collections.namedtuple("Oracle", "script runs whole sample needs first", defaults=[""] * 4)):
@@ -48,7 +41,7 @@ class Oracle(collections.namedtuple("Oracle", "script runs whole sample needs fi
         for name in self.needs.split():
             if not shutil.which(name):
                 return name
-        first = spread(self.first)
+        first = unfolded(self.first.split(), LISTS)
         failed = first and subprocess.run(first, cwd=ROOT, capture_output=True, text=True, check=False).returncode
         return f"what {first[0]} makes" if failed else ""
 
@@ -56,11 +49,7 @@ class Oracle(collections.namedtuple("Oracle", "script runs whole sample needs fi
 ORACLES = {name: Oracle(**{"script": name, **row}) for name, row in TABLE["comparisons"].items()}
 
 
-def git(*words: str) -> str:
-    return subprocess.run(["git", *words], cwd=ROOT, capture_output=True, text=True, check=True).stdout.strip()
-
-
-def table_of(said: str) -> str:
+def counts_of(said: str) -> str:
     """A table of the counts of a line as `3 files, 0 differences`."""
     counts = [re.fullmatch(r"(\d+) (.*)", it).groups() for it in re.split(r", (?=\d)", said)]
     rows = [name for _, name in counts], ["---:"] * len(counts), [f"{int(count):,}" for count, _ in counts]
@@ -72,15 +61,13 @@ def write(name: str, said: str, command: str) -> None:
     text, system = PAGE.read_text(encoding="utf-8"), platform.freedesktop_os_release()
     machine = f"{system['NAME'].split()[0]} {system.get('VERSION_ID', '')} ({platform.machine().replace('_', '-')})"
     parts = dict(re.findall(r"^\*\*`(\w+)`\*\* (.*?)\n*(?=^\*\*`|\Z)", ROOM.search(text)[0], re.M | re.S))
-    parts[name] = f"Measured at {git('rev-parse', '--short', 'HEAD')} by `{command}` on {machine}.\n\n{table_of(said)}"
+    parts[name] = f"Measured at {git('rev-parse', '--short', 'HEAD').strip()} by `{command}` on {machine}.\n\n{counts_of(said)}"
     held = "\n\n".join(f"**`{it}`** {parts[it]}" for it in ORACLES if it in parts)
     PAGE.write_text(ROOM.sub(lambda _: held + "\n", text, count=1), encoding="utf-8")
 
 
 if __name__ == "__main__":
-    parser = argparse.ArgumentParser(description=__doc__, formatter_class=argparse.RawDescriptionHelpFormatter)
-    parser.add_argument("--sample", action="store_true", help="over a few files")
-    parser.add_argument("--write", action="store_true", help="write the counts into the page")
+    parser = parser_of(__doc__, {"sample": "over a few files", "write": "write the counts into the page"})
     parser.add_argument("names", nargs="*", metavar="NAME", help=", ".join(ORACLES))
     given = parser.parse_args()
     if given.sample and given.write:
@@ -95,7 +82,8 @@ if __name__ == "__main__":
         if missing := oracle.missing():
             print(f"{name}: skipped, since {missing} is not here", flush=True)
             continue
-        command, began = [f"tools/compare/{oracle.script}.py", *spread(oracle.sample if given.sample else oracle.whole)], time.monotonic()
+        words, began = (oracle.sample if given.sample else oracle.whole).split(), time.monotonic()
+        command = [f"tools/compare/{oracle.script}.py", *unfolded(words, LISTS)]
         ran = subprocess.run(command, cwd=ROOT, capture_output=True, text=True, errors="replace", check=False)
         lines = ran.stdout.strip().split("\n")
         said = next((it for it in reversed(lines) if re.match(r"\d+ .*(differences|left over)", it)), lines[-1])

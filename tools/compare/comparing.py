@@ -1,5 +1,4 @@
 """What the scripts share that compare a program of this repository with others over many files."""
-import argparse
 import collections
 import contextlib
 import functools
@@ -14,7 +13,10 @@ from typing import Callable, Iterator
 
 from damage import Headers
 
-ROOT = pathlib.Path(__file__).resolve().parents[2]
+sys.path.append(str(pathlib.Path(__file__).resolve().parents[1]))
+from pages import sources
+from pages.sources import ROOT
+
 MAGIC = b"\x7fELF"
 
 # Said of each script by --help.
@@ -31,8 +33,8 @@ SECTION, THREAD, INDIRECT = 3, 6, 10
 LOCAL, UNIQUE = 0, 10
 # The type of a segment that is loaded.
 LOAD = 1
-# Control characters as the programs write them in names.
-CONTROLS = {it: f"^{chr(it + 64)}" for it in (*range(32), 127)}
+# Control characters as the programs write them in names: the byte 0xbf behind the sign of the last is no UTF-8.
+CONTROLS = {**{it: f"^{chr(it + 64)}" for it in range(32)}, 127: "^\udcbf"}
 
 # What a program that ran to its end has left.
 Finished = namedtuple("Finished", "status output errors")
@@ -81,6 +83,11 @@ def run(command: list[str], seconds=600, given=b"", **variables: str) -> Finishe
         print(f"cannot run {command[0]}: {error.strerror}", file=sys.stderr)
         sys.exit(2)
     return Finished(done.returncode, *(it.decode("utf-8", "surrogateescape") for it in (done.stdout, done.stderr)))
+
+
+def first_differing(one: list, other: list) -> int:
+    """The index of the first item that isn't the same in two lists."""
+    return next((at for at, (a, b) in enumerate(zip(one, other)) if a != b), min(len(one), len(other)))
 
 
 def read_elf(path: str) -> bytes:
@@ -246,12 +253,12 @@ def stripped(content: bytes) -> bytes:
     return bytes(copy.content)
 
 
-def parser_of(doc: str | None, *programs: str, files: str = "", **numbers: int) -> argparse.ArgumentParser:
+def parser_of(doc: str | None, *programs: str, files: str = "", **numbers: int):
     """A reader of arguments, with an option for the path of each of these programs and for each of these numbers, and with files
     where their number is given, as `*`."""
     # Names that aren't UTF-8 go out as they came in.
     sys.stdout.reconfigure(encoding="utf-8", errors="surrogateescape", line_buffering=True)
-    parser = argparse.ArgumentParser(description=doc, formatter_class=argparse.RawDescriptionHelpFormatter)
+    parser = sources.parser_of(doc, {})
     for name in programs:
         parser.add_argument(f"--{name}", default=str(ROOT / "crates" / name / "out" / name), metavar="PATH")
     for name, number in numbers.items():

@@ -344,7 +344,8 @@ class Damage(Headers):
 
 def missing(data: bytes, seed: int, count: int = 50):
     """Copies of a file of which parts are missing, so that a reader of these parts can say so: cut off, or with headers that name bytes
-    past the end, more headers than there are, or addresses of no segment. The same for the same seed."""
+    past the end, more headers than there are, or addresses of no segment; or without the number of sections, which section 0 has where
+    the ELF header has 0, and with section 0 past the end. The same for the same seed."""
     random = randoms.Random(f"{seed} missing")
     whole = Damage(data, random)
     layout = whole.layout
@@ -352,14 +353,16 @@ def missing(data: bytes, seed: int, count: int = 50):
     kept = lambda bases, fields, types: [it for it in bases if layout.get(data, it, fields["type"]) in types]
     tables = kept(whole.sections, layout.section, (2, 3, 4, 5, 6, 7, 9, 11, 19, 0x6ffffff6, 0x6ffffffd, 0x6ffffffe, 0x6fffffff))
     parts = kept(whole.segments, layout.segment, (1, 2, 4))
-    past = lambda: random.choice((len(data), 2**40, 2**63, 2**64 - 1))
+    ends = (len(data), 2**40, 2**63, 2**64 - 1) if layout.wide else (len(data), 2**31, 2**32 - 1)
+    past = lambda: random.choice(ends)
     for index in range(count):
         copy, which = bytearray(data), index % 5
         if which == 0:
             del copy[random.randrange(64, end) :]
         elif which == 1:
-            name, value = random.choice((("shoff", past()), ("shnum", 0x7fff), ("shentsize", 1), ("phoff", past()), ("phnum", 0x7fff), ("phentsize", 1)))
-            layout.fill(copy, 0, layout.header, **{name: value})
+            heads = ({"shoff": past()}, {"shnum": 0x7fff}, {"shentsize": 1}, {"phoff": past()}, {"phnum": 0x7fff}, {"phentsize": 1},
+                     {"shnum": 0, "shoff": ends[0]}, {"shnum": 0, "shoff": ends[1]})
+            layout.fill(copy, 0, layout.header, **heads[index // 5 % len(heads)])
         elif which == 2:
             layout.fill(copy, random.choice(parts), layout.segment, **{random.choice(("offset", "filesz", "vaddr")): past()})
         else:

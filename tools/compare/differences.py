@@ -16,7 +16,9 @@ import sys
 import tempfile
 
 from comparing import ROOT, Tally, parser_of, read_elf, run
+from pages.sources import table_of
 
+OPTIONS, PACKAGES = (it.split() for it in table_of(__file__).values())
 KINDS = ["section", "segment", "symbol", "ELF header", "program headers", "section headers", "between parts", "after all parts"]
 
 
@@ -54,9 +56,6 @@ def difference(old: bytes, new: bytes) -> str:
         f"{after - before:+} -> {after} {name}\n" for before, after, name in totals)
 
 
-OPTIONS = ["-O0", "-O1", "-O2", "-O3", "-Os", "-g", "-fPIC", "-fno-inline", "-fno-asynchronous-unwind-tables", "-ffunction-sections", "-fstack-protector-all"]
-
-
 def built(room: pathlib.Path, chance: random.Random) -> list:
     """Two builds of an object of three sources of this repository, which have static functions of the same name."""
     sources, found = chance.sample(sorted(ROOT.glob("bindings/c/*.c")), 3), []
@@ -69,10 +68,7 @@ def built(room: pathlib.Path, chance: random.Random) -> list:
     return found
 
 
-# Packages of which Debian 12 has a version with corrections too, and where they are kept.
-PACKAGES = """libexpat1 libssl3 libxml2 libcurl4 libpng16-16 libarchive13 liblzma5 libde265-0 libssh2-1 libssh-4 libxslt1.1 libpq5
-    libmariadb3 libsystemd0 libcurl3-gnutls libnss3 libzstd1 libaprutil1 libblkid1 libmount1 libpam0g libaom3 libraw20 libwbclient0
-    libglib2.0-0 librsvg2-2 libunbound8 libpoppler126 libperl5.36 libgstreamer-plugins-base1.0-0""".split()
+# Where packages are kept.
 KEPT = pathlib.Path(tempfile.gettempdir(), "xmas-elf-versions")
 
 

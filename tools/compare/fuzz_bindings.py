@@ -111,12 +111,10 @@ class Object(Headers):
         """Whether the linker's own table of versions, which has a place for each number, has all versions of the file: no two
         definitions or needs have one number, only the base has number 1, and no symbol has a greater number than all of them."""
         used, known = self.numbers()
-        if not known:
-            # Without definitions and needs it has no versions.
-            return True
         places = [place + 4 for place, _ in self.definitions() if not self.number(place + 2, "H") & 1] + [place + 6 for place in self.needs()]
         numbers = [self.number(place, "H") & 0x7FFF for place in places]
-        return len(set(numbers)) == len(numbers) and min(numbers, default=2) >= 2 and max(used, default=0) <= max(known, default=1)
+        # Without definitions and needs it has no versions.
+        return not known or len(set(numbers)) == len(numbers) and min(numbers, default=2) >= 2 and max(used, default=0) <= max(known)
 
 
 def change_of_symbol(held: Object, chance: random.Random, kinds: list[int]) -> Change:

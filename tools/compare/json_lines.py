@@ -1,16 +1,18 @@
 #!/usr/bin/env python3
 """Compares the lines that programs write with --json with their lines of text.
 
-    tools/compare/json_lines.py [--elfsym PATH] [--elfbind PATH] FILE..
+    tools/compare/json_lines.py [--elfsym PATH] [--elfbind PATH] [--elfload PATH] FILE..
 
 Of each object, as Python's `json` reads it, the line of text is written here anew (TEXTS), and must be that of the program. `jq` must
 read the same objects. Statuses and messages must be the same in both forms.
 """
 import json
+import re
 import sys
 from typing import Callable
 
-from comparing import CONTROLS, Tally, compare_all, dynamic_symbols, run
+from comparing import CONTROLS, Tally, compare_all, dynamic_symbols, first_differing, run
+from processes import linker_of
 
 # How many names are asked for in one run.
 MOST = 300
@@ -22,8 +24,8 @@ def symbol_text(it: dict) -> str:
     return f"{it['name']} {it['value']:#x} {it['size']:#x}" + (f" {it['file']}" if "file" in it else "")
 
 
-def needed_text(it: dict) -> str:
-    name = it["needed"] if "needed" in it else bytes.fromhex(it["needed_bytes"]).decode("utf-8", "surrogateescape")
+def name_text(it: dict, key: str = "needed") -> str:
+    name = it[key] if key in it else bytes.fromhex(it[f"{key}_bytes"]).decode("utf-8", "surrogateescape")
     return name.translate(CONTROLS)
 
 
@@ -32,46 +34,96 @@ def binding_text(it: dict) -> str:
     return f"{it['from']} {it['name']}" + (f"@{it['version']}" if it["version"] is not None else "") + f" -> {found}"
 
 
-def check_text(it: dict) -> str:
-    return f"{it['file']}: {it['error'] or 'ok'}"
+def flags_text(flags: int) -> str:
+    return "".join(letter if flags & flag else "-" for letter, flag in (("r", 4), ("w", 2), ("x", 1)))
 
 
-# The members of the objects, by what is written of them.
-MEMBERS = {
-    symbol_text: [["name", "value", "size"], ["name", "value", "size", "file"]],
-    needed_text: [["needed"], ["needed_bytes"]],
-    binding_text: [["from", "name", "version", "weak", "file", "value"]],
-    check_text: [["file", "error"]],
-}
+def head_text(it: dict) -> str:
+    return "\n".join((
+        it["file"], *(f"{name} {it[name]}" for name in ("class", "type", "machine")), f"entry {it['entry']:x}",
+        f"span {it['start']:x}-{it['end']:x}"))
 
 
-def compare_lines(tally: Tally, path: str, text_of: Callable[[dict], str], program: str, *words: str) -> None:
-    """Compares what a program writes for some words with what it writes after --json."""
-    status, text, said = run([program, *words])
-    own = run([program, "--json", *words])
-    if (own.status, own.errors) != (status, said):
-        return tally.differ(path, f"{words[:2]} as JSON", (own.status, own.errors), (status, said))
-    objects = [json.loads(line) for line in own.output.splitlines()]
+def rest_text(it: dict) -> str:
+    numbers = lambda between, *names: "none" if it[names[0]] is None else between.join(f"{it[name]:x}" for name in names)
+    return "\n".join((
+        f"relro {numbers('-', 'relro_start', 'relro_end')}",
+        f"tls {numbers(' ', 'tls_address', 'tls_file_size', 'tls_size', 'tls_align')}",
+        f"stack {'default' if it['stack_flags'] is None else flags_text(it['stack_flags'])}",
+        f"interpreter {'none' if it.get('interpreter', '') is None else name_text(it, 'interpreter')}"))
+
+
+def value_text(it: dict) -> str:
+    file, offset = it["object"], f"{it['offset'] or 0:#x}"
+    base = "" if file is None else f"base({file}) + "
+    origin = base if it["resolver"] is None else f"call({base}{it['resolver']:#x}) + "
+    return {
+        "sum": origin + offset, "distance": f"{origin}{offset} - base(own)", "module": f"module({file})",
+        "thread": f"thread({file}) + {offset}", "thread_negated": f"{offset} - thread({file})",
+        "descriptor": f"descriptor({offset})" if file is None else f"descriptor({file}, {offset})",
+        "copy": f"copy({file}, {offset}, {it['size']})"}[it["value"]]
+
+
+# What is written of an object, by its members.
+REST = "file relro_start relro_end tls_address tls_file_size tls_size tls_align stack_flags"
+VALUE = "value object resolver offset size"
+TEXTS = {
+    "name value size": symbol_text, "name value size file": symbol_text, "needed": name_text, "needed_bytes": name_text,
+    "from name version weak file value": binding_text, "file error": lambda it: f"{it['file']}: {it['error'] or 'ok'}",
+    "file loads": lambda it: f"{it['file']}: loads: {'yes' if it['loads'] else 'no'}",
+    "file class type machine entry start end": head_text, f"{REST} interpreter": rest_text, f"{REST} interpreter_bytes": rest_text,
+    "file by start end flags holds offset": lambda it: (
+        f"{it['start']:x}-{it['end']:x} {flags_text(it['flags'])}p {it['offset'] or 0:x} {it['holds']}"),
+    f"file word width type name {VALUE}": lambda it: (
+        f"word {it['word']:#x} {it['width']} {re.sub('^R_(386|X86_64|AARCH64)_', '', it['name'] or str(it['type']))} = {value_text(it)}"),
+    f"file runs index {VALUE}": lambda it: (
+        f"{it['file']} {it['runs']}{'' if it['index'] is None else '[%d]' % it['index']} = {value_text(it)}")}
+
+
+def text_of(objects: list[dict]) -> str:
+    """The text of objects; of those of elfload with the headings of mappings, and of the words of files that have some."""
+    files, text, before = [it["file"] for it in objects if "class" in it], [], ""
+    for it in objects:
+        if (members := " ".join(it)) not in TEXTS:
+            raise ValueError(f"members {members}")
+        heading = it["by"] if "by" in it else f"words {it['file']}" if "word" in it else ""
+        own = f"base({files.index(it['file'])})" if "word" in it else ""
+        text += [f"{heading}\n"] * (heading not in ("", before)) + [TEXTS[members](it).replace("base(own)", own) + "\n"]
+        before = heading
+    return "".join(text)
+
+
+def compare_lines(tally: Tally, path: str, program: str, *words: str, text_of: Callable[[list[dict]], str] = text_of) -> None:
+    """Compares what a program writes for some words with the text of the objects that it writes after --json."""
+    text, own = run([program, *words]), run([program, "--json", *words])
+    if (own.status, own.errors) != (text.status, text.errors):
+        return tally.differ(path, f"{words[:3]} as JSON", (own.status, own.errors), (text.status, text.errors))
+    objects = [json.loads(line) for line in own.output.split("\n")[:-1]]
     tally["lines"] += len(objects)
-    if any([*it] not in MEMBERS[text_of] for it in objects):
-        tally.differ(path, f"members of {words[:2]}", {(*it,) for it in objects}, MEMBERS[text_of])
-    elif "".join(text_of(it) + "\n" for it in objects) != text:
-        tally.differ(path, f"{words[:2]} as JSON", own.output, text)
+    # Of a file without words there is a heading, and no object.
+    wanted = re.sub(r"(?m)^words .*\n(?!word )", "", text.output) if any("class" in it for it in objects) else text.output
+    found, wanted = text_of(objects).split("\n"), wanted.split("\n")
+    if found != wanted:
+        at = first_differing(found, wanted)
+        tally.differ(path, f"{words[:3]} as JSON, line {at + 1}", found[at : at + 1], wanted[at : at + 1])
     read = run(["jq", "-r", "keys_unsorted[0]"], given=own.output.encode("utf-8", "surrogateescape"))
-    if read.output.splitlines() != [next(iter(it)) for it in objects]:
-        tally.differ(path, f"{words[:2]} read by jq", read.errors, "the same")
+    if read.output.split("\n")[:-1] != [next(iter(it)) for it in objects]:
+        tally.differ(path, f"{words[:3]} read by jq", read.errors, "the same")
 
 
-def compare(path: str, elfsym: str, elfbind: str, tally: Tally) -> None:
+def compare(path: str, elfsym: str, elfbind: str, elfload: str, tally: Tally) -> None:
     tally["files"] += 1
     names = list(dict.fromkeys(it.name + (f"@{it.version}" if it.version else "") for it in dynamic_symbols(path) if it.name))[:MOST]
-    compare_lines(tally, path, needed_text, elfsym, "--needed", path)
+    compare_lines(tally, path, elfsym, "--needed", path)
     if names:
-        compare_lines(tally, path, symbol_text, elfsym, path, *names, "\"absent\"\\\n")
-        compare_lines(tally, path, symbol_text, elfsym, "--scope", path, *names)
-    compare_lines(tally, path, binding_text, elfbind, path)
-    compare_lines(tally, path, check_text, elfbind, "--check", path)
+        compare_lines(tally, path, elfsym, path, *names, "\"absent\"\\\n")
+        compare_lines(tally, path, elfsym, "--scope", path, *names)
+    compare_lines(tally, path, elfbind, path)
+    compare_lines(tally, path, elfbind, "--check", path)
+    # Of a library its own words, since those of all its libraries are many.
+    for words in ([] if linker_of(path) else ["--alone"], ["--start"], ["--kernel"], ["--glibc"]):
+        compare_lines(tally, path, elfload, *words, path)
 
 
 if __name__ == "__main__":
-    sys.exit(compare_all(__doc__, Tally("--json", "files", "lines"), compare, "elfsym", "elfbind"))
+    sys.exit(compare_all(__doc__, Tally("--json", "files", "lines"), compare, "elfsym", "elfbind", "elfload"))

@@ -3,10 +3,10 @@
 
     tools/compare/json_sizes.py [--elfsize PATH] FILE..
 """
-import json
 import sys
 
-from comparing import CONTROLS, ROOT, Tally, compare_all, run
+from comparing import CONTROLS, ROOT, Tally, compare_all
+from json_lines import compare_lines
 
 # What a file is compared with by --diff.
 OTHER = str(ROOT / "crates/elfaddr/data/places.so")
@@ -19,31 +19,26 @@ def part_of(row: dict) -> str:
     return " ".join(parts)
 
 
-def size_text(row: dict) -> str:
-    share = "" if row["share"] is None else f" {row['share'] // 100}.{row['share'] % 100:02}%"
-    return f"{row['size']}{share} {part_of(row)}"
-
-
-def change_text(row: dict) -> str:
-    return f"{row['difference']:+} -> {row['size']} {row['state'] + ' ' if row['state'] else ''}{part_of(row)}"
+def sizes_text(rows: list) -> str:
+    """What elfsize prints as text, by its lines as JSON: those of a file, of all files and of all parts of a kind have one above them."""
+    text, before = "", {"kind": "sum", "total": False}
+    for row in rows:
+        if "difference" in row:
+            text += "all parts\n" if row["total"] and not before["total"] else ""
+            text += f"{row['difference']:+} -> {row['size']} {row['state'] + ' ' if row['state'] else ''}{part_of(row)}\n"
+        else:
+            if before["kind"] == "sum" or before["file"] != row["file"]:
+                text += "all files\n" if row["file"] is None else f"{row['file']}\n"
+            share = "" if row["share"] is None else f" {row['share'] // 100}.{row['share'] % 100:02}%"
+            text += f"{row['size']}{share} {part_of(row)}\n"
+        before = row
+    return text
 
 
 def compare(path: str, elfsize: str, tally: Tally) -> None:
     tally["files"] += 1
     for words in ([path], ["--segments", path], ["--symbols", path, OTHER], ["--diff", path, OTHER], ["--diff", "--symbols", OTHER, path]):
-        text, said = run([elfsize, *words]), run([elfsize, "--json", *words])
-        if (text.status, text.errors) != (said.status, said.errors):
-            tally.fault(f"{words}: ends with {text.status} {text.errors}, and with --json {said.status} {said.errors}")
-        rows = [json.loads(line) for line in said.output.split("\n")[:-1]]
-        tally["lines"] += len(rows)
-        if run(["jq", "-c", "."], given=said.output.encode("utf-8", "surrogateescape")).output.count("\n") != len(rows):
-            tally.fault(f"{words}: jq reads other objects")
-        # The text has lines of its own above those of a file, of all files and of all parts of a kind.
-        wanted = [it for it in text.output.split("\n")[:-1] if it not in (path, OTHER, "all files", "all parts")]
-        found = [change_text(it) if "difference" in it else size_text(it) for it in rows]
-        if wanted != found or any(it.get("file") not in (path, OTHER, None) for it in rows):
-            at = next((it for it, (one, other) in enumerate(zip(wanted, found)) if one != other), min(len(wanted), len(found)))
-            tally.fault(f"{words}: line {at}: text {wanted[at : at + 1]}, and as JSON {found[at : at + 1]}")
+        compare_lines(tally, path, elfsize, *words, text_of=sizes_text)
 
 
 if __name__ == "__main__":

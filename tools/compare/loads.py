@@ -5,15 +5,17 @@
 
 Each dynamically linked program among the files and folders is stopped by ptrace at exec, before the linker makes anything read-only,
 and before the first constructor. At each stop the mappings of each file must be those of elfload, as /proc/PID/maps shows them, and
-read-only bytes, at exec all bytes, those of the file or zero; at exec the last bytes of writable pages may be zero.
+read-only bytes, at exec all bytes, those of the file or zero; at exec the last bytes of writable pages may be zero. Then it runs to its
+entry point, and the functions of `elfload --start` must be those that memory and the linker's messages (LD_DEBUG=files) have, in their order.
 
 --damaged N runs elfload on N copies of the smallest program and of its smallest library with bytes of headers changed. It must end
 within two seconds with status 0 or 1. The copies that it accepts are run, or loaded by LD_PRELOAD, and stopped in the same way; one
-may fail to load only for the causes of ALLOWED. Where processes can't be traced, the script says so, and passes.
+may fail to load only for the causes of loads.toml. Where processes can't be traced, the script says so, and passes.
 """
 import bisect
 import dataclasses
 import functools
+import itertools
 import os
 import random
 import re
@@ -26,23 +28,25 @@ from collections import namedtuple
 from pathlib import Path
 from typing import Dict, Iterator, List, Optional, Set, Tuple
 
-from comparing import Finished, Tally, parser_of, read_elf, run
+import memory
+from comparing import Finished, Tally, first_differing, parser_of, read_elf, run
+from pages.sources import table_of
 from processes import (
-    PAGE, Mapping, Stopped, can_trace, content_of, linker_in, linker_of, mapping_of, programs_in, real,
+    ENTRY, PAGE, Mapping, Stopped, can_trace, content_of, linker_in, linker_of, mapping_of, programs_in, real,
     to_debug_state)
 
 LONGEST = 2.0
 LINE = re.compile(r"^([0-9a-f]+)-([0-9a-f]+) (...)p ([0-9a-f]+) (file|zero|none)$")
-
+is_elf = functools.lru_cache(maxsize=None)(lambda path: bool(read_elf(path)))
 # Why a damaged copy that elfload accepts isn't loaded.
-ALLOWED = {
-    "no such interpreter": r"No such file or directory|ENOENT|Accessing a corrupted|Permission denied|Exec format error|Is a directory",
-    "no room": r"cannot map|failed to map|Cannot allocate memory|ENOMEM|no room|cannot allocate|File exists",
-    "a program, not a library": r"cannot dynamically load|cannot be preloaded|position-independent executable|only ET_DYN",
-    "its dynamic segment": r"dynamic section|get-dynamic-info\.h",
-    "a header that glibc checks": r"ELF file|ELF header|invalid ELF|wrong ELF class|ABI|architecture|version",
-    "stack or threads": r"executable stack|cannot handle TLS|TLS",
-}
+ALLOWED = table_of(__file__)
+
+# A function that elfload --start prints, and the messages of the linker before it calls those of a file.
+FUNCTION = re.compile(r"^(.*) (preinit_array|init|init_array|entry)(?:\[\d+\])? = (.*)$", re.M)
+CALLED = re.compile(r"^ *\d+:\tcalling (preinit|init): (.*)$", re.M)
+# The parts of a file that each of them is about, and the tags of dynamic entries with the address and the size of each.
+PARTS = {"preinit": ("preinit_array",), "init": ("init", "init_array")}
+TAGS = {"init": (12, None), "init_array": (25, 27), "preinit_array": (32, 33)}
 
 # What elfload prints of a file: the range that is read-only, or None, the first address, and the mappings by their loader.
 Plan = namedtuple("Plan", "relro start by")
@@ -106,11 +110,6 @@ class Loaded:
         for start, end in zip(places, places[1:]):
             flags = "r--" if relro[0] <= start < relro[1] else line.flags
             yield Mapping(self.base + start, self.base + end, flags, line.offset + start - line.start, line.holds)
-
-
-@functools.lru_cache(maxsize=None)
-def is_elf(path: str) -> bool:
-    return bool(read_elf(path))
 
 
 def as_mapped(mapping: Mapping, path: str, part: Mapping) -> bool:
@@ -192,8 +191,43 @@ def compare_stop(process: Stopped, program: str, stop: str, tally: Plans) -> Non
         tally[f"files {stop}"] += 1
 
 
-def compare(path: str, tally: Plans) -> None:
-    process = Stopped(path)
+def functions_of(process: Stopped, file: memory.File) -> Dict[str, List[int]]:
+    """The functions of a file by part, those of an array as memory has them."""
+    entries, width, found = dict(memory.entries_of(file.path)), memory.address_size(file.path), {}
+    for part, (place, size) in TAGS.items():
+        address = file.base + entries.get(place, 0)
+        held = process.memory(address, entries.get(size, 0) // width * width)
+        found[part] = [it for it, in struct.iter_unpack("<I" if width == 4 else "<Q", held)] if size else [address] * (place in entries)
+    return found
+
+
+def compare_start(process: Stopped, program: str, room: str, tally: Plans) -> None:
+    """Compares the functions that run when a program starts, and runs it through them up to its entry point."""
+    files, entry = list(memory.files_of(process, program, *linker_in(process, process.maps()))), process.auxiliary(ENTRY)
+    said, numbers = run([tally.program, "--start", program]), memory.Numbers(files)
+    says = [(real(file), part, numbers.of(memory.Word(0, 8, "", value))) for file, part, value in FUNCTION.findall(said.output)]
+    held = {it.path: functions_of(process, it) for it in files}
+    held[program]["entry"] = [entry]
+    # Whichever functions it comes to, it stops there.
+    process.stop_at(entry)
+    before = itertools.takewhile(lambda it: it[1] != "entry", says)
+    is_reached = all(process.to_address(it) for it in [*(address for _, _, address in before), entry])
+    messages = Path(f"{room}/said.{process.pid}")
+    if not messages.exists():
+        tally["starts without messages"] += 1
+        return
+    called = [(real(name), part) for kind, name in CALLED.findall(messages.read_text("utf-8", "surrogateescape")) for part in PARTS[kind]]
+    own = [(program, part) for part in ("entry", "init", "init_array")]
+    wanted = [(path, part, it) for path, part in [*called, *own] for it in held[path][part]]
+    if says != wanted or len(says) != said.output.count("\n") or said.status or not is_reached:
+        at = first_differing(says, wanted)
+        tally.fault(f"{program}: elfload --start: status {said.status}, function {at}: {says[at : at + 1]}, the linker calls {wanted[at : at + 1]}")
+    tally["starts"] += 1
+    tally["functions"] += len(wanted)
+
+
+def compare(path: str, room: str, tally: Plans) -> None:
+    process = Stopped(path, LD_DEBUG="files", LD_DEBUG_OUTPUT=f"{room}/said")
     try:
         if process.signal() != signal.SIGTRAP:
             tally["not run"] += 1
@@ -208,6 +242,7 @@ def compare(path: str, tally: Plans) -> None:
             tally["not relocated"] += 1
             return
         compare_stop(process, path, "after RELRO", tally)
+        compare_start(process, path, room, tally)
     finally:
         process.end()
 
@@ -236,10 +271,6 @@ def changed(content: bytes, chance: random.Random) -> bytes:
     return bytes(copy)
 
 
-def cause_of(text: str) -> Optional[str]:
-    return next((name for name, words in ALLOWED.items() if re.search(words, text)), None)
-
-
 def load_copy(copy: str, plan: Plan, program: str, by: str, tally: Plans) -> None:
     """Has a copy loaded that elfload accepts, and compares its mappings."""
     is_program = by == "kernel"
@@ -254,7 +285,7 @@ def load_copy(copy: str, plan: Plan, program: str, by: str, tally: Plans) -> Non
         base = base_of(maps, copy, plan)
         if base is None:
             text = process.end()
-            cause = cause_of(text) or ("killed at exec" if is_program else None)
+            cause = next((name for name, words in ALLOWED.items() if re.search(words, text)), "killed at exec" if is_program else None)
             tally[f"damaged {'programs' if is_program else 'libraries'} not loaded: {cause or 'unexplained'}"] += 1
             if cause is None:
                 tally.fault(f"damaged copy {copy}: accepted and not loaded: {text.strip()}")
@@ -295,8 +326,9 @@ if __name__ == "__main__":
         print("0 programs, 0 differences: processes can't be traced here")
         sys.exit(0)
     tally, programs = Plans(given.elfload), programs_in(given.files)
-    for path in programs:
-        compare(path, tally)
+    with tempfile.TemporaryDirectory() as room:
+        for path in programs:
+            compare(path, room, tally)
     if given.damaged and programs:
         program = min(programs, key=os.path.getsize)
         libraries = [it for it in tally.plans if ".so" in os.path.basename(it) and real(linker_of(program) or "") != it]

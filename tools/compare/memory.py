@@ -11,6 +11,7 @@ causes by which differences are counted are in docs/TESTS.md. Where processes ca
 import functools
 import os
 import re
+import shutil
 import struct
 import sys
 from collections import namedtuple
@@ -19,7 +20,7 @@ from typing import Iterator
 from comparing import LOAD, UNIQUE, Tally, dynamic_symbols, parser_of, run
 from damage import Headers, Segment
 from processes import (
-    PAGE, Emulated, Stopped, can_emulate, can_trace, content_of, is_narrow, linker_in, linker_of, programs_in,
+    EMULATOR, PAGE, Emulated, Stopped, can_trace, content_of, is_narrow, linker_in, linker_of, programs_in,
     real, to_debug_state, value_of)
 
 WORD = re.compile(r"word 0x([0-9a-f]+) (\d+) (\w+) = (.*)")
@@ -93,42 +94,32 @@ def image_of(file: File, load: Segment) -> bytearray:
     return held
 
 
-def storages_of(files: list[File]) -> Iterator[Storage]:
-    for index, file in enumerate(files):
-        if segment := last_of(file.path, THREAD_LOCAL):
-            align = max(segment.align, 1)
-            yield Storage(index, segment.memsz, align, -segment.vaddr % align)
-
-
 def thread_offsets(files: list[File]) -> dict[int, int]:
-    """How far below the thread pointer glibc puts thread-local storage, by the index of its file (_dl_determine_tlsoffset)."""
-    found, end, free, free_end = {}, 0, 0, 0
-    for index, size, align, first in storages_of(files):
-        place = lambda after: -(-(after + size - first) // align) * align + first
-        if free_end - free >= size and place(free) <= free_end:
-            found[index] = free = place(free)
-            continue
-        at = place(end)
-        if at > end + size + free_end - free:
-            free, free_end = end, at - size
-        found[index] = end = at
-    return found
+    """How far above the thread pointer glibc puts thread-local storage, by the index of its file (_dl_determine_tlsoffset); below it,
+    as a negative number, but for AArch64."""
+    is_above = is_aarch64(files[0].path)
 
+    def place(after: int, of: Storage) -> tuple[int, int]:
+        """Where a storage begins and ends that comes after others, as distances from the thread pointer."""
+        if not is_above:
+            end = -(-(after + of.size - of.first) // of.align) * of.align + of.first
+            return end - of.size, end
+        aligned = -(-after // of.align) * of.align
+        begin = aligned + (of.align if aligned - after < of.first else 0) - of.first
+        return begin, begin + of.size
 
-def thread_offsets_above(files: list[File]) -> dict[int, int]:
-    """The same for AArch64, where it is above the thread pointer."""
-    found, end, free, free_end = {}, BLOCK, 0, 0
-    for index, size, align, first in storages_of(files):
-        up_to = lambda after: -(-after // align) * align
-        place = lambda after: up_to(after) + (align if up_to(after) - after < first else 0) - first
-        if size <= free_end - free and place(free) + size <= free_end:
-            found[index] = place(free)
-            free = found[index] + size
-            continue
-        found[index] = place(end)
-        if found[index] - end > free_end - free:
-            free, free_end = end, found[index]
-        end = found[index] + size
+    found, end, free, free_end = {}, BLOCK if is_above else 0, 0, 0
+    held = ((index, it, max(it.align, 1)) for index, file in enumerate(files) if (it := last_of(file.path, THREAD_LOCAL)))
+    for of in (Storage(index, it.memsz, align, -it.vaddr % align) for index, it, align in held):
+        begin, last = place(free, of)
+        if of.size <= free_end - free and last <= free_end:
+            free = last
+        else:
+            begin, last = place(end, of)
+            if begin - end > free_end - free:
+                free, free_end = end, begin
+            end = last
+        found[of.index] = begin if is_above else -last
     return found
 
 
@@ -136,8 +127,7 @@ class Numbers:
     """The numbers of words by the files of a process."""
 
     def __init__(self, files: list[File]) -> None:
-        is_above = is_aarch64(files[0].path)
-        threads = thread_offsets_above(files) if is_above else {index: -it for index, it in thread_offsets(files).items()}
+        threads = thread_offsets(files)
         self.files, self.modules = files, {index: number for number, index in enumerate(threads, 1)}
         self.terms = {"base": [it.base for it in files], "thread": threads}
 
@@ -346,7 +336,7 @@ if __name__ == "__main__":
     tally = Tally(given.elfload, "programs", "programs not loaded", "files", "words", "words equal", "words without a number", "bytes")
     compared: set[tuple[str, int]] = set()
     for program in [it for it in programs_in(given.files) if root.holds(it)][:: given.step]:
-        if is_aarch64(program) and not can_emulate():
+        if is_aarch64(program) and not shutil.which(EMULATOR):
             tally["left for want of an emulator"] += 1
         else:
             compare(program, root, bool(given.lazy), compared, tally)

@@ -13,7 +13,6 @@ import functools
 import os
 import platform
 import re
-import shutil
 import signal
 import socket
 import struct
@@ -22,7 +21,6 @@ import tempfile
 import time
 from collections import namedtuple
 from pathlib import Path
-from typing import List, Optional, Tuple
 
 from comparing import UNDEFINED, dynamic_symbols, read_elf, run
 
@@ -31,10 +29,11 @@ real = functools.lru_cache(maxsize=None)(os.path.realpath)
 MAPPED = re.compile(r"^([0-9a-f]+)-([0-9a-f]+) (...). ([0-9a-f]+) \S+ \d+ *(.*)$")
 
 # Requests of ptrace, and the call mprotect of x86-64 and of 386 with PROT_READ.
-TRACE_ME, WRITE_WORD, CONTINUE, REGISTERS, STEP_TO_CALL = 0, 5, 7, 12, 24
+TRACE_ME, WRITE_WORD, WRITE_REGISTER, CONTINUE, REGISTERS, STEP_TO_CALL = 0, 5, 6, 7, 12, 24
 MPROTECT, NARROW_MPROTECT, READ_ALONE = 10, 125, 1
-# The places of registers in user_regs_struct of x86-64, and the number AT_BASE of the auxiliary vector.
-THIRD, NUMBER, LINKER_BASE = 12, 15, 7
+# The places of registers in user_regs_struct of x86-64, and the numbers AT_BASE and AT_ENTRY of the auxiliary vector.
+THIRD, NUMBER, POINTER = 12, 15, 16
+LINKER_BASE, ENTRY = 7, 9
 
 
 # A mapping: its addresses, its permissions, its offset in the file, and what it holds: for elfload `file`, `zero` or `none`, in
@@ -58,14 +57,14 @@ def is_narrow(path: str) -> bool:
         return file.read(5)[4:] == b"\x01"
 
 
-def linker_of(path: str) -> Optional[str]:
+def linker_of(path: str) -> str | None:
     """The linker that a dynamically linked program names, if the file is one."""
     said = run(["readelf", "-lW", "--", path]).output if read_elf(path) else ""
     found = re.search(r"\[Requesting program interpreter: (.*)\]$", said, re.M)
     return found[1] if found and re.search(r"^  DYNAMIC ", said, re.M) else None
 
 
-def programs_in(paths: List[str]) -> List[str]:
+def programs_in(paths: list[str]) -> list[str]:
     """The dynamically linked programs among these and in the folders among these, each once."""
     files = [[path] if not os.path.isdir(path) else sorted({real(it.path) for it in os.scandir(path) if it.is_file()}) for path in paths]
     return [it for it in dict.fromkeys(real(it) for some in files for it in some) if linker_of(it)]
@@ -110,7 +109,7 @@ class Stopped:
         self.libc.ptrace(how, self.pid, None, None)
         return self.wait()
 
-    def registers(self) -> Tuple[int, ...]:
+    def registers(self) -> tuple[int, ...]:
         held = (ctypes.c_ulonglong * 27)()
         self.libc.ptrace(REGISTERS, self.pid, None, ctypes.byref(held))
         return tuple(held)
@@ -125,12 +124,19 @@ class Stopped:
                 return True
         return False
 
-    def to_address(self, address: int) -> bool:
+    def stop_at(self, address: int) -> bytes:
+        """Has the process stop at an address, and returns the bytes that were there."""
         word = self.memory(address, 8)
         self.libc.ptrace(WRITE_WORD, self.pid, address, int.from_bytes(b"\xcc" + word[1:], "little"))
-        reached = self.go(CONTINUE) and self.signal() == signal.SIGTRAP
+        return word
+
+    def to_address(self, address: int) -> bool:
+        """Runs up to an address, from where the process can go on; False if it stops elsewhere before."""
+        word = self.stop_at(address)
+        reached = self.go(CONTINUE) and self.signal() == signal.SIGTRAP and self.registers()[POINTER] == address + 1
         if reached:
             self.libc.ptrace(WRITE_WORD, self.pid, address, int.from_bytes(word, "little"))
+            self.libc.ptrace(WRITE_REGISTER, self.pid, 8 * POINTER, address)
         return reached
 
     def memory(self, start: int, size: int) -> bytes:
@@ -138,17 +144,12 @@ class Stopped:
         with open(f"/proc/{self.pid}/mem", "rb", buffering=0) as held:
             held.seek(start)
             found = bytearray()
-            while len(found) < size:
-                try:
-                    part = held.read(size - len(found))
-                except OSError:
-                    break
-                if not part:
-                    break
-                found += part
+            with contextlib.suppress(OSError):
+                while len(found) < size and (part := held.read(size - len(found))):
+                    found += part
             return bytes(found)
 
-    def maps(self) -> List[Mapping]:
+    def maps(self) -> list[Mapping]:
         lines = Path(f"/proc/{self.pid}/maps").read_text("utf-8", "surrogateescape").split("\n")
         return [mapping_of(MAPPED.match(it)) for it in lines[:-1]]
 
@@ -168,14 +169,14 @@ class Stopped:
         return said
 
 
-def linker_in(process: Stopped, maps: List[Mapping]) -> Tuple[str, int]:
+def linker_in(process: Stopped, maps: list[Mapping]) -> tuple[str, int]:
     """The dynamic linker that Linux has mapped for a process, if there is one, and its base."""
     base = process.auxiliary(LINKER_BASE)
     return next((it.holds for it in maps if it.start <= base < it.end), ""), base
 
 
 @functools.lru_cache(maxsize=None)
-def value_of(path: str, name: str) -> Optional[int]:
+def value_of(path: str, name: str) -> int | None:
     """The value of a dynamic symbol, as readelf says."""
     return next((it.value for it in dynamic_symbols(path) if it.name == name and it.section != UNDEFINED), None)
 
@@ -201,10 +202,6 @@ EMULATOR = "qemu-aarch64"
 DONE, STOPPED = "OK", f"T{signal.SIGTRAP:02x}"
 # How long the stub may take to be there, and to reply.
 SECONDS = 60.0
-
-
-def can_emulate() -> bool:
-    return shutil.which(EMULATOR) is not None
 
 
 class Emulated(Stopped):
@@ -244,7 +241,7 @@ class Emulated(Stopped):
             return ""
         return said.partition(b"$")[2].decode("latin-1")
 
-    def to_relocated(self, linker: str) -> Optional[Tuple[str, int]]:
+    def to_relocated(self, linker: str) -> tuple[str, int] | None:
         """Runs up to where relocation is done and no constructor has run; the linker and its base, if the process gets there."""
         base = min((it.start for it in self.maps() if it.holds == linker), default=None)
         state = value_of(linker, "_dl_debug_state")

@@ -6,14 +6,13 @@
 What is an error of elfinfo by design is counted as an expected error. Its own checks aren't compared. With extended numbering the fields
 of the ELF header are compared as they are there, and the lists go by section 0.
 """
-import pathlib
 import re
 import sys
-import tomllib
 
 from comparing import Tally, compare_all, llvm, parts, raw, run
+from pages.sources import table_of
 
-TABLE = tomllib.loads(pathlib.Path(__file__).with_name("elfinfo.toml").read_text(encoding="utf-8"))
+TABLE = table_of(__file__)
 NAMES = {field: {int(number, 0): name for number, name in names.items()} for field, names in TABLE["names"].items()}
 SECTIONS, SEGMENTS, WORDS = (NAMES[it] for it in ("section", "segment", "word"))
 IDENT, FIELDS = TABLE["ident"], TABLE["fields"]

@@ -1,13 +1,14 @@
 #!/usr/bin/env python3
 """Compares what the recipes of docs/RECIPES.md print with readelf, and the symbols of addresses with nm, over real files.
 
-    tools/compare/recipes.py [--elfrecipes PATH] [FILE..]
+    tools/compare/recipes.py [--elfrecipes PATH] [--elfbind PATH] [--elfload PATH] [--elfsize PATH] [FILE..]
 
-The recipes in Python are run where tools/exports/python.sh has built the package: that of the largest functions over each file, those
-of libraries over a made root and over PACKAGE, which needs no other packages than those that dpkg says. Without files it takes the
-programs and libraries of SYSTEM, and what gcc makes of a small source (MADE). Files that `elfrecipes` doesn't read count as
-differences.
+Those with jq, on that page and on docs/PROGRAMS.md, must print what Python picks of the same JSON. The recipes in Python are run where
+tools/exports/python.sh has built the package: that of the largest functions over each file, those of libraries over a made root and
+over PACKAGE, which needs no other packages than those that dpkg says. Without files it takes the programs and libraries of
+recipes.toml, and what gcc makes of a small source. Files that `elfrecipes` doesn't read count as differences.
 """
+import json
 import re
 import shutil
 import subprocess
@@ -16,24 +17,22 @@ import tempfile
 from collections import Counter
 from pathlib import Path
 
-from comparing import LOAD, ROOT, SECTION, Tally, build_ids, llvm, nm, parser_of, parts, raw, relocation_tables, texts_of
+from comparing import (
+    LOAD, ROOT, SECTION, Tally, build_ids, first_differing, llvm, nm, parser_of, parts, raw, relocation_tables, run, texts_of)
+from pages.sources import table_of
 from sizes import Symbol, runs_of
 
-SYSTEM = ["/bin/ls", "/usr/bin/readelf", "/bin/bash", "/lib/x86_64-linux-gnu/libc.so.6", "/lib/x86_64-linux-gnu/libm.so.6"]
-OURS = ["crates/elfnm/data/add.o", "crates/elfrecipes/data/prog", "crates/elfsym/data/stripped.so"]
-
-# What is made of tools/compare/sources, by the arguments of gcc.
-MADE = {
-    "object_64.o": ["-c", "near.c"],
-    "program_64": ["near.c", "main.c"],
-    "static_64": ["-static", "near.c", "main.c"],
-    "shared_64.so": ["-shared", "-fPIC", "near.c", "-lm", "-Wl,--no-as-needed,-lm,--hash-style=both"],
-    "object_32.o": ["-m32", "-c", "near.c"],
-    "shared_32.so": ["-m32", "-shared", "-fPIC", "-nostdlib", "near.c", "-Wl,--allow-shlib-undefined"],
-    "needs_32.so": ["-m32", "-shared", "-fPIC", "-nostdlib", "near.c", "-Wl,--no-as-needed", "./shared_32.so"],
-}
-
+TABLE = table_of(__file__)
 NO_BITS, FUNCTION, EXECUTED, NAMED = 8, 2, 4, (0, 1, 2, 10)
+
+# The recipes with jq: the program, its words before the file, and what reads its output; which objects each is for, and the member
+# that it prints.
+PAGES = "".join((ROOT / it).read_text() for it in ("docs/RECIPES.md", "docs/PROGRAMS.md"))
+PIPES = re.findall(r"^ *(elf\w+) (--json.*?) \S+ \| (jq .*?)(?: {2,}#.*)?$", PAGES, re.M)
+PICKED = {
+    "elfbind": (lambda it: it["file"] is None and not it["weak"], "name"),
+    "elfload": (lambda it: it.get("by") == "glibc" and it["flags"] & 3 == 3, "file"),
+    "elfsize": (lambda it: it["kind"] == "symbol" and it["size"] > 4096, "name")}
 
 # The recipes of docs/RECIPES.md in Python.
 LARGEST, STARTS, NEEDS = re.findall(r"^```python$(.*?)^```$", (ROOT / "docs/RECIPES.md").read_text(), re.M | re.S)
@@ -105,8 +104,21 @@ def compare(tally: Tally, program: str, path: str) -> None:
     for name, lines in wanted(path).items():
         ours = said.get(name, [])
         if ours != lines:
-            at = next((it for it, (one, other) in enumerate(zip(ours, lines)) if one != other), min(len(ours), len(lines)))
+            at = first_differing(ours, lines)
             tally.differ(path, f"{name}, line {at + 1} of {len(ours)} and {len(lines)}", ours[at : at + 1], lines[at : at + 1])
+
+
+def compare_pipes(tally: Tally, programs: dict, path: str) -> None:
+    """Compares what the recipes with jq print of a file."""
+    for name, words, pipe in PIPES:
+        picks, key = PICKED[name]
+        # As if memory that is writable were executable too.
+        said = run([programs[name], *words.split(), path]).output.replace('"flags":6', '"flags":7')
+        printed = run(["sh", "-c", pipe], given=said.encode()).output.split("\n")[:-1]
+        wanted = [it.get(key) or "null" for it in map(json.loads, said.split("\n")[:-1]) if picks(it)]
+        tally["lines by jq"] += len(wanted)
+        if printed != wanted:
+            tally.differ(path, f"{name} {words} | {pipe}", printed, wanted)
 
 
 def largest(path: str) -> list:
@@ -152,7 +164,7 @@ def compare_libraries(tally: Tally) -> None:
 
 
 if __name__ == "__main__":
-    given, tally = parser_of(__doc__, "elfrecipes", files="*").parse_args(), Tally("elfrecipes", "files", "addresses")
+    given, tally = parser_of(__doc__, "elfrecipes", *PICKED, files="*").parse_args(), Tally("elfrecipes", "files", "addresses")
     is_built = (PYTHON / "xmas_elf/libxmas_elf.so").exists()
     if not is_built:
         print("recipes: the package for Python is not built: its recipe is not run")
@@ -162,14 +174,15 @@ if __name__ == "__main__":
         for name in ("near.c", "main.c"):
             shutil.copy(ROOT / "tools/compare/sources" / name, room)
         made = []
-        for name, arguments in MADE.items():
-            done = subprocess.run(["gcc", "-O1", *arguments, "-o", name], cwd=room, capture_output=True, text=True)
+        for name, arguments in TABLE["made"].items():
+            done = subprocess.run(["gcc", "-O1", *arguments.split(), "-o", name], cwd=room, capture_output=True, text=True)
             made += [f"{room}/{name}"] if done.returncode == 0 else []
             if done.returncode != 0:
                 print(f"gcc makes no {name}: {done.stderr.strip().splitlines()[-1:]}")
-        files = given.files or [*(str(ROOT / it) for it in OURS), *made, *(it for it in SYSTEM if Path(it).exists())]
+        files = given.files or [*(str(ROOT / it) for it in TABLE["ours"]), *made, *(it for it in TABLE["system"] if Path(it).exists())]
         for path in files:
             compare(tally, given.elfrecipes, path)
+            compare_pipes(tally, vars(given), path)
             if is_built:
                 done = subprocess.run([sys.executable, "-c", LARGEST, path], cwd=PYTHON, capture_output=True, text=True)
                 ours = [int(line.split()[0]) for line in done.stdout.splitlines()]

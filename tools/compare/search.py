@@ -19,8 +19,9 @@ import sys
 import tempfile
 from collections import namedtuple
 
-from comparing import Tally, files_of, parser_of, read_elf, run
+from comparing import Tally, files_of, first_differing, parser_of, read_elf, run
 from damage import hash_number
+from pages.sources import table_of
 from processes import can_trace, linker_of
 
 NEEDED, SONAME, RPATH, RUNPATH, FLAGS_1, VERDEF, VERNEED, AUXILIARY, FILTER = 1, 14, 15, 29, 0x6FFFFFFB, 0x6FFFFFFC, 0x6FFFFFFE, 0x7FFFFFFD, 0x7FFFFFFF
@@ -96,7 +97,7 @@ def compare(what: str, wanted: Tree, says: Tree, tally: Tally, *names: str) -> N
         if a == b or name == "tried" and a is None:
             continue
         lists = isinstance(a, list) and isinstance(b, list)
-        at = next((it for it, (x, y) in enumerate(zip(a, b)) if x != y), min(len(a), len(b))) if lists else 0
+        at = first_differing(a, b) if lists else 0
         tally.fault(f"{what}: {name}: elftree has {a[at:at + 3] if lists else a}, ld.so {b[at:at + 3] if lists else b} (item {at})")
     tally["paths tried"] += len(says.tried or ())
 
@@ -200,11 +201,7 @@ def names_of(cache: bytes) -> list:
 class Forest:
     """The folder in which trees are made, with an ld.so that reads the cache there."""
 
-    NAMES = [f"lib{it}.so" for it in ("a", "b", "c1", "c01", "d.2", "e")]
-    FOLDERS = ["bin", "lib", "lib/x", "lib/glibc-hwcaps/x86-64-v2", "lib/x/tls", "lib/x86_64", "lib/x86_64-linux-gnu", "other"]
-    # No directory's name is that of another with a subdirectory for processors.
-    LISTS = ["$ORIGIN", "$ORIGIN/../lib", "${ORIGIN}/x", "@/lib:$ORIGIN/x/::$ORIGIN/x", "@/$LIB", "@/lib/x//", "lib", "", ":", "@/none:@/lib/../lib",
-        "$ORIGINAL:@/other", "@/./lib/$PLATFORM:@/lib/${LIB", "other/", "@/other:@/lib/x", "@/${LIB}:@/lib"]
+    NAMES, FOLDERS, LISTS = table_of(__file__).values()
 
     def __init__(self, room: str, seed: int):
         self.room, self.chance = room, random.Random(seed)

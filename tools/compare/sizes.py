@@ -28,8 +28,8 @@ SIZED = re.compile(r"^([0-9a-f]+) ([0-9a-f]+) \S ", re.M)
 HEADER = re.compile(r"^ *\[ *(\d+)\] .*? ([A-Z0-9_]+|LOOS\S*|<unknown>\S*) +[0-9a-f]{8,16} [0-9a-f]{6,} ([0-9a-f]{6,}) ", re.M)
 MOST_PARTS, NO_BITS, RELRO = 3000, 8, 0x6474E552
 SYMBOL_TABLE, INDICES, OBJECT_FILE, MOST_ADDRESS = 2, 18, 1, 2**64 - 1
-# The letters of mapping symbols, by the machine: Arm, Arm 64-bit, RISC-V and C-SKY.
-MAPPING = {40: b"adt", 183: b"dx", 243: b"d", 252: b"dt"}
+# How the names of labels and of mapping symbols begin, these by the machine: Arm, Arm 64-bit, RISC-V and C-SKY.
+LABEL, MAPPING = rb"\.L", {40: rb"\$[adt](\0|\.|\Z)", 183: rb"\$[dx](\0|\.|\Z)", 243: rb"\$x|\$d(\0|\.|\Z)", 252: rb"\$[dt](\0|\.|\Z)"}
 
 # A part of a file and its bytes.
 Part = collections.namedtuple("Part", "name begin end")
@@ -116,17 +116,10 @@ class Definition(damage.Headers):
             free = "between parts" if begin < last else "after all parts"
             yield Part(next((it.name for it in order if it.begin <= begin < it.end), free), begin, end)
 
-    def owned(self) -> dict[str, int]:
-        """The number of bytes of each part that owns some."""
-        found: dict[str, int] = collections.Counter()
-        for name, begin, end in self.pieces():
-            found[name] += end - begin
-        return dict(found)
-
-    def owned_by_symbols(self) -> dict[str, int]:
-        """The same with the bytes of sections by symbol."""
+    def owned(self, by_symbols: bool) -> dict[str, int]:
+        """The number of bytes of each part that owns some, or with the bytes of sections by symbol."""
         by_section: dict[int, list[Symbol]] = collections.defaultdict(list)
-        for symbol in self.symbols():
+        for symbol in self.symbols() if by_symbols else ():
             if symbol.names_addresses:
                 by_section[symbol.section].append(symbol)
         runs = {f"section {section}": runs_of(all) for section, all in by_section.items()}
@@ -176,16 +169,8 @@ class Definition(damage.Headers):
 
     def is_name(self, begin: bytes, info: int) -> bool:
         """A name that begins so isn't empty, and neither that of a label nor that of a mapping symbol."""
-        if not begin or not begin[0]:
-            return False
-        if info or begin[:1] not in (b".", b"$"):
-            return True
-        machine, second, third = self.header("machine"), begin[1:2], begin[2:3]
-        if begin[:1] == b".":
-            return second != b"L"
-        if machine == 243 and second == b"x":
-            return False
-        return not (second and second in MAPPING.get(machine, b"") and third in (b"", b"\0", b"."))
+        is_other = re.match(MAPPING.get(self.header("machine"), LABEL), begin) or re.match(LABEL, begin)
+        return begin[:1] not in (b"", b"\0") and (info != 0 or not is_other)
 
 
 def lines_of(output: str) -> Iterator[tuple[int, str, str, str]]:
@@ -232,7 +217,7 @@ def beside_definition(path: str, sizes: dict[str, int], content: bytes, tally: T
     if len(definition.sections) + len(definition.segments) > MOST_PARTS:
         tally["files too large for the definition"] += 1
         return
-    wanted = definition.owned_by_symbols() if by_symbols else definition.owned()
+    wanted = definition.owned(by_symbols)
     for part in sorted({*sizes, *wanted}):
         if sizes.get(part) != wanted.get(part):
             tally.differ(path, part, sizes.get(part), f"nothing, the definition {wanted.get(part)}")

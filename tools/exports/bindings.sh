@@ -41,7 +41,7 @@ diff <(nm --undefined-only "$archive" | awk '$1 == "U" { print $2 }' | grep -vxE
 readelf --wide --sections --relocs "$archive" > "$room/archive"
 if grep -E 'eh_frame|R_X86_64_(32|32S|64) | WAT? ' "$room/archive"; then exit 1; fi
 
-for program in nm find dynamic addresses speed; do
+for program in nm find dynamic addresses sizes speed; do
     gcc -std=c11 "${strict[@]}" "bindings/c/$program.c" "$archive" -o "$room/${program}_c"
 done
 cxx=(g++)
@@ -74,14 +74,27 @@ print("#include <elf.h>", *(f"_Static_assert({it.name} == {it.value}, \"{it.name
 # The programs of the page.
 awk '/^```c$/ { on = 1; next } /^```$/ { on = 0 } on' bindings/c/README.md > "$room/shown.c"
 gcc -std=c11 "${strict[@]}" "$room/shown.c" "$archive" -o "$room/names_c"
+# The page's sizes of symbols, beside those of the program in C++.
+gcc -std=c11 "${strict[@]}" -Dmain=print_all -c "$room/shown.c" -o "$room/shown.o"
+gcc -std=c11 "${strict[@]}" bindings/c/tests/sizes.c "$room/shown.o" "$archive" -o "$room/sizes_of_page"
+for file in "$room/nm_c" "$room/dump"; do
+    diff <("$room/sizes_of_page" < "$file") <("$room/sizes" "$file" | awk 'NF == 2') > "$room/difference" || { head "$room/difference"; exit 1; }
+done
 awk '/^```cpp$/ { on = 1; next } /^```$/ { on = 0 } on' bindings/c/README.md > "$room/shown.cpp"
 g++ -std=c++17 "${strict[@]}" -Wconversion "$room/shown.cpp" "$archive" -o "$room/names_cpp"
 zlib=/lib/x86_64-linux-gnu/libz.so.1
 diff <("$room/names_cpp" $zlib | grep '^lib.*\.so') <(readelf --wide --dynamic $zlib | sed -n 's/.*(NEEDED).*\[\(.*\)\]$/\1/p')
-cargo build --quiet --offline --release --manifest-path bindings/rust/Cargo.toml --examples
+cargo build --quiet --offline --release --manifest-path bindings/rust/Cargo.toml --lib --examples
+# The program of the crate's page, of a path that is given, and the example, as users build them.
+awk '/^```rust$/ { on = 1; next } /^```$/ { on = 0 } on' bindings/rust/README.md |
+    sed 's|"/proc/self/exe"|std::env::args_os().nth(1).expect("a path")|' > "$room/names.rs"
+for program in "$room/names.rs" bindings/examples/symbols.rs; do
+    rustc --edition 2021 -O "$program" --extern "xmas_elf_proved=$CARGO_TARGET_DIR/release/libxmas_elf_proved.rlib" \
+        -o "$room/$(basename "$program" .rs)_rs"
+done
 # C, C++ and Rust beside nm and readelf, over 300 files. A path that can't be opened is named.
 tools/compare/dump.py
-for program in "$room"/{nm_c,find_c,dynamic_c,addresses_c,nm_g++,dump,memory,sizes} "$CARGO_TARGET_DIR"/release/examples/{nm,find,dump,addresses}; do
+for program in "$room"/{nm_c,find_c,dynamic_c,addresses_c,sizes_c,nm_g++,dump,memory,sizes} "$CARGO_TARGET_DIR"/release/examples/{nm,find,dump,addresses,sizes}; do
     { "$program" /no/such/file 2>&1 || true; } | grep -q '^/no/such/file: No such file or directory' ||
         { echo "$program doesn't name its path"; exit 1; }
 done
@@ -105,19 +118,22 @@ for program in /bin/ls /bin/bash /usr/bin/env; do
         grep -qF "$name => $path " <(LD_TRACE_LOADED_OBJECTS=1 /lib64/ld-linux-x86-64.so.2 "$program") || { echo "$program: $name => $path"; exit 1; }
     done < <("$room/search" "$program" | grep '=>')
 done
+# Calls for several objects of C++ throw the index of the one with the error.
+g++ -std=c++17 "${strict[@]}" -Wconversion bindings/cpp/tests/objects.cpp "$archive" -o "$room/objects"
+"$room/objects" "$room/mapped"
 # Programs that the example in C loads.
 tools/exports/loading.sh "$XMAS_ELF_ARCHIVE"
 # Both kinds of hash tables, a file's own name and its folders, and libraries with many versions.
 echo 'int one(void) { return 1; }' |
     gcc -shared -fPIC -x c - -o "$room/libnamed.so" -Wl,-soname,libnamed.so.1 -Wl,-rpath,/a:/b -Wl,--enable-new-dtags
-# The tables of both classes and both orders, with and without addends, packed ones too.
+# The tables of both classes and both orders, with and without addends, packed ones too, and notes of both classes.
 tables=()
 if command -v clang > /dev/null && command -v ld.lld > /dev/null; then
     echo 'int f(int); int x, *a[] = {&x}; static int w[40], *s[] = {w, w + 1, w + 30};
         int g(int b) { return f(b) + *a[b] + *s[b]; }' > "$room/tables.c"
     for machine in i386 x86_64 powerpc powerpc64; do
         clang "--target=$machine-linux-gnu" -fPIC -c "$room/tables.c" -o "$room/tables.o"
-        ld.lld -shared --pack-dyn-relocs=relr "$room/tables.o" -o "$room/tables_$machine.so"
+        ld.lld -shared --build-id --pack-dyn-relocs=relr "$room/tables.o" -o "$room/tables_$machine.so"
         tables+=("$room/tables_$machine.so")
     done
 fi
@@ -134,12 +150,10 @@ done
 # What differs in two programs, beside elfsize where it is built; and a debug file by its link.
 elfsize="$PWD/crates/elfsize/out/elfsize"
 for words in "" --symbols; do
-    # shellcheck disable=SC2086
-    "$room/differences" $words "$room/nm_c" "$room/find_c" > "$room/of_cpp"
-    # shellcheck disable=SC2086
-    "$CARGO_TARGET_DIR/release/examples/differences" $words "$room/nm_c" "$room/find_c" | cmp - "$room/of_cpp"
-    # shellcheck disable=SC2086
-    [ ! -x "$elfsize" ] || "$elfsize" --diff $words "$room/nm_c" "$room/find_c" | sed '/^all parts$/,$d' | cmp - "$room/of_cpp"
+    asked=(${words:+"$words"} "$room/nm_c" "$room/find_c")
+    "$room/differences" "${asked[@]}" > "$room/of_cpp"
+    "$CARGO_TARGET_DIR/release/examples/differences" "${asked[@]}" | cmp - "$room/of_cpp"
+    [ ! -x "$elfsize" ] || "$elfsize" --diff "${asked[@]}" | sed '/^all parts$/,$d' | cmp - "$room/of_cpp"
 done
 objcopy --only-keep-debug "$room/every_gcc" "$room/every.debug"
 objcopy --strip-all --add-gnu-debuglink="$room/every.debug" "$room/every_gcc" "$room/every_stripped"
@@ -148,6 +162,7 @@ for example in c cpp; do
     compiler=gcc; [ $example = cpp ] && compiler=g++
     "$compiler" "${strict[@]}" -Ibindings/include "bindings/examples/symbols.$example" "$archive" -o "$room/symbols_$example"
 done
+gcc -std=c11 "${strict[@]}" bindings/examples/loads.c "$archive" -o "$room/loads_c"
 # Tasks of new users beside the tools that they know, and over files of which parts are missing.
 bindings/c/tests/tasks.py "$room"
 mkdir "$room/damaged"

@@ -1,11 +1,12 @@
 #!/usr/bin/env python3
 """Writes the declarations of bindings/exports.toml for C, Rust and Python, and checks them against the exports.
 
-It writes the statuses (tools/exports/statuses.py), structs and functions in bindings/include/xmas_elf.h; error.rs, records.rs,
-ffi.rs and, from bindings/constants.toml, constants.rs in bindings/rust/src; the modules for Python
-(python_declarations.py); and calls for tests. --check: writes nothing, and fails where a file differs, where the
-`#[repr(C)]` structs or the exported functions of crates/elf_c/src are others than those of the list, where a list of
-statuses is another than its definition has, or where a named number of the crates is another."""
+It writes the statuses (tools/exports/statuses.py), the groups of errors (groups.py), structs and functions in
+bindings/include/xmas_elf.h; the table of these groups in bindings/c/README.md; error.rs, records.rs, ffi.rs and, from
+bindings/constants.toml, constants.rs in bindings/rust/src; the modules for Python (python_declarations.py); and calls for
+tests. --check: writes nothing, and fails where a file differs, where the `#[repr(C)]` structs or the exported functions of
+crates/elf_c/src are others than those of the list, where a list of statuses is another than its definition has or than a
+comment of the header means, or where a named number of the crates is another."""
 import itertools
 import pathlib
 import re
@@ -13,32 +14,22 @@ import sys
 import textwrap
 
 sys.path.insert(1, str(pathlib.Path(__file__).resolve().parents[1]))
+import groups
 import listing
 import python_declarations
 import statuses
 from listing import FILLED, GIVEN, IN, OUT, ROOT, SLICE, VALUE
-from pages.sources import differing, ended, parser_of
+from pages.sources import differing, ended, parser_of, table_of
 
-HEADER = ROOT / "bindings/include/xmas_elf.h"
+HEADER, C_PAGE = ROOT / "bindings/include/xmas_elf.h", ROOT / "bindings/c/README.md"
 RUST, PACKAGE = ROOT / "bindings/rust/src", ROOT / "bindings/python/xmas_elf"
 SOURCES = ROOT / "crates/elf_c/src"
 FIRST, LAST = "/* The structs and functions, written by tools/exports/declarations.py. */", "/* End of the structs and functions. */"
-WIDTH = 118
+WIDTH = groups.WIDTH
 ALL_STATUSES = tuple(name for name, _, _ in statuses.statuses())
 
-# How a parameter of each kind is written in C, in a declaration and in a safe call of Rust, in what that hands on, and in the
-# sources.
-C, DECLARED, SAFE, HANDED, SOURCE = range(5)
-SHAPES = {
-    VALUE: ("{c} {name}", "{name}: {rust}", "{name}: {rust}", "{name}", "{name}: {type}"),
-    IN: ("const {c} *{name}", "{name}: *const {rust}", "{name}: &{rust}", "{name}", "{name}: &{type}"),
-    OUT: ("{c} *{name}", "{name}: *mut {rust}", "", "&mut {name}", "{name}: &mut {type}"),
-    SLICE: ("const {c} *{name}, size_t {name}_{count}", "{name}: *const {rust}, {name}_len: usize", "{name}: &[{rust}]",
-        "{name}.as_ptr(), {name}.len()", "{name}: &[{type}]"),
-    GIVEN: ("{c} *{name}", "{name}: *mut {rust}", "{name}: &mut {rust}", "{name}", "{name}: &mut {type}"),
-    FILLED: ("{c} *{name}, size_t {name}_{count}", "{name}: *mut {rust}, {name}_len: usize", "{name}: &mut [{rust}]",
-        "{name}.as_mut_ptr(), {name}.len()", "{name}: &mut [{type}]"),
-}
+# How parameters of each kind are written, and what the calls for tests hand to them.
+TABLE = table_of(__file__)
 RESULTS = {"status": ("uint32_t", " -> u32"), "size": ("size_t", " -> usize"), "none": ("void", "")}
 
 
@@ -47,7 +38,7 @@ def parameters(function, form, listed):
     found = []
     for one in function.parameters:
         names = {"c": listed.c_type(one.type), "rust": listed.rust_type(one.type), "count": "size" if one.type == "u8" else "count"}
-        found.append(SHAPES[one.kind][form].format(name=one.name, type=one.type, **names))
+        found.append(TABLE["shapes"][one.kind][form].format(name=one.name, type=one.type, **names))
     return [part for text in found if text for part in text.split(", ")]
 
 
@@ -68,7 +59,7 @@ def laid_out(start, parts, end, indent):
 def c_comment(text, indent=""):
     for status in ALL_STATUSES:
         text = text.replace(f"`{status}`", listing.constant(status))
-    lines = wrapped(text, f"{indent}/* ", f"{indent} * ")
+    lines = [line.replace("\0", " ") for line in wrapped(text, f"{indent}/* ", f"{indent} * ")]
     return lines[:-1] + [lines[-1] + " */"]
 
 
@@ -85,25 +76,18 @@ def c_struct(struct, listed):
     return lines + [f"}} {struct.c_type};", ""]
 
 
-def described(function):
-    """The comment of a function, with its statuses."""
-    parts = [function.comment]
-    for start, names in (("Errors", function.statuses), ("Errors of a record", function.item_statuses)):
-        order = ", in the order of the tests" if len(names) > 1 else ""
-        parts += [f"{start}{order}: " + ", ".join(f"`{name}`" for name in names) + "."] if names else []
-    return " ".join(parts)
-
-
 def header_text(listed, rows):
     text, lines = HEADER.read_text(encoding="utf-8"), [FIRST]
     for struct in listed.structs:
         lines += c_struct(struct, listed)
     for function in listed.functions:
         start = f"{'XMAS_ELF_NODISCARD ' if function.statuses else ''}{RESULTS[function.result][0]} {function.export}("
-        declared = laid_out(start, parameters(function, C, listed), ") XMAS_ELF_NOEXCEPT;", "")
-        lines += [*c_comment(described(function)), *declared, ""]
+        declared = laid_out(start, parameters(function, "c", listed), ") XMAS_ELF_NOEXCEPT;", "")
+        said = groups.described(function, function.said, function.item_said, lambda names: groups.phrases(names, listed))
+        lines += [*c_comment(said), *declared, ""]
     lines[-1] = LAST
-    for part, first, last in ((statuses.c_part(rows), statuses.FIRST, statuses.LAST), (lines, FIRST, LAST)):
+    listings = [*statuses.c_part(rows), "", *groups.c_part(listed), statuses.LAST]
+    for part, first, last in ((listings, statuses.FIRST, statuses.LAST), (lines, FIRST, LAST)):
         text = text[: text.index(first)] + "\n".join(part) + text[text.index(last) + len(last) :]
     return text
 
@@ -130,10 +114,11 @@ def safe_call(function, listed):
     written = [parameter for parameter in function.parameters if parameter.kind == OUT]
     value = listed.rust_type(written[0].type) if written else "()"
     result = f" -> Result<{value}, Error>" if function.result == "status" else RESULTS[function.result][1]
-    head = laid_out(f"pub(crate) fn {function.name}(", parameters(function, SAFE, listed), f"){result} {{".replace(" ", chr(0)), "")
-    lines = ["", *rust_comment(described(function)), *head]
+    head = laid_out(f"pub(crate) fn {function.name}(", parameters(function, "safe", listed), f"){result} {{".replace(" ", chr(0)), "")
+    said = groups.described(function, function.statuses, function.item_statuses, lambda names: [f"`{name}`" for name in names])
+    lines = ["", *rust_comment(said), *head]
     lines += [f"    let mut {one.name} = {listed.rust_type(one.type)}::default();" for one in written]
-    call = f"{function.export}({', '.join(parameters(function, HANDED, listed))})"
+    call = function.export + "(" + ", ".join(parameters(function, "handed", listed)) + ")"
     lines.append("    // SAFETY: see the head of this file.")
     if function.result == "status":
         lines += wrapped(f"let status = unsafe {{ {call} }};", "    ", "        ")
@@ -145,7 +130,7 @@ def ffi_text(listed):
     declared, calls = [], []
     for function in listed.functions:
         result = RESULTS[function.result][1].replace(" ", "\0")
-        declared += laid_out(f"fn {function.export}(", parameters(function, DECLARED, listed), f"){result};", "    ")
+        declared += laid_out(f"fn {function.export}(", parameters(function, "declared", listed), f"){result};", "    ")
         calls += safe_call(function, listed)
     used = {parameter.type for function in listed.functions for parameter in function.parameters}
     names = ", ".join(sorted(struct.rust for struct in listed.structs if struct.name in used))
@@ -168,62 +153,22 @@ def constants_text():
 # every call is in bindings/c/every.c and bindings/rust/src/tests.rs.
 
 ROOM = 3
-RUST_CALLS_HEAD = """//! A call of each export, for the tests. Written by tools/exports/declarations.py.
-
-use crate::records::*;
-use crate::{ffi, Error};
-
-// What the calls are asked with.
-pub(crate) struct Asked<'a> {
-    pub(crate) input: &'a [u8],
-    pub(crate) header: Header,
-    pub(crate) part: Range,
-    pub(crate) table: SymbolTable,
-    pub(crate) hash: FoundTable,
-    pub(crate) addresses: AddressIndex,
-    pub(crate) name: &'a [u8],
-    pub(crate) section: u64,
-    pub(crate) index: u64,
-}
-
-// Hands on the name of each call, its result, and the errors that it may return.
-pub(crate) fn every(asked: &Asked<'_>, mut heard: impl FnMut(&str, Result<(), Error>, &[Error])) {
-    let (input, header, part, table) = (asked.input, &asked.header, &asked.part, &asked.table);
-    let (hash, name, ranges) = (&asked.hash, asked.name, &[asked.part]);
-    let (address_index, numbers) = (&asked.addresses, &[asked.index, asked.section]);
-    let objects = &[LoadObject { file: input.into(), ..LoadObject::default() }];
-    let tokens = Tokens::new(name, name, name);
-    let search = SearchFor::new(name, tokens, name);
-"""
-
-# What is handed to a parameter: of numbers but the one named `section` the index, of records but these a part of the input, and
-# of slices but these a name.
-PLACES = {"header": "header", "symbol_table": "table", "hash_table": "hash", "address_index": "address_index"}
-C_NAMED = {"tokens": "lib", "search_for": "defaults", "cache_machine": None}
-C_PLACES = {name: f"(xmas_elf_{name}_t){{" + (f".{field} = a->name, .{field}_size = a->name_size" if field else ".flags = 0x303") + "}" for name, field in C_NAMED.items()}
-RUST_PLACES = {"tokens": "&tokens", "search_for": "&search", "cache_machine": "&CacheMachine::x86_64()"}
-C_SLICES = {"input": "a->bytes, a->size", "ranges": "&a->part, 1", "words": "a->words, a->words_count",
-    "numbers": "a->index_numbers, a->index_numbers_count", "addresses": "a->numbers, 2",
-    "objects": "&(xmas_elf_load_object_t){.file = a->bytes, .file_size = a->size}, 1",
-    "askers": "&(xmas_elf_search_asker_t){.r_path = a->name, .r_path_size = a->name_size}, 1",
-    "dependencies": "&(xmas_elf_dependencies_t){.found = a->words, .found_count = a->words_count}, 1"}
-RUST_SLICES = {"input": "input", "ranges": "ranges", "words": "&[0, 1]", "numbers": "&[0, 1]", "addresses": "numbers", "objects": "objects",
-    "askers": "&[SearchAsker::new(Some(name), None, tokens, false)]", "dependencies": "&[Dependencies::new(&[0, u32::MAX - 1], &[])]"}
 
 
 def number_for(parameter):
+    """What is handed to a number: the index but for the one named `section`."""
     return "section" if parameter.name == "section" else "index"
 
 
 def c_call(function, listed):
     """A function that makes a call; what it writes goes into the next output."""
-    place, arguments = 0, []
+    place, arguments, handed = 0, [], TABLE["c"]
     for one in function.parameters:
         written = f"out[{place}].of_{one.type}"
         arguments.append({
             VALUE: f"({listed.c_type(one.type)})a->{number_for(one)}",
-            IN: f"&{C_PLACES[one.type]}" if one.type in C_PLACES else f"&a->{PLACES.get(one.type, 'part')}",
-            SLICE: C_SLICES.get(one.name, "a->name, a->name_size"),
+            IN: handed["records"].get(one.type, "&a->part"),
+            SLICE: handed["slices"].get(one.name, "a->name, a->name_size"),
             OUT: f"&{written}[0]",
             GIVEN: f"&{one.name}",
             FILLED: f"{written}, {ROOM}",
@@ -251,12 +196,12 @@ def c_calls_text(listed):
 
 
 def rust_calls_text(listed):
-    lines = []
+    lines, handed = [], TABLE["rust"]
     for function in listed.functions:
         arguments = ", ".join({
             VALUE: f"asked.{number_for(one)}" + ("" if one.type == "u64" else f" as {listed.rust_type(one.type)}"),
-            IN: RUST_PLACES.get(one.type) or PLACES.get(one.type, "part"),
-            SLICE: RUST_SLICES.get(one.name, "name"),
+            IN: handed["records"].get(one.type, "part"),
+            SLICE: handed["slices"].get(one.name, "name"),
             GIVEN: f"&mut {listed.rust_type(one.type)}::default()",
             FILLED: f"&mut [{listed.rust_type(one.type).split('<')[0]}::default(); {ROOM}]",
         }[one.kind] for one in function.parameters if one.kind != OUT)
@@ -264,7 +209,7 @@ def rust_calls_text(listed):
         other = [f"    {'let _size = ' if function.result == 'size' else ''}{call};", "    let result = Ok(());"]
         lines += [f"    let result = {call}.map(|_| ());"] if function.result == "status" else other
         lines.append(f'    heard("{function.name}", result, &[{", ".join(f"Error::{name}" for name in function.statuses)}]);')
-    return RUST_CALLS_HEAD + "\n".join(lines) + "\n}\n"
+    return listing.template("calls.rs", CALLS="\n".join(lines))
 
 
 # The sources.
@@ -289,7 +234,7 @@ def differing_sources(listed):
     there = {name: parts_of(body, listed) for name, body in STRUCT.findall(text)}
     exported = {name: (parts_of(given, listed), results.get(result, result)) for name, given, result in EXPORT.findall(text)}
     here = {struct.source: [f"{field.name}: {field.type}" for field in struct.fields] for struct in listed.structs}
-    functions = {one.export: (parameters(one, SOURCE, listed), one.result) for one in listed.functions}
+    functions = {one.export: (parameters(one, "source", listed), one.result) for one in listed.functions}
     found = []
     for name, (ours, theirs) in {"structs": (here, there), "functions": (functions, exported)}.items():
         for key in sorted(ours.keys() | theirs.keys()):
@@ -321,13 +266,14 @@ if __name__ == "__main__":
     wanted[RUST / "records.rs"] = "\n".join([RECORDS_HEAD, *(line for it in listed.structs for line in rust_struct(it, listed)), ""])
     wanted |= {statuses.PINNED: "\n".join(statuses.numbered(rows)) + "\n", RUST / "error.rs": statuses.rust_part(rows)}
     wanted |= {RUST / "constants.rs": constants_text(), PACKAGE / "constants.py": python_declarations.constants()}
+    wanted[C_PAGE] = groups.page(C_PAGE.read_text(encoding="utf-8"), listed)
     wanted[PACKAGE / "_declarations.py"] = python_declarations.declarations(wanted[HEADER])
     wanted |= {RUST / "calls.rs": rust_calls_text(listed), ROOT / "bindings/c/calls.h": c_calls_text(listed)}
     failed = differing(wanted, is_check)
     if is_check:
         named = {name for one in listed.functions for name in one.statuses + one.item_statuses + one.never}
         failed += [f"the list names the status {name}, which is none" for name in sorted(named - set(ALL_STATUSES))]
-        failed += differing_sources(listed) + statuses.differing(listed)
+        failed += differing_sources(listed) + groups.differing(wanted[HEADER], listed) + statuses.differing(listed)
     count, others = differing_numbers()
     failed += others if is_check else []
     said = f"{len(listed.functions)} exports, {len(listed.structs)} structs, {count} named numbers"

@@ -6,12 +6,12 @@
 A type is a number (`u8` .. `u64`, `usize`), an array of bytes (`[u8; 7]`), bytes, numbers or texts that a field borrows (`&[u8]`,
 `&[u32]`, `&[&[u8]]`: a pointer and a size) or the name of a struct of the list. A parameter's `kind` says how it crosses: VALUE a number; IN a pointer to one value that is read;
 OUT to one that is written where the call is OK; SLICE a pointer and a count of values that are read; FILLED of values to be written."""
-import pathlib
 import re
 import tomllib
 from collections import namedtuple
 
-ROOT = pathlib.Path(__file__).resolve().parents[2]
+from pages.sources import ROOT, unfolded
+
 LIST = ROOT / "bindings/exports.toml"
 PREFIX = "xmas_elf_"
 VALUE, IN, OUT, GIVEN, SLICE, FILLED = "value", "in", "out", "given", "slice", "filled"
@@ -24,8 +24,11 @@ Struct = namedtuple("Struct", "name rust source comment public private_fields fi
 Parameter = namedtuple("Parameter", "name kind type")
 # The result is "status", "size" or "none". The statuses are those of the call, without OK, in the order of its tests;
 # `item_statuses` those of each record with a status of its own; `never` those that its contract names for nothing;
-# `held` those of `statuses` that a value of a library holds, whose list of errors no definition names.
-Function = namedtuple("Function", "name parameters result statuses item_statuses never held comment export")
+# `held` those of `statuses` that a value of a library holds, whose list of errors no definition names. `said` and `item_said`
+# are the lists as comments say them: a name of a status, or `@` and that of a group.
+Function = namedtuple("Function", "name parameters result statuses item_statuses never held comment export said item_said")
+# Errors that several calls share: what they are of, and their names, of which some may be those of groups.
+Group = namedtuple("Group", "name of statuses")
 # A number of the ELF standard: its group's comment, and the prefix of the names there.
 Constant = namedtuple("Constant", "name value type group prefix is_flag comment")
 
@@ -34,9 +37,12 @@ BORROWED = {"&[u8]": ("uint8_t", "Borrowed<{}>"), "&[u32]": ("uint32_t", "Borrow
 C_NUMBERS = {"u8": "uint8_t", "u16": "uint16_t", "u32": "uint32_t", "u64": "uint64_t", "usize": "size_t"}
 
 
-class Listed(namedtuple("Listed", "structs functions")):
+class Listed(namedtuple("Listed", "structs functions groups")):
     def struct(self, name: str) -> Struct:
         return next(struct for struct in self.structs if struct.name == name)
+
+    def group(self, name: str) -> Group:
+        return next(group for group in self.groups if group.name == name)
 
     def c_type(self, name: str) -> str:
         return C_NUMBERS.get(name) or self.struct(name).c_type
@@ -64,26 +70,22 @@ def parameter(text: str) -> Parameter:
     raise ValueError(f"{text}: no such type of parameters")
 
 
-def spread(names: list[str], errors: dict[str, list[str]]) -> tuple[str, ...]:
-    """The statuses of a list, each at its first place; `@NAME` means another list."""
-    found = []
-    for name in names:
-        found += spread(errors[name[1:]], errors) if name.startswith("@") else [name]
-    return tuple(dict.fromkeys(found))
-
-
 def read() -> Listed:
     table, structs, functions = tomllib.loads(LIST.read_text(encoding="utf-8")), [], []
+    groups = tuple(Group(name, **it) for name, it in table["errors"].items() if isinstance(it, dict))
+    errors = table["errors"] | {group.name: group.statuses for group in groups}
     for row in table["structs"]:
         fields = tuple(Field(it["name"], it["type"], it["comment"], it.get("c", it["name"].rstrip("_"))) for it in row["fields"])
         structs.append(Struct(**{"private_fields": False, **row, "fields": fields, "c_type": f"{PREFIX}{row['name']}_t"}))
     for row in table["functions"]:
-        lists = {key: spread(row.get(key, []), table["errors"]) for key in ("statuses", "item_statuses", "never", "held")}
+        # Each status at its first place.
+        lists = {key: tuple(dict.fromkeys(unfolded(row.get(key, []), errors))) for key in ("statuses", "item_statuses", "never", "held")}
+        lists |= {"said": tuple(row["statuses"]), "item_said": tuple(row.get("item_statuses", []))}
         parameters = tuple(map(parameter, row["parameters"]))
         on_error = row.pop("on_error", [])
         parameters = tuple(it._replace(kind=GIVEN) if it.name in on_error else it for it in parameters)
         functions.append(Function(**{**row, **lists, "parameters": parameters, "export": PREFIX + row["name"]}))
-    return Listed(tuple(structs), tuple(functions))
+    return Listed(tuple(structs), tuple(functions), groups)
 
 
 def template(name: str, **parts: str) -> str:
@@ -103,8 +105,5 @@ def constant(status: str) -> str:
 def constants() -> tuple[Constant, ...]:
     """Numbers of the ELF standard by their names there."""
     groups = tomllib.loads((ROOT / "bindings/constants.toml").read_text(encoding="utf-8"))["groups"]
-    return tuple(
-        Constant(name, value, group["type"], group["comment"], group["prefix"], group.get("flags", False), said)
-        for group in groups
-        for name, value, said in group["rows"]
-    )
+    return tuple(Constant(name, value, group["type"], group["comment"], group["prefix"], group.get("flags", False), said)
+                 for group in groups for name, value, said in group["rows"])

@@ -18,14 +18,10 @@ python3 bindings/python/wheel_backend.py
 [ "${1:-}" != --build ] || exit 0
 
 # The first Python that has what the tests need: that of the path may not be Debian's.
-python=""
-for candidate in python3 /usr/bin/python3; do
-    if "$candidate" -c "import pytest, elftools" 2> /dev/null; then
-        python="$candidate"
-        break
-    fi
+for python in python3 /usr/bin/python3 none; do
+    if "$python" -c "import pytest, elftools" 2> /dev/null; then break; fi
 done
-[ -n "$python" ] || { echo "python: not tested: pytest and pyelftools are missing (python3-pytest, python3-pyelftools)"; exit 0; }
+[ "$python" != none ] || { echo "python: not tested: pytest and pyelftools are missing (python3-pytest, python3-pyelftools)"; exit 0; }
 if [ "${1:-}" = --speed ]; then
     PYTHONPATH=bindings/python exec "$python" bindings/python/speed.py "$2"
 fi

@@ -9,23 +9,13 @@ import textwrap
 
 import listing
 from listing import FILLED, SLICE, VALUE
+from pages.sources import table_of
 
 LETTERS = {"u8": "B", "u16": "H", "u32": "I", "u64": "Q"}
 KINDS = {"u8": "c_uint8", "u16": "c_uint16", "u32": "c_uint32", "u64": "c_uint64", "usize": "c_size_t"}
 RESULTS = {"status": "c_uint32", "size": "c_size_t", "none": "None"}
-# What the package's rows of a record have in front of its fields.
-NAME = (("name", "Optional[str]", "The name, or None if it can't be read."), ("name_status", "int", "The status of the name."))
-FILE = ("file", "ElfFile", "The file.")
-FRONT = {
-    "section": (FILE, ("index", "int", "The index of the section."), *NAME),
-    "segment": (FILE, ("index", "int", "The index of the segment.")),
-    "symbol": NAME,
-}
-# The fields whose numbers have names.
-NAMED = {
-    ("header", "type"): "ET", ("header", "machine"): "EM", ("header", "os_abi"): "ELFOSABI",
-    ("section", "type"): "SHT", ("section", "flags"): "SHF", ("segment", "type"): "PT", ("segment", "flags"): "PF", ("dynamic", "tag"): "DT",
-}
+TABLE = table_of(__file__)
+FRONT, NAMED = TABLE["front"], TABLE["named"]
 
 
 def doc(text, indent="    "):
@@ -70,7 +60,7 @@ def record(struct, listed):
     for field, kind, comment in all_fields:
         # These fields hide methods of tuples.
         hides = "  # type: ignore[assignment]" if field in ("index", "count") else ""
-        lines.append(f"    {field}: {NAMED.get((struct.name, field), kind)}{hides}")
+        lines.append(f"    {field}: {NAMED.get(struct.name, {}).get(field, kind)}{hides}")
     lines += ["", "", "_document(", f"    {name}Record,"]
     for field, _, comment in all_fields:
         lines += argument(field, comment)
@@ -100,7 +90,7 @@ def statuses(text):
 def declarations(header):
     listed = listing.read()
     kinds = {kind for function in listed.functions for result, all in [export(function)] for kind in (result, *all)}
-    groups = ", ".join(sorted(set(NAMED.values())))
+    groups = ", ".join(sorted({prefix for fields in NAMED.values() for prefix in fields.values()}))
     lines = [listing.template("declarations.txt", KINDS=", ".join(sorted(kinds - {"None"})), GROUPS=groups)]
     for struct in listed.structs:
         lines += record(struct, listed)

@@ -1,6 +1,6 @@
 """The list of statuses for tools/exports/declarations.py: in bindings/include/xmas_elf.h and bindings/rust/src/error.rs.
 
-The numbers are in the files of ERRORS. A number never changes: bindings/statuses.txt has each name with its number, and lines are
+The numbers are in the files of statuses.toml. A number never changes: bindings/statuses.txt has each name with its number, and lines are
 only added to it. The statuses that bindings/exports.toml lists for each export are compared with the errors that the definitions name
 to which its `ensures` clauses lead (tools/pages/definitions.py). A definition may name an error that the export never returns, since
 another call takes it up (`never` of the list), and the export may return one that a value holds and no definition names (`held`).
@@ -10,22 +10,16 @@ import re
 
 from listing import ROOT, constant, template
 from pages import errors
-from pages.definitions import Reader
+from pages.definitions import Reader, closure
+from pages.sources import table_of
 
 PINNED = ROOT / "bindings/statuses.txt"
 FIRST, LAST = "/* The statuses, written by tools/exports/declarations.py. */", "/* End of the statuses. */"
 
-ENUMS = {"ElfError": "", "LinkError": "Link", "LoadError": "Load", "IndexError": "Index", "SearchError": "Search", "AnyError": ""}
+TABLE = table_of(__file__)
+ENUMS, ERRORS = ({name: row[key] for name, row in TABLE.items()} for key in ("prefix", "file"))
 # Variants that hold an error of another enum.
-HOLDERS = {("LinkError", "Elf"), ("AnyError", "Elf"), ("AnyError", "Link"), ("AnyError", "Load"), ("AnyError", "Index"), ("AnyError", "Search"), ("LoadError", "Link"), ("SearchError", "Link")}
-ERRORS = {
-    "ElfError": "crates/elf_base/src/error.rt",
-    "LinkError": "crates/elf_linking/src/error.rt",
-    "LoadError": "crates/elf_loading/src/error.rt",
-    "IndexError": "crates/elf_addresses/src/error.rt",
-    "SearchError": "crates/elf_search/src/error.rt",
-    "AnyError": "crates/elf_c/src/status.rt",
-}
+HOLDERS = {(name, variant) for name, row in TABLE.items() for variant in row["holds"]}
 
 
 def matched(path, pattern):
@@ -37,11 +31,9 @@ def statuses():
     texts = errors.texts() | dict(matched("crates/elf_c/src/message.rt", r'AnyError::(\w+) => "([^"]*)"'))
     own = [matched(ERRORS["ElfError"], r"(?m)^    (\w+) = (\d+),$"), matched(ERRORS["AnyError"], r"AnyError::(\w+) => (\d+)")]
     base, own = ([(name, int(number), texts[name]) for name, number in some] for some in own)
-    of_library = {}
-    for prefix in ("Link", "Load", "Index", "Search"):
-        found = matched(ERRORS[f"{prefix}Error"], rf'{prefix}Error::(\w+) => \(\s*(\d+),\s*"([^"]*)",?\s*\)')
-        of_library[prefix] = [(prefix + name, int(number), text) for name, number, text in found]
-    rows = [*base, *of_library["Link"], *own, *of_library["Load"], *of_library["Index"], *of_library["Search"]]
+    row = r'{}Error::(\w+) => \(\s*(\d+),\s*"([^"]*)",?\s*\)'
+    of = lambda prefix: [(prefix + name, int(number), text) for name, number, text in matched(ERRORS[f"{prefix}Error"], row.format(prefix))]
+    rows = [*base, *of("Link"), *own, *of("Load"), *of("Index"), *of("Search")]
     numbers = [number for _, number, _ in rows]
     assert len(set(numbers)) == len(numbers) and 0 not in numbers and len(rows) > 60
     assert {name for name, _, _ in rows} >= set(texts)
@@ -63,7 +55,7 @@ def c_part(rows):
         lines += [f"    /* {text}. */", f"    {constant(name)} = {number},"]
     lines[-1] = lines[-1].rstrip(",")
     lines += ["};", "", "/* How many bytes the longest text of a status has. */"]
-    return lines + [f"#define XMAS_ELF_LONGEST_MESSAGE {longest(rows)}", LAST]
+    return lines + [f"#define XMAS_ELF_LONGEST_MESSAGE {longest(rows)}"]
 
 
 def rust_part(rows):
@@ -105,13 +97,9 @@ class Named:
 
     def statuses(self, text: str, uses: dict) -> set[str]:
         """The statuses that the clauses of a contract name, by themselves and by their definitions."""
-        named, left = self.of(text, uses, {})
-        seen = {(it.path, it.line) for it in left}
-        while left:
-            more, found = self.of_definition(left.pop())
-            named = named | more
-            left += [it for it in found if (it.path, it.line) not in seen]
-            seen |= {(it.path, it.line) for it in found}
+        named, found = self.of(text, uses, {})
+        for one in closure(found, lambda it: self.of_definition(it)[1]):
+            named = named | self.of_definition(one)[0]
         return {ENUMS[enum] + name for enum, name in named if (enum, name) not in HOLDERS}
 
 

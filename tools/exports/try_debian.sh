@@ -1,8 +1,9 @@
 #!/usr/bin/env bash
 # Installs the Debian package of a release in a root of its own, which has neither the kit nor a compiler, and runs there each
-# program, the first program of the pages for C and Python, and `man` over each page.
+# program, `man` over each page, and the first programs of the pages in C, C++, Rust and Python.
 #   tools/exports/try_debian.sh [FOLDER]    FOLDER is dist where it isn't named
-# It needs root, and mmdebstrap, which reads Debian's packages. What C and Rust need of a compiler is built outside.
+# It needs root, and mmdebstrap, which reads Debian's packages. The programs in C, C++ and Rust are built outside, by the compilers of
+# Debian 12 or older, of what the package has put into the root.
 set -euo pipefail
 cd "$(dirname "$0")/../.."
 dist="$(realpath "${1:-dist}")"
@@ -10,26 +11,46 @@ room="$(mktemp -d)"
 trap 'rm -rf "$room"' EXIT
 chmod 755 "$room"
 root="$room/root"
-mmdebstrap --quiet --variant=apt --include=python3,python3-venv,man-db bookworm "$root"
+mmdebstrap --quiet --variant=apt --include=python3,python3-venv,man-db,pkgconf bookworm "$root"
 cp "$dist"/xmas-elf_*_amd64.deb "$root/tmp/xmas-elf.deb"
 inside() { /usr/sbin/chroot "$root" /usr/bin/env -i PATH=/usr/sbin:/usr/bin:/sbin:/bin HOME=/root LC_ALL=C.UTF-8 "$@"; }
-inside apt-get install -y -qq /tmp/xmas-elf.deb > /dev/null
-for name in gcc cc cargo rt; do ! inside sh -c "command -v $name" > /dev/null || { echo "$name is in the root" >&2; exit 1; }; done
+inside DEBIAN_FRONTEND=noninteractive apt-get install -y -qq /tmp/xmas-elf.deb > "$room/log" 2>&1 ||
+    { tail -n 20 "$room/log" >&2; exit 1; }
+for name in gcc cc g++ cargo rt; do ! inside sh -c "command -v $name" > /dev/null || { echo "$name is in the root" >&2; exit 1; }; done
 
+# The options of each page are those that the program prints.
+words() { tr -s ' ' '\n' | sed '/^$/d'; }
 for name in elfaddr elfbind elfinfo elfload elfsize elfsym elftree; do
     inside "$name" --version
-    inside man -P cat "$name" | grep -q "EXIT STATUS" || { echo "no page of $name" >&2; exit 1; }
+    inside "$name" --help > "$room/help"
+    inside MANWIDTH=5000 man -P cat "$name" > "$room/page"
+    grep -q "^EXIT STATUS" "$room/page" || { echo "no page of $name" >&2; exit 1; }
+    diff <(sed -n '/^--/p; /^ /p' "$room/help" | words) <(sed -n '/^OPTIONS/,/^EXIT STATUS/{/^ /p}' "$room/page" | words)
 done
 inside elfsize /bin/ls > "$room/sizes"
 inside elfload /bin/ls > "$room/plan"
 grep -q "section .text" "$room/sizes" && grep -q "^glibc" "$room/plan"
 
-# The first program of each page: in C with the installed library, in Python with the installed wheel.
-cc -std=c11 -I"$root/usr/include" bindings/examples/symbols.c "$root/usr/lib/x86_64-linux-gnu/libelf_c.a" -o "$root/tmp/symbols_c"
-cp bindings/examples/symbols.py "$root/tmp/"
+# In C and C++ with the installed header and library, and what the root's pkg-config says of them.
+unset XMAS_ELF_ARCHIVE CARGO_TARGET_DIR
+read -ra flags <<< "$(inside pkg-config --cflags --libs xmas_elf)"
+folders=(-I"$root/usr/include" -L"$root/usr/lib/x86_64-linux-gnu")
+gcc -std=c11 "${folders[@]}" "$dist/examples/symbols.c" "${flags[@]}" -o "$root/tmp/symbols_c"
+g++ -std=c++17 "${folders[@]}" "$dist/examples/symbols.cpp" "${flags[@]}" -o "$root/tmp/symbols_cpp"
+# In Rust with the installed crate.
+cargo new --quiet --vcs none "$room/symbols_rs"
+cp "$dist/examples/symbols.rs" "$room/symbols_rs/src/main.rs"
+cargo add --quiet --offline --manifest-path "$room/symbols_rs/Cargo.toml" --path "$root/usr/share/xmas-elf/rust"
+cargo build --quiet --offline --manifest-path "$room/symbols_rs/Cargo.toml"
+cp "$room/symbols_rs/target/debug/symbols_rs" "$root/tmp/"
+# In Python with the installed wheel.
+cp "$dist/examples/symbols.py" "$root/tmp/"
 inside python3 -m venv /tmp/room
 inside sh -c '/tmp/room/bin/pip install --quiet --no-index /usr/share/xmas-elf/*.whl'
+
 inside /tmp/symbols_c /bin/ls > "$room/c"
-inside /tmp/room/bin/python /tmp/symbols.py /bin/ls > "$room/python"
-cmp "$room/c" "$room/python"
-echo "package: $(wc -l < "$room/c") symbols of ls from C and Python in a root without a compiler"
+inside /tmp/symbols_cpp /bin/ls | cmp - "$room/c"
+inside /tmp/symbols_rs /bin/ls | cmp - "$room/c"
+inside /tmp/room/bin/python /tmp/symbols.py /bin/ls | cmp - "$room/c"
+[ -s "$room/c" ] || { echo "no symbols of ls" >&2; exit 1; }
+echo "package: $(wc -l < "$room/c") symbols of ls from C, C++, Rust and Python in a root without a compiler"

@@ -1,5 +1,6 @@
 #!/usr/bin/env bash
-# Runs the commands of bindings/INSTALL.md over a release folder, where no kit, no clone and no variable is at hand.
+# Runs the commands of bindings/INSTALL.md, and those of README, over a release folder, where no kit, no clone and no variable is at
+# hand.
 #   tools/exports/try_package.sh [FOLDER]    without FOLDER it writes a draft first
 # The programs in C, C++, Rust and Python must print the same symbols, those of readelf.
 set -euo pipefail
@@ -32,6 +33,24 @@ awk '/ \/bin\/ls$/ { sub(/\/bin\/ls$/, "\"$file\" > printed_" ++count) } { print
 expected() {
     readelf --wide --symbols "$1" | awk '$1 ~ /^[0-9]+:$/ && $4 != "SECTION" && $8 != "" { sub(/@.*/, "", $8); print $2, $8 }' | sort
 }
+
+# What README shows, over a crate and a program in C. Installing the Debian package is for root; a draft may be without it.
+mkdir "$room/readme"
+ln -s "$room/work/dist" "$room/readme/dist"
+grep '^    .*dist/' README.md > "$room/shown"
+package="$(sed -n 's,^    sudo apt install \./,,p' "$room/shown")"
+[ -n "$package" ] || { echo "README installs no Debian package" >&2; exit 1; }
+if [ -n "${1:-}" ]; then compgen -G "$room/work/$package" > /dev/null || { echo "there is no $package" >&2; exit 1; }; fi
+{
+    echo 'cargo new --quiet --vcs none yours; cp dist/examples/symbols.rs yours/src/main.rs; cp dist/examples/symbols.c yours.c'
+    sed '/sudo/d; s/YOURS\([/.]\)/yours\1/g; s/YOURS/yours_c/' "$room/shown"
+    echo 'room/bin/python dist/examples/symbols.py /bin/ls > printed_1; ./yours_c /bin/ls > printed_2'
+    echo 'cargo run --quiet --offline --manifest-path yours/Cargo.toml -- /bin/ls > printed_3'
+} > "$room/readme/commands"
+(cd "$room/readme" && env -i HOME="$room" PATH="$path" LC_ALL=C bash -euo pipefail commands) > "$room/said" 2>&1 || { tail "$room/said" >&2; exit 1; }
+for number in 1 2 3; do diff <(sed 's/@.*//' "$room/readme/printed_$number" | sort) <(expected /bin/ls); done
+echo "package: the commands of README"
+
 for file in /bin/ls "$room/work/symbols_cpp"; do
     (cd "$room/work" && env -i HOME="$room" PATH="$path" LC_ALL=C file="$file" bash -euo pipefail commands)
     for number in 2 3 4; do cmp "$room/work/printed_1" "$room/work/printed_$number"; done

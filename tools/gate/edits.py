@@ -13,7 +13,7 @@ import sys
 
 sys.path.insert(0, str(pathlib.Path(__file__).resolve().parents[1]))
 from gate import built
-from pages.sources import Crate, Function
+from pages.sources import Crate, Function, table_of
 
 # The edits of one batch share what a check costs before the first goal. With more the check takes too long (LIMIT).
 BATCH = 60
@@ -36,17 +36,8 @@ UNPRINTED = "\nunprinted : ⊥\nunprinted = tt\n"
 FAULT = re.compile(r"(?:\./)?(src/\S+?):(\d+):\d+: error")
 REACHED = re.compile(r"^(?:logic=(proved|not-proved)|only=\d+ (?:proved|holes)=\d+$)", re.M)
 NO_FUNCTION = re.compile(r"^rattle: error: `\w+` has no function `(\S+)`", re.M)
-# The hole that the proofs of all stand-ins rest on, one of these proofs.
-UNPROVED = """-- In place of the proofs of functions that aren't tried.
-pub any : {A : Type 2} → A
-any = ?
-"""
-STAND_IN = """use Rattle.{crate}.proofs.Unproved.{{any}}
-use Rattle.{crate}.proofs.{path}.Statement.{{statement}}
-
-pub {name}_spec : {{M : Type 1}} → statement M
-{name}_spec = any
-"""
+# The proofs of the stand-ins.
+TEXTS = table_of(__file__)
 
 
 @dataclasses.dataclass
@@ -289,7 +280,7 @@ class Room:
         self.folder, self.clean = place / "crates" / crate.name, place / "clean"
         # what a check of the crate kept with which the checks here can begin, if it kept anything
         self.kept = kept if kept and kept.is_dir() else None
-        self.words = [] if whole else ["--allow-holes"]
+        self.words, self.limit = ([], LIMIT_OF_WHOLE) if whole else (["--allow-holes"], LIMIT)
         # what the checks took
         self.seconds = 0
         place.mkdir()
@@ -308,7 +299,7 @@ class Room:
     def make_stand_ins(self):
         """Writes the stand-ins, and for each a proof that rests on the one hole."""
         proofs = self.folder / "proofs"
-        written(proofs / "Unproved.antt", UNPROVED)
+        written(proofs / "Unproved.antt", TEXTS["unproved"])
         with open(proofs / "Lib.antt", "a", encoding="utf-8") as modules:
             modules.write("pub mod Unproved\n")
         for file, text in self.crate.with_stand_ins(set()).items():
@@ -317,7 +308,7 @@ class Room:
             path = self.path_of(one)
             for parts in [*self.crate.proofs_of(one), path]:
                 shutil.rmtree(proofs.joinpath(*parts), ignore_errors=True)
-            written(proofs.joinpath(*path, "Proof.antt"), STAND_IN.format(crate=self.crate.name, path=".".join(path), name=path[-1]))
+            written(proofs.joinpath(*path, "Proof.antt"), TEXTS["stand_in"].format(crate=self.crate.name, path=".".join(path), name=path[-1]))
 
     def path_of(self, one: Function) -> list:
         """The path of a function below its crate, which is that of the folder of its proof."""
@@ -369,7 +360,7 @@ class Room:
     def check_only(self, functions) -> Checked:
         """A check of some functions, by their paths, and of what they call; of none: of the whole crate."""
         words = ["--jobs", "1", *self.words, *(word for name in functions for word in ("--only", name))]
-        ran = check(self.folder, *words, keeps=bool(self.kept), limit=LIMIT_OF_WHOLE if self.is_whole else LIMIT)
+        ran = check(self.folder, *words, keeps=bool(self.kept), limit=self.limit)
         unknown = NO_FUNCTION.search(ran.said)
         # A method of a built-in type has no such name: its edit is then tried alone.
         return self.check_only([it for it in functions if it != unknown[1]]) if unknown else ran
@@ -414,11 +405,10 @@ class Room:
             return judged
         if not reached and len(edits) > 1:
             if ran.is_cut:
-                print(f"{self.crate.name}: a check of {len(edits)} edits was ended after {LIMIT} processor seconds: two halves", flush=True)
+                print(f"{self.crate.name}: a check of {len(edits)} edits was ended after {self.limit} processor seconds: two halves", flush=True)
             return [it for part in self.apart(edits, tried, ran) for it in self.judge(part)]
         if not reached:
-            limit = LIMIT_OF_WHOLE if self.is_whole else LIMIT
-            fault = f"its check was ended after {limit} processor seconds" if ran.is_cut else f"it does not compile: {ran.fault()}"
+            fault = f"its check was ended after {self.limit} processor seconds" if ran.is_cut else f"it does not compile: {ran.fault()}"
             return [(edits[0], "", fault)]
         if len(edits) == 1:
             own = [it for one in tried.of[edits[0].label()] for it in goals.get(one, [])]

@@ -15,17 +15,11 @@ import sys
 import tempfile
 
 import program_ends
-from program_ends import (
-    ASKED, COUNTER, COUNTER_ALONE, COUNTER_PLAN, LINKED, PLACES, PLACES_SIZES, PLACES_SYMBOLS, REPORT, STRTAB, SYMBOLS, builds_of, data)
-
-FIRST = data("elfbind/data/libfirst.so")
-# What this library alone is bound to, as `readelf -rsW` says of it before its section headers are cut off.
-FIRST_LINES = "".join(f"a.elf {line}\n" for line in (
-    "per_thread@V1 -> a.elf 0x4", "per_thread@V1 -> a.elf 0x4", "shared@V1 -> a.elf 0x16d4", "kept@V1 -> a.elf 0x4d7",
-    "own@V1 -> a.elf 0x4e3", "own@V1 -> a.elf 0x4e3", "choose@V1 -> a.elf 0x4f5"))
+from pages.sources import table_of
+from program_ends import FILES, builds_of, data, filled, words_of
 
 
-class Program(collections.namedtuple("Program", "name words files first few options begun", defaults=[(), (b"",)])):
+class Program(collections.namedtuple("Program", "name words files first few options begun")):
     """A program: its words behind the path of the file, the files, the output that is wanted of the first, how many bytes a
     read and a write takes where it takes few, its options, and what it may have written where memory is short."""
 
@@ -35,25 +29,16 @@ class Program(collections.namedtuple("Program", "name words files first few opti
         return [f"{self.name}: {it}\n".encode() for it in ends]
 
 
-SYMBOLS_SIZES = PLACES_SYMBOLS.replace("places.so", "a.elf").encode()
-FILES = {"a string table": STRTAB, "links": data("elfanswers/data/notes-64.elf"),
-    "a hash table": data("elfanswers/data/dynamic-64.elf"), "three bytes": STRTAB[:3]}
-OWN_PLAN = COUNTER_PLAN.replace(b"counter", b"a.elf")
-PROGRAMS = [
-    Program("elfinfo", [], FILES, REPORT, (20, 300)),
-    Program("elfsym", ASKED, {"a hash table": LINKED, "three bytes": LINKED[:3]}, SYMBOLS, (20, 16)),
-    Program("elfaddr", ["206", "20a", "20f"], {"symbols": PLACES, "three bytes": PLACES[:3]}, b"outer+0x0\nouter+0x4\n?\n", (20, 4)),
-    Program("elfbind", [], {"a library": FIRST, "three bytes": FIRST[:3]}, FIRST_LINES.encode(), (40, 4), ("--alone",)),
-    # Where memory is short for the versions that may be missing, it says so, and the lines follow.
-    Program("elfbind", [], {"a library that is sought for": FIRST}, FIRST_LINES.encode(), (40, 4), ("--root", ".", "--no-cache"),
-        (b"", FIRST_LINES.encode())),
-    Program("elfsize", [], {"symbols": PLACES, "three bytes": PLACES[:3]}, PLACES_SIZES.replace(b"places.so", b"a.elf"), (60, 16)),
-    Program("elfsize", [], {"symbols of sections": PLACES, "three bytes": PLACES[:3]}, SYMBOLS_SIZES, (60, 16), ("--symbols",)),
-    Program("elftree", [], {"a library": FIRST, "three bytes": FIRST[:3]}, b"a.elf\n", (40, 2), ("--root", ".", "--no-cache")),
-    # It writes a plan before it asks for memory for the words; the size of its writes divides that of the plan, 275.
-    Program("elfload", [], {"a program": COUNTER, "three bytes": COUNTER[:3]}, COUNTER_ALONE.replace(b"counter", b"a.elf"),
-        (60, 25), ("--alone",), (b"", OWN_PLAN)),
-]
+def program_of(row: dict) -> Program:
+    """A program of the table."""
+    output_of = lambda text: filled(text).replace(row.get("called", "a.elf").encode(), b"a.elf")
+    files = {what: data(name) if "/" in name else FILES[name] for what, name in row["files"].items()}
+    words, options = (words_of(row.get(it, "")) for it in ("words", "options"))
+    begun = tuple(map(output_of, row.get("begun", [""])))
+    return Program(row["name"], words, files, output_of(row["output"]), row["few"], options, begun)
+
+
+PROGRAMS = [program_of(it) for it in table_of(__file__)["programs"]]
 
 # More calls of a kind than the program makes.
 MOST = 120

@@ -1,5 +1,5 @@
 #!/usr/bin/env python3
-"""Wants the output, the error text and the status of each way in which the built programs of PROGRAMS end.
+"""Wants the output, the error text and the status of each way in which the built programs of program_ends.toml end.
 
     tools/gate/program_ends.py [PROGRAM..]     at the top of the repository, once they are built; or of other builds of them
 
@@ -19,7 +19,11 @@ import tempfile
 TOP = pathlib.Path(__file__).resolve().parents[2]
 CRATES = TOP / "crates"
 sys.path[:0] = [str(TOP / "oracle"), str(TOP / "tools/compare")]
+from comparing import CONTROLS
 from differences import difference
+from json_lines import text_of
+from json_sizes import sizes_text
+from pages.sources import table_of
 from wanted.files import debug_link, hash_file
 from wanted.reports import DEBUG_LINK_HEADER, DEBUG_LINK_SECTIONS, HASH_HEADER, report_text
 
@@ -29,24 +33,14 @@ def data(path: str) -> bytes:
     return (CRATES / path).read_bytes()
 
 
-def expected(name: str) -> str:
-    """An output that was worked out by hand, of oracle/wanted/ends."""
-    return (TOP / "oracle/wanted/ends" / f"{name}.txt").read_text(encoding="utf-8")
-
-
 STRTAB, REPORT = data("elfinfo/data/strtab.elf"), data("elfinfo/stdout")
-LINKED, SYMBOLS = data("elfsym/data/versions.so"), data("elfsym/stdout")
-# A shared object that needs a library, without section headers: that of `worked_files::linked::small`, where its source and
-# its command are.
-NEEDS = data("elfsym/data/needs.so")
 PLACES, SIZES = data("elfaddr/data/places.so"), data("elfsize/stdout")
-# A file without a symbol table, and its debug file, by the link to it or by the build id, as crates/elfaddr/data/make.sh makes them.
-BARE, BARE_DEBUG = data("elfaddr/data/bare.so"), data("elfaddr/data/bare.debug")
+# The debug file of bare.so, by its build id.
 BY_ID = ".build-id/ab/cdef1234567890.debug"
 PLACES_SIZES = SIZES[: SIZES.index(b"counter\n")]
 # The same of counter alone, before the sums over both.
 COUNTER_SIZES = SIZES[len(PLACES_SIZES) : SIZES.index(b"all files\n")]
-COUNTER, PLANS = data("elfload/data/counter"), data("elfload/stdout")
+PLANS = data("elfload/stdout")
 COUNTER_PLAN = PLANS[: PLANS.index(b"library.so\n")]
 # The symbol of its slot is in the library.
 COUNTER_ALONE = COUNTER_PLAN + b"words counter\nword 0x1ff8 8 JUMP_SLOT = 0x0\n"
@@ -56,12 +50,6 @@ VERSION = re.search(r'^version = "(.*)"', (TOP / "bindings/rust/Cargo.toml").rea
 
 # A program as LLVM builds it, and as Rattle's own compiler does.
 BUILDS = ("", ".by-rattle")
-
-# The place of a byte of NEEDS, what is put there, and the error then.
-NEEDS_ERRORS = (
-    (0, 0, "Did not find ELF magic number"), (64 + 112, 4, "No dynamic segment"), (64, 4, "Address is in no loaded segment"),
-    (0x250 + 48, 3, "Dynamic segment has no such entry"), (0x128, 5, "Chain index is out of range"),
-)
 
 # Where the section headers are of a file that a reader doesn't take at once, and how many there are in a long one.
 FAR, MANY = (1 << 20) + 4096, 1000
@@ -87,7 +75,7 @@ def larger_report(start: int, count: int) -> bytes:
 
 def escaped(name: bytes) -> bytes:
     """The bytes of a name with its control characters escaped, as `readelf` shows names of sections and symbols."""
-    return b"".join(b"^%c" % (byte + 0x40) if byte < 0x20 or byte == 0x7F else b"%c" % byte for byte in name)
+    return name.decode("utf-8", "surrogateescape").translate(CONTROLS).encode("utf-8", "surrogateescape")
 
 
 def replaced(text: bytes, parts: dict) -> bytes:
@@ -101,40 +89,63 @@ def replaced(text: bytes, parts: dict) -> bytes:
 
 # Names of a section and a symbol of places.so, and other ones.
 ODD_NAMES = {b".data\0": b'.\x01"\xff\\\0', b"value\0": b"v\t\x7f\xc3\xa9\0"}
-# A program and its two libraries of either class, as crates/elfbind/data/make.sh makes them.
-WIDE_BOUND, NARROW_BOUND = "caller libfirst.so libsecond.so", "caller_32 libfirst_32.so libsecond_32.so"
 # The name of a file that can be read.
 NOT_UTF8 = b"\xff.elf"
+TABLE = table_of(__file__)
+
+
+def file_of(row) -> bytes:
+    """A file of the table: one of crates/, or its first bytes, with other numbers in some places."""
+    row = {"of": row} if isinstance(row, str) else row
+    held = data(row["of"])[: row.get("size")]
+    for place, size, number in row.get("numbers", ()):
+        held = with_number(held, place, size, number)
+    return held
+
+
 FILES = {
-    NOT_UTF8: STRTAB, "strtab.elf": STRTAB, "empty.elf": b"", "zeros.elf": bytes(16), "three.elf": STRTAB[:3],
-    "link.elf": debug_link(), "hash.elf": hash_file(), "far.elf": larger(FAR, 2), "long.elf": larger(52, MANY),
-    "linked.so": LINKED, "needs.so": NEEDS, "stripped.so": data("elfsym/data/stripped.so"), "places.so": PLACES,
-    # The same file with names that have quotation marks, control characters and bytes that are not UTF-8.
+    NOT_UTF8: STRTAB, "empty.elf": b"", "zeros.elf": bytes(16), "link.elf": debug_link(), "hash.elf": hash_file(),
+    "far.elf": larger(FAR, 2), "long.elf": larger(52, MANY), f"zeros/{BY_ID}": bytes(16),
+    # places.so with names that have quotation marks, control characters and bytes that are not UTF-8.
     "odd.so": replaced(PLACES, ODD_NAMES),
-    # The same file with a symbol table of 239 bytes.
-    "parts.so": PLACES[:1648] + bytes([239]) + PLACES[1649:],
-    # Sections 1 and 7 have a type without a meaning and that of `.relr.dyn`; `readelf -SW` shows their names.
-    "types.so": with_number(with_number(PLACES, 0x450 + 64 + 4, 4, 12), 0x450 + 7 * 64 + 4, 4, 19),
-    # The section headers end before that of `.strtab`.
-    "short.so": PLACES[: 0x450 + 9 * 64],
-    # A dynamic entry more: a hash table of the ELF standard too, with a bucket and without chains.
-    "both.so": with_number(PLACES, 0x260, 16, 0x2C0 << 64 | 4),
-    # In folders of their own: alone, with its debug file in `.debug`, and with other files in place of this one.
-    "bare.so": BARE, "bare.debug": BARE_DEBUG, "alone/bare.so": BARE, "sub/bare.so": BARE, "sub/.debug/bare.debug": BARE_DEBUG,
-    "other/bare.so": BARE, "other/bare.debug": PLACES,
-    f"ids/{BY_ID}": BARE_DEBUG, f"others/{BY_ID}": PLACES, f"bare/{BY_ID}": BARE, f"zeros/{BY_ID}": bytes(16),
-    # The versions with a record of their definitions that leads out of its segment.
-    "cut.so": with_number(LINKED, 0x238 + 16, 1, 0xFF),
-    **{f"damaged-{place}.so": with_number(NEEDS, place, 1, byte) for place, byte, _ in NEEDS_ERRORS},
-    **{name: data(f"elfbind/data/{name}") for name in f"{WIDE_BOUND} {NARROW_BOUND}".split()},
-    # A program and its library, as crates/elfload/data/make.sh makes them, and copies with other numbers in some places.
-    "counter": COUNTER, "library.so": data("elfload/data/library.so"),
-    "arm.elf": with_number(COUNTER, 18, 2, 40), "aarch64.elf": with_number(COUNTER, 18, 2, 183),
-    "type.elf": with_number(COUNTER, 16, 2, 1), "interpreter.elf": with_number(COUNTER, 64 + 56 + 32, 8, 5000),
-    "shut.elf": with_number(COUNTER, 64 + 3 * 56 + 4, 4, 4), "static.elf": with_number(COUNTER, 64 + 4 * 56, 4, 0),
-    # What is read-only after relocation ends in the page in which it begins.
-    "relro.elf": with_number(COUNTER, 64 + 7 * 56 + 40, 8, 0x153),
-    "word.elf": with_number(COUNTER, 0x288, 8, 0x200)}
+    **{name: file_of(row) for name, row in TABLE.pop("files").items()}}
+
+
+# What names in braces mean in the table: its texts, those of oracle/wanted/ends, which were worked out by hand, and what is made of
+# those in crates/.
+TEXTS = TABLE.pop("texts") | {it.stem: it.read_bytes() for it in (TOP / "oracle/wanted/ends").iterdir()}
+BOUND, PLACES_SYMBOLS = TEXTS["bound"], TEXTS["places_symbols"]
+TEXTS |= {
+    "by id": BY_ID, "names asked for": " ".join(data("elfsym/args").decode().split()[1:]),
+    "report with a link": report_text(DEBUG_LINK_HEADER, "ok", DEBUG_LINK_SECTIONS),
+    "report with a hash table": report_text(
+        HASH_HEADER, "ok", "1 Ok(StrTab) = .strtab\n2 Ok(Hash) = ab\n3 Ok(SymTab) = ab\n", "", "ok"),
+    "counter alone": COUNTER_ALONE, "plan of counter": COUNTER_PLAN, "plan of caller": BOUND[: BOUND.index(b"libfirst.so\n")],
+    "plans without words": PLANS[: PLANS.index(b"words ")],
+    "sizes of places.so": PLACES_SIZES, "sizes of counter": COUNTER_SIZES,
+    "symbols of odd.so": replaced(
+        PLACES_SYMBOLS.replace(b"places.so", b"odd.so"), {old[:-1]: escaped(new[:-1]) for old, new in ODD_NAMES.items()})}
+
+
+def meant(name: str) -> bytes:
+    """What a name in braces means: a file of crates/ by its path, or a text."""
+    held = data(name) if "/" in name else TEXTS[name]
+    return held if isinstance(held, bytes) else filled(held)
+
+
+def filled(text: str) -> bytes:
+    """A text of the table with what the names in braces mean."""
+    return re.sub(rb"\{([\w./ ]+)\}", lambda it: meant(it[1].decode()), text.encode())
+
+
+def words_of(text: str) -> list:
+    return filled(text).decode().split()
+
+
+for name, row in TABLE.pop("replaced").items():
+    TEXTS[name] = replaced(filled(row.pop("of")), {old.encode(): new.encode() for old, new in row.items()})
+for name, (old, new) in TABLE.pop("differences").items():
+    TEXTS[name] = difference(filled(old), filled(new))
 
 # What is said of an argument that can't be read, whatever the program, and of two files with errors.
 UNREAD = {
@@ -146,364 +157,45 @@ class Program:
     """A program: how it ends by what its arguments are, which is these and the status, output and error text that are wanted;
     and what comes on its standard input."""
 
-    def __init__(self, name: str, usage: str, words: list, good: list, output: bytes, given: bytes):
+    def __init__(self, name: str, usage: str, words: str, good: str, output: str, given: str, **ends):
         """Behind the path of a file it takes some words. The good arguments begin with a path."""
-        self.name, self.usage, self.given, self.ends = name, f"usage: {usage}\n", given, {}
+        self.name, self.usage, self.given, self.ends = name, filled(f"usage: {usage}\n"), data(given), {}
         path_of = lambda path: "" if name == "elfinfo" else f"{path}: "
-        self.misused({"no argument": ""})
-        self.fails({what: ([path, *words], f"cannot read {path}") for what, path in UNREAD.items()})
-        self.fails({
-            "a path that is not UTF-8": ([NOT_UTF8, *words], "cannot read the arguments"),
+        words, good, output = words_of(words), words_of(good), filled(output)
+        said = re.search(r'const HELP: &str =\s+"([^"]*)";', data(f"{name}/src/main.rt").decode())[1]
+        unread = {what: ([path, *words], f"cannot read {path}") for what, path in UNREAD.items()}
+        self.take(misused={"no argument": ""}, fails={
+            **unread, "a path that is not UTF-8": ([NOT_UTF8, *words], "cannot read the arguments"),
             "an empty file": (["empty.elf", *words], path_of("empty.elf") + SHORT),
-            "a file with an error": (["zeros.elf", *words], path_of("zeros.elf") + NO_MAGIC)})
-        self.prints({
-            "its version": ("--version", f"{name} {VERSION}\n"),
-            "help": ("--help", self.usage + re.search(r'const HELP: &str =\s+"([^"]*)";', data(f"{name}/src/main.rt").decode())[1] + "\n"),
+            "a file with an error": (["zeros.elf", *words], path_of("zeros.elf") + NO_MAGIC)}, prints={
+            "its version": ("--version", f"{name} {VERSION}\n"), "help": ("--help", self.usage + f"{said}\n".encode()),
             "a good file": (good, output),
             "a good file through a pipe": (["/dev/stdin", *good[1:]], output.replace(good[0].encode(), b"/dev/stdin"))})
+        self.take(**ends)
+
+    def take(self, **ends: dict):
+        """Adds the ends of a part of the table, by their kinds."""
+        kinds = {
+            "misused": lambda arguments: (arguments, 1, self.usage), "prints": lambda arguments, output: (arguments, 0, output),
+            "fails": lambda arguments, said: (arguments, 1, "", f"{self.name}: {said}\n"), "ends": lambda *end: end}
+        for kind, cases in ends.items():
+            for what, end in cases.items():
+                self.add(what, *kinds[kind](*([end] if kind == "misused" else end)))
 
     def add(self, what: str, arguments, status: int, output, said: str = ""):
         """Adds an end, with its arguments as a list or as a text with blanks between them."""
-        arguments = arguments.split() if isinstance(arguments, str) else arguments
-        self.ends[what] = arguments, status, output if isinstance(output, bytes) else output.encode(), said.encode()
-
-    def misused(self, cases: dict):
-        """Ends in which it prints how it is called."""
-        for what, arguments in cases.items():
-            self.add(what, arguments, 1, self.usage)
-
-    def fails(self, cases: dict):
-        """Ends with an error text, and nothing else."""
-        for what, (arguments, said) in cases.items():
-            self.add(what, arguments, 1, "", f"{self.name}: {said}\n")
-
-    def prints(self, cases: dict):
-        """Ends with an output, and nothing else."""
-        for what, (arguments, output) in cases.items():
-            self.add(what, arguments, 0, output)
+        arguments = words_of(arguments) if isinstance(arguments, str) else arguments
+        self.ends[what] = arguments, status, output if isinstance(output, bytes) else filled(output), filled(said)
 
     def no_write(self) -> bytes:
         return f"{self.name}: cannot write\n".encode()
 
 
-def damaged(words: str, errors) -> dict:
-    """Ends with the reason why a file with another byte has an error."""
-    return {f"a file with another byte at {place}": (f"damaged-{place}.so {words}", f"damaged-{place}.so: {reason}")
-            for place, _, reason in errors}
-
-
-INFO = Program("elfinfo", "elfinfo <binary_path>", [], ["strtab.elf"], REPORT, STRTAB)
-INFO.fails({"an empty path": ([""], "cannot read "), "a file of three bytes": ("three.elf", SHORT)})
-HASH_SECTIONS = "1 Ok(StrTab) = .strtab\n2 Ok(Hash) = ab\n3 Ok(SymTab) = ab\n"
-INFO.prints({
-    "a file with a link": ("link.elf", report_text(DEBUG_LINK_HEADER, "ok", DEBUG_LINK_SECTIONS)),
-    "a file with a hash table": ("hash.elf", report_text(HASH_HEADER, "ok", HASH_SECTIONS, "", "ok")),
-    "further arguments": ("strtab.elf missing.elf", REPORT)})
-
-# What is said of the options of a search for libraries.
-SEARCH_USAGE = "[--root DIR] [--library-path LIST] [--cache FILE | --no-cache]"
-
-ASKED = data("elfsym/args").decode().split()[1:]
-SYM = Program(
-    "elfsym", "elfsym [--json] <binary_path> <name>[@<version>].. | elfsym [--json] --needed <binary_path> | "
-    f"elfsym [--json] --scope {SEARCH_USAGE} <binary_path> <name>[@<version>]..", ["ab"], ["linked.so", *ASKED], SYMBOLS, LINKED)
-SYM.misused({
-    "no name": "linked.so", "no file after the form": "--json", "nothing whose libraries are asked for": "--needed",
-    "two files whose libraries are asked for": "--needed linked.so linked.so"})
-SYM.fails({
-    "a file without a dynamic segment": ("strtab.elf ab", "strtab.elf: No dynamic segment"),
-    "a version of a file whose definitions are cut": ("cut.so ab@V1", "cut.so: Version record is cut off"),
-    "a missing path whose libraries are asked for": ("--needed missing.so", "cannot read missing.so"),
-    **damaged("ab cd outer ef", NEEDS_ERRORS)})
-# The values and sizes are those that `readelf --dyn-syms -W` shows.
-SYM.prints({
-    "a good file that needs no library": ("--needed stripped.so", ""),
-    "a good file that needs a library": ("--needed needs.so", "libneed.so\n"),
-    "names of a file without versions": (
-        "stripped.so first fifth@V1 absent outer", "first 0x2b0 0x6\nfifth@V1 0x2ba 0x6\nabsent: none\nouter: none\n"),
-    "a second at": ("linked.so ab@@V2 ab@ @V1", "ab@@V2: none\nab@: none\n@V1: none\n"),
-    "a name of a file whose definitions are cut": ("cut.so ab", "ab 0x2f6 0x6\n"),
-    "names of a file that needs a library": ("needs.so ab cd outer ef", "ab 0x230 0xa\ncd 0x240 0x3\nouter: none\nef 0x23a 0x6\n"),
-    "a name like an option": ("linked.so --needed", "--needed: none\n"),
-    "names as JSON": (
-        "--json linked.so ab@V1 \"\\", '{"name":"ab@V1","value":752,"size":6}\n{"name":"\\"\\\\","value":null,"size":null}\n'),
-    "a name like the option for JSON": ("linked.so --json", "--json: none\n"),
-    "a needed library as JSON": ("--json --needed needs.so", '{"needed":"libneed.so"}\n')})
-SYM.misused({
-    "no program in whose scope to look": "--scope", "no name to look up in a scope": "--scope caller", "no root of a scope": "--scope --root",
-    "another option of a scope": "--scope --loan caller own"})
-SYM.fails({
-    "a missing program with a scope": ("--scope missing.elf own", "cannot read missing.elf"),
-    "a program with an error and a scope": ("--scope zeros.elf own", "zeros.elf: file too short"),
-    "a missing cache for a scope": ("--scope --cache missing caller own", "cannot read missing")})
-# What `readelf -sDW` shows of the first file that defines the name. The program has an address of `taken` in its own file, and a copy
-# of `shared`; the second library has no versions.
-SCOPE_LINES = """\
-own 0x400400 0x6 caller
-taken 0x4003d0 0x0 caller
-shared@V1 0x401608 0x4 caller
-choose 0x4f5 0x6 ./libfirst.so
-version 0x4ef 0x6 ./libfirst.so
-version@V1 0x4e9 0x6 ./libfirst.so
-version@V3: none
-second@V1 0x4bf 0x34 ./libsecond.so
-unseen: none
-"""
-SCOPE_NAMES = " ".join(re.findall("(?m)^[^ :]+", SCOPE_LINES))
-SYM.prints({
-    "names in a program and its libraries": (f"--scope --no-cache --library-path .:folder caller {SCOPE_NAMES}", SCOPE_LINES),
-    "such names as JSON": (
-        "--json --scope --no-cache --library-path .:folder caller own second@V1 unseen",
-        '{"name":"own","value":4195328,"size":6,"file":"caller"}\n{"name":"second@V1","value":1215,"size":52,"file":"./libsecond.so"}\n'
-        '{"name":"unseen","value":null,"size":null,"file":null}\n')})
-SYM.add("a name where a library is missing", "--scope --no-cache counter shared", 1, "shared: none\n", "elfsym: counter: library.so not found\n")
-for file, library, reason in (("cut.so", "libw.so", "Version record is cut off"), (f"damaged-{0x128}.so", "libneed.so", NEEDS_ERRORS[-1][2])):
-    SYM.add(f"{file}, where a library is missing", f"--scope --no-cache {file} ab", 1, "", f"elfsym: {file}: {library} not found\nelfsym: {file}: {reason}\n")
-
-# What crates/elfaddr/data/places.s says of these addresses.
-ADDR = Program(
-    "elfaddr", "elfaddr [--debug DIR | --no-debug] (--stack | [--json] [--dynamic | --dladdr] <binary_path> (<address>.. | -))", ["0"],
-    ["places.so", "206", "0x208", "20A", "20c", "20f", "2c8"], b"outer+0x0\ninner+0x0\nouter+0x4\nlabel+0x0\n?\n.data+0x8\n", PLACES)
-ADDR.misused({
-    "no address": "places.so", "a word that is no address": "places.so 206 main", "an option without a path": "--dladdr",
-    "an address of 17 digits": "places.so 10000000000000000",
-    "addresses after the sign for the standard input": "places.so - 206"})
-ADDR.prints({
-    "the last address": ("places.so ffffffffffffffff", "?\n"),
-    "the dynamic symbols": ("--dynamic places.so 20c 20d 2c0", ".text+0x6\nlast+0x0\nvalue+0x0\n"),
-    "what dladdr finds": ("--dladdr places.so 20a 20c 20d", "outer+0x4\n.text+0x6\nalias+0x0\n"),
-    # As glibc 2.36 does in a library with both tables whose DT_HASH has no chains.
-    "what dladdr finds by GNU's of two tables": ("--dladdr both.so 20a 20c 20d", "outer+0x4\n.text+0x6\nalias+0x0\n"),
-    "sections of other types": ("types.so 120 2c8", ".gnu.hash+0x0\n.data+0x8\n"),
-    "a file without section headers": ("needs.so 230 243", "ab+0x0\n?\n"),
-    "what dladdr finds in a file without section headers": ("--dladdr needs.so 242 243", "cd+0x2\n?\n")})
-ADDR.prints({"lines as JSON": ("--json places.so 208 2c8 20f", """\
-{"address":520,"symbol":"inner","offset":0}
-{"address":712,"section":".data","offset":8}
-{"address":527,"symbol":null,"section":null}
-""")})
-ADDR.misused({"a stack as JSON": "--json --stack", "JSON of no file": "--json", "a stack with a file": "--stack places.so", "no folder of debug files": "--debug", "no file after a folder": "--debug ids"})
-# What these addresses are by the debug file of `bare.so`, and by its dynamic symbols.
-BARE_WORDS, BARE_NAMES = "256 25c 318 25f", "outer+0x0\nlabel+0x0\n.data+0x8\n?\n"
-BARE_PLACES = BARE_NAMES.replace("label+0x0", ".text+0x6")
-ADDR.prints({
-    "a debug file beside the file": (f"bare.so {BARE_WORDS}", BARE_NAMES),
-    "a debug file in .debug": (f"sub/bare.so {BARE_WORDS}", BARE_NAMES),
-    "a debug file by its build id": (f"--debug ids alone/bare.so {BARE_WORDS}", BARE_NAMES),
-    "no debug file": (f"--debug sub alone/bare.so {BARE_WORDS}", BARE_PLACES),
-    "a debug file that is not looked for": (f"--no-debug bare.so {BARE_WORDS}", BARE_PLACES),
-    "the dynamic symbols of a file with a debug file": (f"--debug ids --dynamic bare.so {BARE_WORDS}", BARE_PLACES),
-    "the symbol table of a file with a debug file": ("--debug ids bare.debug 25c", "label+0x0\n")})
-for folder, reason in {
-        "others": "not the debug file: no build id", "bare": "debug file without a symbol table", "zeros": NO_MAGIC}.items():
-    said = f"elfaddr: {folder}/{BY_ID}: {reason}\n"
-    ADDR.add(f"another file by the build id in {folder}", f"--debug {folder} alone/bare.so {BARE_WORDS}", 0, BARE_PLACES, said)
-    ADDR.add(f"the next file after that in {folder}", f"--debug {folder} bare.so {BARE_WORDS}", 0, BARE_NAMES, said)
-# Lines of a stack, and what becomes of each.
-STACK = {
-    b"places.so(+0x206) [0x7f0206]\n": b"places.so(outer+0x0) [0x7f0206]\n", b"places.so 0x208\n": b"places.so inner+0x0\n",
-    **{line: line for line in (
-        b"places.so(outer+0x4) [0x1]\n", b"places.so(+0x20f) [0x1]\n", b"missing.so(+0x206) [0x1]\n", b"zeros.elf 0x0\n", b"\n",
-        b"text (in parentheses) and a number 206\n", b"\xff(+0x206)\n", b"places.so(+0x10000000000000000)\n", b"places.so(+0x)\n")},
-    b"./places.so(+0x2c8)\x01\n": b"./places.so(.data+0x8)\x01\n", b"places.so(+20a)": b"places.so(outer+0x4)"}
-ADDR.fails({"a file without symbols": ("strtab.elf 0", "strtab.elf: No dynamic segment"), **damaged("0", NEEDS_ERRORS[:-1])})
-
-
-def in_folder(text):
-    """An output for a list of files where they are found in the folder of the program."""
-    return text.replace("libfirst.so", "./libfirst.so").replace("libsecond.so", "./libsecond.so")
-
-
-def finds(program: Program, output: str, missing):
-    """Ends of a program that finds the libraries of a file: as for the list of files, or with one that is missing."""
-    program.misused({
-        "no file alone": "--alone", "two files alone": "--alone caller libfirst.so", "no root": "--root", "no file in a root": "--root .",
-        "an option of the search before two files": "--no-cache caller libfirst.so", "another option": "--loan caller"})
-    program.fails({
-        "an empty file": ("empty.elf", "empty.elf: file too short"), "a file with an error": ("zeros.elf", "zeros.elf: file too short"),
-        "a file with an error alone": ("--alone zeros.elf", f"zeros.elf: {NO_MAGIC}"),
-        "a missing file alone": ("--alone missing.elf", "cannot read missing.elf"),
-        "a missing cache": ("--cache missing counter", "cannot read missing")})
-    program.prints({"libraries that are found": ("--no-cache --library-path .:folder caller", in_folder(output))})
-    program.add("a missing library", "--no-cache counter", 1, missing, f"{program.name}: counter: library.so not found\n")
-
-
-BIND = Program(
-    "elfbind", f"elfbind [--json] [--unresolved | --check] [--alone | {SEARCH_USAGE}] <binary_path>..", [], WIDE_BOUND.split(),
-    data("elfbind/stdout"), data("elfbind/data/caller"))
-CHAINED = f"damaged-{0x128}.so"
-finds(BIND, data("elfbind/stdout").decode(), "counter shared -> unresolved\n")
-BIND.misused({"no file to check": "--check", "no file after the form": "--json", "no file for what is unresolved": "--unresolved"})
-BIND.fails({
-    "a missing second file": ("caller missing.so", "cannot read missing.so"),
-    "a second file with an error": ("caller zeros.elf", f"zeros.elf: {NO_MAGIC}"),
-    "a first file with an error": ("zeros.elf caller", f"zeros.elf: {NO_MAGIC}"),
-    "a file without a dynamic segment": ("caller link.elf", "link.elf: No dynamic segment"),
-    "files of both classes": ("caller libfirst_32.so", "libfirst_32.so: Class is neither 1 nor 2"),
-    "a hash table that fails its check": (f"caller {CHAINED}", f"{CHAINED}: Chain index is out of range"),
-    "definitions that are cut": ("caller cut.so", "cut.so: Version record is cut off")})
-BIND.prints({
-    "the libraries in the other order": ("caller libsecond.so libfirst.so", data("elfbind/data/bound_other.txt")),
-    "a program and two libraries of class 32": (NARROW_BOUND, data("elfbind/data/bound_32.txt")),
-    "files of which nothing is missing": (f"--unresolved {WIDE_BOUND}", ""),
-    "good files to check": ("--check caller libfirst.so", "caller: ok\nlibfirst.so: ok\n"),
-    "a good file to check, as JSON": ("--json --check --alone caller", '{"file":"caller","error":null}\n'),
-    "libraries to check that are found": ("--check --library-path . caller", "caller: ok\n./libfirst.so: ok\n./libsecond.so: ok\n"),
-    "libraries that are found, of which nothing is missing": ("--unresolved --library-path . caller", "")})
-# All but `absent`, which is weak, are missing in the library by itself.
-UNBOUND = "static_thread absent taken shared shared version taken per_thread".split()
-BIND.add("references that get no symbol", "libsecond.so", 1, "libsecond.so only -> libsecond.so 0x16d0\n" + "".join(
-    f"libsecond.so {name} -> unresolved{' (weak)' * (name == 'absent')}\n" for name in UNBOUND))
-BIND.add("only those that are missing", "--unresolved --alone libsecond.so", 1, "".join(
-    f"libsecond.so {name} -> unresolved\n" for name in UNBOUND if name != "absent"))
-BIND.add("the same as JSON", "--json --unresolved --alone libsecond.so", 1, "".join(
-    f'{{"from":"libsecond.so","name":"{name}","version":null,"weak":false,"file":null,"value":null}}\n' for name in UNBOUND if name != "absent"))
-BIND.add("such a table to check, as JSON", f"--json --check --alone {CHAINED}", 1, f'{{"file":"{CHAINED}","error":"Chain index is out of range"}}\n')
-BIND.add("such a table to check", f"--check {CHAINED} caller", 1, f"{CHAINED}: Chain index is out of range\ncaller: ok\n")
-BIND.add("such definitions to check", "--check --alone cut.so", 1, "cut.so: Version record is cut off\n")
-
-LOAD_USAGE = (
-    f"elfload [--lazy] [--page <size>] [--alone | {SEARCH_USAGE}] <binary_path>.. | "
-    "elfload (--kernel | --glibc) [--page <size>] <binary_path>..")
-PLANS_ALONE = PLANS[: PLANS.index(b"words ")]
-# In pages of 16 KB the library takes more room, and its parts lie in others.
-LIBRARY_HEAD = PLANS[PLANS.index(b"library.so\n") : PLANS.rindex(b"kernel\n")]
-PAGES_HEAD = LIBRARY_HEAD.replace(b"span 0-a000", b"span 0-c000").replace(b"relro 7000-8000", b"relro 4000-8000")
-PAGES_MAPS = b"0-4000 r-xp 0 file\n4000-c000 rw-p 0 file\n"
-LIBRARY_WORDS = PLANS[PLANS.index(b"words library.so\n") :].replace(b"base(1)", b"base(0)")
-
-
-# The program and its libraries in crates/elfbind/data, by what `readelf -hlW` shows; the words are by `readelf -rDW` and `-sDW`,
-# and by the symbols in crates/elfbind/stdout. Lazy slots hold the word in the file. The program of class 32 is alone.
-BOUND, BOUND_LAZY, NARROW_PLAN = expected("bound"), expected("bound_lazy"), expected("narrow")
-CALLER_PLAN = BOUND[: BOUND.index("libfirst.so\n")]
-LOAD = Program("elfload", LOAD_USAGE, [], ["counter", "library.so"], PLANS, COUNTER)
-finds(LOAD, BOUND, COUNTER_ALONE)
-LOAD.misused({
-    "no size of a page": "--page", "no file after a size": "--page 4096", "a size that is zero": "--page 0 counter",
-    "no file after a word": "--lazy",
-    "a size that is no power of two": "--page 4097 counter", "a size that is no number": "--page 0x1000 counter"})
-LOAD.prints({
-    "a file alone": ("--alone counter", COUNTER_ALONE),
-    "words of a program and its libraries": (WIDE_BOUND, BOUND),
-    "words with lazy slots": (f"--lazy {WIDE_BOUND}", BOUND_LAZY),
-    "lazy slots with libraries that are found": ("--lazy --page 4096 --library-path . caller", in_folder(BOUND_LAZY)),
-    "slots of files that ask for their symbols at once": ("--lazy --page 4096 counter library.so", PLANS),
-    "a file without a whole page that is read-only after relocation": (
-        "--alone relro.elf", COUNTER_ALONE.replace(b"counter", b"relro.elf").replace(b"relro 1000-2000", b"relro none")),
-    "a file without a dynamic segment": ("counter static.elf", COUNTER_PLAN + COUNTER_PLAN.replace(b"counter", b"static.elf")),
-    "pages of 16 kb": ("--page 16384 --alone library.so", PAGES_HEAD + b"kernel\n" + PAGES_MAPS + b"glibc\n" + PAGES_MAPS + LIBRARY_WORDS)})
-LOAD.fails({
-    "a missing second file": ("counter missing.so", "cannot read missing.so"),
-    "pages larger than a file is linked for": (
-        "--page 16384 --alone counter", "counter: Address and offset of a load segment differ modulo the page size"),
-    "a machine without a limit": ("--alone arm.elf", "arm.elf: Limit of addresses is not known for this machine"),
-    "a file that is no program": ("--alone type.elf", "type.elf: Type is neither executable nor shared object"),
-    "a long path of an interpreter": ("--alone interpreter.elf", "interpreter.elf: Path of the interpreter is not valid"),
-    "zeros that cannot be written": ("--alone shut.elf", "shut.elf: Load segment has zeros but is not readable and writable")})
-LOAD.add("a file with an error between others", "counter zeros.elf library.so", 1, PLANS_ALONE, f"elfload: zeros.elf: {NO_MAGIC}\n")
-LOAD.add("files of both classes", "caller caller_32", 1, CALLER_PLAN + NARROW_PLAN, "elfload: caller_32: Class is neither 1 nor 2\n")
-# Its slot has a type that AArch64 does not have.
-LOAD.add("a file for aarch64", "--alone aarch64.elf", 1, COUNTER_PLAN.replace(b"counter", b"aarch64.elf").replace(b"machine 62", b"machine 183"),
-    "elfload: aarch64.elf: Type of a relocation is not supported\n")
-LOAD.add("a word in pages that cannot be written", "--alone word.elf", 1, COUNTER_PLAN.replace(b"counter", b"word.elf"),
-    "elfload: word.elf: Word is in a load segment that is not writable\n")
-
-# What one loader maps. Linux reads no dynamic segment, glibc no interpreter, and neither asks that zeros can be written.
-LOAD.misused({
-    "no file for Linux": "--kernel", "no file for glibc after a size": "--glibc --page 4096", "both loaders": "--kernel --glibc counter",
-    "both loaders the other way": "--glibc --kernel counter", "a loader after a size": "--page 4096 --kernel counter",
-    "a loader with lazy slots": "--kernel --lazy counter", "a loader with a size that is zero": "--glibc --page 0 counter"})
-LOAD.prints({
-    "files that Linux maps": ("--kernel counter static.elf shut.elf", "counter: loads: yes\nstatic.elf: loads: yes\nshut.elf: loads: yes\n"),
-    "files that glibc maps": (
-        "--glibc --page 4096 library.so interpreter.elf shut.elf",
-        "library.so: loads: yes\ninterpreter.elf: loads: yes\nshut.elf: loads: yes\n")})
-LOAD.fails({
-    "a path that Linux does not take": ("--kernel interpreter.elf", "interpreter.elf: Path of the interpreter is not valid"),
-    "a machine without a limit for glibc": ("--glibc arm.elf", "arm.elf: Limit of addresses is not known for this machine"),
-    "pages that are too large for Linux": (
-        "--kernel --page 16384 counter", "counter: Address and offset of a load segment differ modulo the page size"),
-    "a missing file for Linux": ("--kernel counter missing.so", "cannot read missing.so")})
-LOAD.add("files between which glibc does not map two", "--glibc counter zeros.elf static.elf library.so", 1,
-    "counter: loads: yes\nlibrary.so: loads: yes\n", f"elfload: zeros.elf: {NO_MAGIC}\nelfload: static.elf: No dynamic segment\n")
-
-# places.so without its section headers, by what `readelf -lW` shows of its segments; the same with the bytes of sections by symbol,
-# by `readelf -SW` and `-sW`: `alias` has the range of `last`; and a file whose section headers are cut off, by `readelf -hlW`.
-PLACES_SEGMENTS, PLACES_SYMBOLS, SHORT_SIZES = expected("places_segments"), expected("places_symbols"), expected("short")
-ODD_SIZES = replaced(PLACES_SYMBOLS.replace("places.so", "odd.so").encode(), {old[:-1]: escaped(new[:-1]) for old, new in ODD_NAMES.items()})
-# bare.so with the symbols of bare.debug, by `readelf -SW` of the one and `readelf -sW` of the other, whose sections have the same
-# indices; and without them.
-BARE_SYMBOLS = expected("bare_symbols").encode()
-BARE_SIZES = replaced(BARE_SYMBOLS, {
-    b"8 0.49% section 8 .data\n8 0.49% symbol 9 value\n4 0.24% symbol 8 outer\n": b"9 0.55% section 5 .text\n",
-    b"16 0.98% section 9": b"16 0.98% section 8 .data\n16 0.98% section 9",
-    b"2 0.12% symbol 5 last\n2 0.12% symbol 6 inner\n": b"", b"1 0.06% section 5 .text\n": b""})
-SIZE = Program(
-    "elfsize", "elfsize [--json] [--diff [--fail-above BYTES]] [--segments | --symbols [--debug DIR | --no-debug]] <binary_path>..", [],
-    ["places.so"], PLACES_SIZES, PLACES)
-SIZE.misused({
-    "segments of no file": "--segments", "symbols of no file": "--symbols", "the difference of one file": "--diff places.so",
-    "no file as JSON": "--json", "no folder of debug files": "--debug", "a limit without a difference": "--fail-above 1 places.so counter",
-    "the difference of three": "--diff places.so places.so places.so",
-    "a limit that is no number": "--diff --fail-above x places.so places.so", "no limit": "--diff --fail-above"})
-SIZE.prints({
-    "two files": ("places.so counter", SIZES), "segments": ("--segments places.so", PLACES_SEGMENTS),
-    "symbols": ("--symbols places.so", PLACES_SYMBOLS),
-    "symbols of a file without them": ("--symbols counter", COUNTER_SIZES),
-    "section headers that are cut off": ("short.so", SHORT_SIZES),
-    "symbols of section headers that are cut off": ("--symbols short.so", SHORT_SIZES),
-    "sections of other types": ("types.so", PLACES_SIZES.replace(b"places.so", b"types.so")),
-    "segments of class 32": (
-        "--segments strtab.elf", "strtab.elf\n92 63.88% after all parts\n52 36.11% ELF header\n144 100.00% sum\n"),
-    "a file of class 32": (
-        "strtab.elf", "strtab.elf\n80 55.55% section headers\n52 36.11% ELF header\n12 8.33% section 1 .strtab\n144 100.00% sum\n")})
-SIZE.fails({"symbols that are no whole number": ("--symbols parts.so", "parts.so: Data is not a whole number of records")})
-SIZE.prints({
-    "two files that differ": ("--diff places.so counter", difference(PLACES_SIZES, COUNTER_SIZES)),
-    "the other way": ("--diff counter places.so", difference(COUNTER_SIZES, PLACES_SIZES)),
-    "one file twice": ("--diff places.so places.so", difference(PLACES_SIZES, PLACES_SIZES)),
-    "symbols and none": ("--diff --symbols places.so short.so", difference(PLACES_SYMBOLS.encode(), SHORT_SIZES.encode())),
-    "segments that differ": ("--diff --segments counter places.so", difference(COUNTER_SIZES, PLACES_SEGMENTS.encode())),
-    "growth at the limit": ("--diff --fail-above 2288 places.so counter", difference(PLACES_SIZES, COUNTER_SIZES))})
-SIZE.add("growth above the limit", "--diff --fail-above 2287 places.so counter", 2, difference(PLACES_SIZES, COUNTER_SIZES))
-SIZE.fails({
-    "no new file": ("--diff places.so missing.so", "cannot read missing.so"),
-    "an old file of zeros": ("--diff zeros.elf places.so", f"zeros.elf: {NO_MAGIC}"),
-    "such symbols of a new file": ("--diff --symbols places.so parts.so", "parts.so: Data is not a whole number of records")})
-SIZE.prints({
-    "the symbols of a debug file": ("--symbols bare.so", BARE_SYMBOLS),
-    "the symbols of a debug file in .debug": ("--symbols sub/bare.so", b"sub/" + BARE_SYMBOLS),
-    "the symbols of a debug file by its build id": ("--debug ids --symbols alone/bare.so", b"alone/" + BARE_SYMBOLS),
-    "a debug file without --symbols": ("bare.so", BARE_SIZES),
-    "no debug file for symbols": ("--symbols alone/bare.so", b"alone/" + BARE_SIZES),
-    "a debug file that is not looked for": ("--symbols --no-debug bare.so", BARE_SIZES),
-    "a difference by a debug file": ("--diff --symbols bare.so places.so", difference(BARE_SYMBOLS, PLACES_SYMBOLS.encode())),
-    "a difference by the debug file of the second": ("--symbols --diff places.so bare.so", difference(PLACES_SYMBOLS.encode(), BARE_SYMBOLS)),
-    "names that JSON has escapes for": ("--symbols odd.so", ODD_SIZES)})
-SIZE.add("another file by the build id for symbols", "--debug others --symbols bare.so", 0, BARE_SYMBOLS,
-    f"elfsize: others/{BY_ID}: not the debug file: no build id\n")
-SIZE.add("a file with an error between others", "places.so zeros.elf counter", 1, SIZES, f"elfsize: zeros.elf: {NO_MAGIC}\n")
-
-# The texts of errors and the paths are those of `ld.so`, with LD_LIBRARY_PATH and LD_TRACE_LOADED_OBJECTS=1.
-TREE = Program(
-    "elftree", f"elftree {SEARCH_USAGE} [--start | --list] <binary_path>..", [],
-    ["libfirst.so"], "libfirst.so\n".encode(), data("elfbind/data/libfirst.so"))
-TREE.misused({
-    "no file after options": "--no-cache --list", "no root": "--root", "no file after a root": "--root .", "another option": "--lists counter"})
-TREE.fails({
-    "an empty file": ("empty.elf", "empty.elf: file too short"), "a file with an error": ("strtab.elf", "strtab.elf: ELF file version does not match current one"),
-    "a missing cache": ("--cache missing counter", "cannot read missing"), "a file above the root": ("--root folder ../counter", "cannot read ../counter")})
-CALLER_TREE = "caller\n  libfirst.so => ./libfirst.so (library-path) #1\n  libsecond.so => ./libsecond.so (library-path) #2\n"
-TREE.prints({
-    "libraries in a folder": ("--no-cache --library-path .:folder caller", CALLER_TREE),
-    "the order of starts": ("--library-path . --start caller", f"{CALLER_TREE}start ./libsecond.so\nstart ./libfirst.so\n"),
-    "a list": ("--library-path . --list caller", "caller\n./libfirst.so\n./libsecond.so\n")})
-TREE.add("a missing library", "--no-cache counter", 1, "counter\n  library.so => not found\n")
-TREE.add("a root without libraries", "--root . /counter", 1, "/counter\n  library.so => not found\n")
-TREE.add("two programs", "counter missing.so libfirst.so", 1, "counter\n  library.so => not found\nlibfirst.so\n", "elftree: cannot read missing.so\n")
-
-PROGRAMS = [INFO, SYM, ADDR, BIND, LOAD, SIZE, TREE]
+SEARCH = TABLE.pop("search")
+PROGRAMS = [Program(name, **row) for name, row in TABLE.items()]
+BIND, LOAD = (it for it in PROGRAMS if it.name in ("elfbind", "elfload"))
+BIND.take(**SEARCH)
+LOAD.take(**SEARCH)
 
 
 def run(built, arguments, room, given=b"", **more) -> list:
@@ -519,42 +211,17 @@ def told_ends(program, built, room):
         yield name, wanted, run(built, arguments, room, program.given)
 
 
-def name_of(record: dict):
-    """A name in a JSON object, as bytes; None for null."""
-    name = record.get("name")
-    return bytes.fromhex(record["name_bytes"]) if "name_bytes" in record else name if name is None else name.encode()
-
-
-def sizes_text(records: list) -> bytes:
-    """What elfsize prints as text, by its lines as JSON."""
-    text, before = b"", None
-    for it in records:
-        words = [it["kind"].encode(), *(b"%d" % place for place in [it["index"]] if place is not None), name_of(it)]
-        part = b" ".join(escaped(word) for word in words if word is not None)
-        if "total" in it:
-            heading = b"all parts\n" if it["total"] and not (before and before["total"]) else b""
-            state = b"" if it["state"] is None else it["state"].encode() + b" "
-            line = b"%+d -> %d %s%s" % (it["difference"], it["size"], state, part)
-        else:
-            begins = before is None or before["kind"] == "sum"
-            heading = b"" if not begins else b"all files\n" if it["file"] is None else it["file"].encode() + b"\n"
-            share = b"" if it["share"] is None else b"%d.%02d%% " % divmod(it["share"], 100)
-            line = b"%d %s%s" % (it["size"], share, part)
-        text, before = text + heading + line + b"\n", it
-    return text
-
-
 # By the name of a program what it prints as text, by its lines as JSON.
-TEXT_OF = {"elfsize": sizes_text}
+TEXT_OF = {"elfsize": sizes_text, "elfload": text_of}
 
 
 def same_facts(program, built, room):
     """Each end with `--json`: the same status and error text, and lines that Python's json reads, with the facts of the text."""
     for name, (arguments, status, output, said) in program.ends.items():
-        if name not in ("its version", "help"):
+        if name not in ("its version", "help") and not output.startswith(b"{"):
             came = run(built, ["--json", *arguments], room, program.given)
             if not output.startswith(b"usage: "):
-                came[1] = TEXT_OF[program.name]([json.loads(line) for line in came[1].splitlines()])
+                came[1] = TEXT_OF[program.name]([json.loads(line) for line in came[1].splitlines()]).encode("utf-8", "surrogateescape")
             yield f"{name}, as JSON", [status, output, said], came
 
 
@@ -571,9 +238,9 @@ def unwritten_ends(program, built, room):
             yield f"{what}, where nothing can be said", [1, None, None], run(built, arguments[what], room, stdout=full, stderr=full)
     reader, writer = os.pipe()
     os.close(reader)
-    # The status of a program that SIGPIPE ends, as a shell tells it.
-    wanted = [141, None, b""] if program is not LOAD else [1, None, unwritten]
-    yield "a pipe that nobody reads", wanted, run(built, arguments["a good file"], room, stdout=writer)
+    for what in ("a good file", *(("functions of a start", "files that Linux maps") if program is LOAD else ())):
+        # The status of a program that SIGPIPE ends, as a shell tells it.
+        yield f"{what}, into a pipe that nobody reads", [141, None, b""], run(built, arguments[what], room, stdout=writer)
     os.close(writer)
 
 
@@ -595,22 +262,31 @@ def long_ends(program, built, room):
         yield f"a long report, into a file of at most {limit} bytes", wanted, came
 
 
+# Lines of a stack, and what becomes of each.
+STACK = {
+    b"places.so(+0x206) [0x7f0206]\n": b"places.so(outer+0x0) [0x7f0206]\n", b"places.so 0x208\n": b"places.so inner+0x0\n",
+    **{line: line for line in (
+        b"places.so(outer+0x4) [0x1]\n", b"places.so(+0x20f) [0x1]\n", b"missing.so(+0x206) [0x1]\n", b"zeros.elf 0x0\n", b"\n",
+        b"text (in parentheses) and a number 206\n", b"\xff(+0x206)\n", b"places.so(+0x10000000000000000)\n", b"places.so(+0x)\n")},
+    b"./places.so(+0x2c8)\x01\n": b"./places.so(.data+0x8)\x01\n", b"places.so(+20a)": b"places.so(outer+0x4)"}
+
+
 def stack_ends(program, built, room):
     yield "a stack", [0, b"".join(STACK.values()), b""], run(built, ["--stack"], room, b"".join(STACK))
 
 
 def debug_ends(program, built, room):
     """How elfaddr ends by debug files at paths that a folder of the machine is part of, and by what is no file."""
-    real, words = os.path.realpath(room), BARE_WORDS.split()
+    real, words, names, places = os.path.realpath(room), words_of("{bare addresses}"), meant("bare names"), meant("bare places")
     said = f"elfaddr: {real}/other/bare.debug: not the debug file: another CRC\n"
-    yield "another file beside the file", [0, BARE_PLACES.encode(), said.encode()], run(built, ["other/bare.so", *words], room)
+    yield "another file beside the file", [0, places, said.encode()], run(built, ["other/bare.so", *words], room)
     under = pathlib.Path(f"{room}/under{real}/alone/bare.debug")
     under.parent.mkdir(parents=True)
-    under.write_bytes(BARE_DEBUG)
+    under.write_bytes(FILES["bare.debug"])
     by_folder = ["--debug", "under", "alone/bare.so", *words]
-    yield "a debug file in the same folder under another", [0, BARE_NAMES.encode(), b""], run(built, by_folder, room)
+    yield "a debug file in the same folder under another", [0, names, b""], run(built, by_folder, room)
     os.mkfifo(f"{room}/alone/bare.debug")
-    yield "a pipe in place of a debug file", [0, BARE_PLACES.encode(), b""], run(built, ["alone/bare.so", *words], room)
+    yield "a pipe in place of a debug file", [0, places, b""], run(built, ["alone/bare.so", *words], room)
     stack = b"bare.so(+0x25c) [0x1]\nalone/bare.so 0x25c\n"
     for options, name in ((), "label+0x0"), (("--no-debug",), ".text+0x6"):
         lines = stack.replace(b"bare.so(+0x25c)", f"bare.so({name})".encode()).replace(b" 0x25c", b" .text+0x6")

@@ -5,7 +5,6 @@ How they are tried, many in one check of a copy of their crate, is in docs/WRONG
 is, and is checked first, unless `rt ci` has just proved it. At the end is what the checks of each crate took. The last
 line is `N rejected, M failed`.
 """
-import argparse
 import collections
 import concurrent.futures
 import contextlib
@@ -21,7 +20,7 @@ import types
 
 from edits import BATCH, Edit, EditedCrate, Room, batches_of, check
 from pages import sources
-from pages.definitions import Reader
+from pages.definitions import Reader, closure
 from pages.sources import ROOT, git
 
 # The names of the edits that must stay, and the commit at which each edit was last rejected.
@@ -37,18 +36,6 @@ CLAUSES = re.compile(r"^ *ensures(?: (\w+))? \{", re.M)
 HUNK = re.compile(r"^@@ -\d+(?:,\d+)? \+(\d+)(?:,(\d+))? @@", re.M)
 # What a body calls, by its last name.
 CALLED = re.compile(r"\b(\w+)(?:::<[^()]*>)?\(")
-
-FLAGS = {
-    "gate": "those of docs/wrong_bodies.txt, and those since the commit of docs/wrong_bodies_commit.txt; all where it isn't known here",
-    "all": "all, and stores the commit there if each is rejected",
-    "store": "after --gate too: what it leaves out has not changed since the commit before",
-    "proved": "after `rt ci`: no crate is checked first as it is",
-    "right": "whether each right body is proved beside itself, as the wrong ones are tried",
-    "compiler": "whether the compiler rejects each edit of crates/*/does-not-compile, with the error of its line `want:`",
-    "doubled": "names those outside of docs/wrong_bodies.txt whose clause another edit of the function breaks, and tries nothing",
-    "self-test": "whether the script itself tells right from wrong",
-}
-
 
 # A crate whose edits are to be tried: the crates below it, and its batches.
 Task = collections.namedtuple("Task", "crate below batches")
@@ -244,20 +231,15 @@ class Reach:
         own = (line - one.line for line in lines)
         return any(0 <= at < len(text) and not text[at].lstrip().startswith(("--", "//")) for at in own)
 
+    def used_by(self, one) -> list:
+        """The definitions that one uses; of a type none."""
+        if (one.path, one.line) not in self.known:
+            self.known[one.path, one.line] = [] if one.kind == "type" else [*self.reader.used_by(one)]
+        return self.known[one.path, one.line]
+
     def leads_to_change(self, found) -> bool:
         """Whether one of these definitions changed, or one that they lead to."""
-        left, seen = list(found), set()
-        while left:
-            one = left.pop()
-            place = (one.path, one.line)
-            if place not in self.known:
-                self.known[place] = self.is_changed(one), [] if one.kind == "type" else [*self.reader.used_by(one)]
-            is_changed, used = self.known[place]
-            if is_changed:
-                return True
-            left += [] if place in seen else used
-            seen.add(place)
-        return False
+        return any(map(self.is_changed, closure(found, self.used_by)))
 
     def functions(self, crates) -> set:
         """The crate, file and path of each function of some crates whose clauses lead to a changed definition."""
@@ -342,12 +324,10 @@ def store() -> int:
 
 
 def main() -> int:
-    words = argparse.ArgumentParser(description=__doc__, formatter_class=argparse.RawDescriptionHelpFormatter)
+    words = sources.parser_of(__doc__, sources.table_of(__file__))
     words.add_argument("--jobs", type=int, default=2, help="how many checks run side by side (each takes some 2 GB)")
     words.add_argument("--since", metavar="COMMIT", help="those of functions that changed since then, or of which a definition changed that "
                        "the clauses lead to, and new edits")
-    for flag, said in FLAGS.items():
-        words.add_argument(f"--{flag}", action="store_true", help=said)
     words.add_argument("names", nargs="*", metavar="NAME", help="a crate, a topic or an edit; none: all")
     given = words.parse_args()
     if given.self_test:

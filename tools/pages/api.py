@@ -12,12 +12,11 @@ a `pub use` passes on nothing that xmas_elf itself declares: such a name counts 
 import pathlib
 import re
 import sys
-import tomllib
 
 sys.path.insert(0, str(pathlib.Path(__file__).resolve().parents[1]))
 from exports import listing
 from pages import errors
-from pages.sources import ITEM, ROOT, anchor, differing, ended, impls_of, meant, modules, parser_of, public_items, read
+from pages.sources import ITEM, ROOT, anchor, differing, ended, impls_of, meant, modules, parser_of, public_items, read, table_of
 from pages.definitions import uses_in
 
 PAGES = ROOT / "docs" / "api"
@@ -25,7 +24,7 @@ PAGES = ROOT / "docs" / "api"
 # The libraries that have a page: first those that a user names.
 LIBRARIES = ("xmas_elf", "elf_linking", "elf_library", "elf_addresses", "elf_debug", "elf_loading", "elf_search", "elf_base", "elf_records", "elf_c")
 
-TEXTS = tomllib.loads(pathlib.Path(__file__).with_suffix(".toml").read_text(encoding="utf-8"))
+TEXTS = table_of(__file__)
 SPECS = ROOT / "crates" / "xmas_elf" / "specs"
 TYPES, PRELUDE = SPECS / "Types.antt", SPECS / "Prelude.antt"
 

@@ -17,24 +17,11 @@ import tomllib
 
 sys.path.insert(0, str(pathlib.Path(__file__).resolve().parents[1]))
 from gate.edits import EditedCrate
-from pages.sources import ROOT, Crate, ended, parser_of
+from pages.sources import CALLERS, LIBRARIES, ROOT, Crate, ended, parser_of, table_of
 
 REASONS = ROOT / "docs" / "contracts.toml"
 
-# The libraries whose contracts users read, and the crates of callers.
-LIBRARIES = ("elf_base", "elf_records", "xmas_elf", "elf_linking", "elf_library", "elf_addresses", "elf_debug", "elf_loading", "elf_search")
-CALLERS = ("elf_callers", "linking_callers")
-
-# Words of a clause that speak of Ok or Some alone.
-ONE_SIDE = re.compile(r"\b(IfOk|IfSome|IfPart|OnOk)\b")
-# Words and clauses that say what the other results are, or when they come.
-OTHER_SIDE = re.compile(
-    r"\b(Match\w+|IsOk|IsOkAnd|IsSome|IsSomeAnd|IfErr|IfNone|IsErr\w*|Answers|lent result)\b|result(\.0)? ≡|≡ result|"
-    r"ensures (exact|only|answer|missing|failed)\b"
-)
-# A slice in what is returned, and words that say where it lies.
-BORROWED = re.compile(r"&'a \[|-> &\[|Table<'a|Notes<'a")
-PLACE = re.compile(r"Lies|Lie[A-Z]|PartLies|ref_ptr|result ≡|table_bytes|≡ notes\.entry")
+ONE_SIDE, OTHER_SIDE, BORROWED, PLACE = map(re.compile, table_of(__file__).values())
 
 
 def lines() -> list:

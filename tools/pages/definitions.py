@@ -9,9 +9,7 @@ leads to a definition there, to a type or a constant of the code, to a ghost mem
 import dataclasses
 import re
 
-from pages.sources import ROOT, read
-
-LIBRARIES = ("elf_base", "elf_records", "xmas_elf", "elf_linking", "elf_library", "elf_addresses", "elf_debug", "elf_loading", "elf_search")
+from pages.sources import LIBRARIES, ROOT, read
 
 USE = re.compile(r"^\s*(?:ghost )?(?:pub )?use ((?:Rattle|lib)\.[\w.]+?)(?:\.\{([^}]*)\}| as (\w+))?;?$", re.M)
 WORD = re.compile(r"(?<![.\w])[\w◌][\w◌'-]*(?:\.[\w]+)?|[^\s\w(){}\[\],;.:\"]+")
@@ -44,6 +42,17 @@ def uses_in(text: str) -> dict:
         if not names:
             found[alias or path.split(".")[-1]] = (path, None)
     return found
+
+
+def closure(found, used):
+    """Some definitions and those that they lead to, each once, by what each of them uses."""
+    left, seen = list(found), set()
+    while left:
+        one = left.pop()
+        if (one.path, one.line) not in seen:
+            seen.add((one.path, one.line))
+            yield one
+            left += used(one)
 
 
 class Reader:
@@ -202,15 +211,11 @@ class Reader:
 
     def unreached(self, crates=LIBRARIES) -> list:
         """The definitions in the spec files of some crates to which no contract, ghost member or ghost field leads."""
-        seen, self.types = set(), None
+        self.types = None
         given = [self.contract(source, one)[:2] for source in self.sources.values() for one in source.functions]
         given += [it for source in self.sources.values() for it in self.ghosts(source)]
-        left = [one for text, uses in given for one in self.used(text, uses, {})]
-        while left:
-            one = left.pop()
-            if (one.path, one.line) not in seen:
-                seen.add((one.path, one.line))
-                left += self.used_by(one)
+        found = (one for text, uses in given for one in self.used(text, uses, {}))
+        seen = {(one.path, one.line) for one in closure(found, self.used_by)}
         files = [it for crate in crates for it in sorted((ROOT / "crates" / crate / "specs").rglob("*.antt"))]
         return [one for file in files for name, one in self.spec(file).items() if one.name == name and (file, one.line) not in seen]
 

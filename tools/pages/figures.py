@@ -9,11 +9,10 @@ A figure is a line "Measured at COMMIT by `COMMAND` on MACHINE.", after which mo
 import pathlib
 import re
 import sys
-import tomllib
 
 sys.path.insert(0, str(pathlib.Path(__file__).resolve().parents[1]))
 from compare.all import ORACLES
-from pages.sources import below, crates, git
+from pages.sources import below, crates, git, table_of
 
 PAGES = ("README.md", "CONTRIBUTING.md", "CALLING.md", "docs/*.md", "bindings/*.md", "bench/*.md")
 
@@ -26,7 +25,7 @@ def of(crate: str = "", others: tuple = ()) -> tuple:
 
 # What each command measures, besides a script itself.
 MEASURED = {f"tools/compare/{it.script}.py": {"crate": it.runs.split()[0]} for it in ORACLES.values()}
-MEASURED |= tomllib.loads(pathlib.Path(__file__).with_suffix(".toml").read_text(encoding="utf-8"))
+MEASURED |= table_of(__file__)
 PATHS = {command: of(**it) for command, it in MEASURED.items()}
 
 FIGURE = re.compile(r"Measured at ([0-9a-f]{7,40}) by `([^`]+)` on (.+?)(?=[.:;](?:\s|$)| \(|$)")

@@ -6,12 +6,10 @@
 
 A comment of crates.txt begins a group; the crates of tests are left out.
 """
-import pathlib
 import re
 import sys
 
-sys.path.insert(0, str(pathlib.Path(__file__).resolve().parents[1]))
-from pages.sources import ROOT, below, differing, ended, parser_of
+from sources import ROOT, below, differing, ended, parser_of
 
 PAGE = ROOT / "CONTRIBUTING.md"
 PLACE = re.compile(r"(?<=<!-- layers -->\n).*(?=\n<!-- /layers -->)", re.S)

@@ -9,15 +9,13 @@ import pathlib
 import re
 import sys
 
-sys.path.insert(0, str(pathlib.Path(__file__).resolve().parents[1]))
-from pages.sources import ROOT, anchor, ended, read
+from sources import CALLERS, ROOT, anchor, ended, read
 
 BLOCK = re.compile(r"^ *```(rust|antt)\n(.*?)^ *```$", re.MULTILINE | re.DOTALL)
 ENDS = {"rust": ".rt", "antt": ".antt"}
 LINK = re.compile(r"\]\(([^)\s]+)\)")
 IMPORT = re.compile(r"ghost use ([\w.]+)\.\{([^}]*)\};")
 HEADING = re.compile(r"^#+ (.*)$", re.MULTILINE)
-CALLERS = ("elf_callers", "linking_callers")
 CALLER = re.compile(r"`((?:elf_callers::|linking_callers::)?(?:callers(?:::[a-z]\w*)+|recipes::\w+))`")
 
 

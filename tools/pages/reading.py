@@ -11,15 +11,14 @@ Both fail where the contract of a call leads to more definitions than in reading
 import pathlib
 import re
 import sys
-import tomllib
 
 sys.path.insert(0, str(pathlib.Path(__file__).resolve().parents[1]))
 from pages.definitions import Reader
-from pages.sources import ROOT, anchor, differing, ended, parser_of
+from pages.sources import ROOT, anchor, differing, ended, parser_of, table_of
 
 PAGE = ROOT / "docs" / "READING.md"
 
-BOUNDS = tomllib.loads(pathlib.Path(__file__).with_suffix(".toml").read_text(encoding="utf-8"))
+BOUNDS = table_of(__file__)
 ROOM = re.compile(r"(<!-- (read|bytes) ([^>]*) -->\n).*?(<!-- end -->)", re.S)
 
 

@@ -12,8 +12,12 @@ import collections
 import pathlib
 import re
 import subprocess
+import tomllib
 
 ROOT = pathlib.Path(__file__).resolve().parents[2]
+# The libraries whose contracts users read, and the crates of callers.
+LIBRARIES = ("elf_base", "elf_records", "xmas_elf", "elf_linking", "elf_library", "elf_addresses", "elf_debug", "elf_loading", "elf_search")
+CALLERS = ("elf_callers", "linking_callers")
 
 ITEM = re.compile(r'pub (struct|enum|trait|type|const|static|(?:const )?fn|extern "C" fn) (\w+)')
 BLOCK = re.compile(
@@ -281,11 +285,25 @@ class Crate:
         return [it for it in found if [part for part in it[:-1] if part != "fn"] == above]
 
 
-def parser_of(doc) -> argparse.ArgumentParser:
-    """The arguments of a script, which are described in its head."""
+CHECK = {"check": "write nothing, and fail where something differs"}
+
+
+def parser_of(doc, flags: dict = CHECK) -> argparse.ArgumentParser:
+    """The arguments of a script, which are described in its head: these flags, each with what is said of it."""
     parser = argparse.ArgumentParser(description=doc, formatter_class=argparse.RawDescriptionHelpFormatter)
-    parser.add_argument("--check", action="store_true", help="write nothing, and fail where something differs")
+    for flag, said in flags.items():
+        parser.add_argument(f"--{flag}", action="store_true", help=said)
     return parser
+
+
+def table_of(script: str) -> dict:
+    """The lists of a script: those of the file beside it that ends in `.toml`."""
+    return tomllib.loads(pathlib.Path(script).with_suffix(".toml").read_text(encoding="utf-8"))
+
+
+def unfolded(names, lists: dict) -> list:
+    """Some names, with those of a list in place of `@` and its name."""
+    return [it for name in names for it in (unfolded(lists[name[1:]], lists) if name[0] == "@" else [name])]
 
 
 def anchor(heading: str) -> str:

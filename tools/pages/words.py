@@ -1,5 +1,5 @@
 #!/usr/bin/env python3
-"""Fails where a page or a comment of the crates and exports has a word of WORDS, and prints each with its line. Code blocks, text in
+"""Fails where a page or a comment of the crates and exports has a word of words.toml, and prints each with its line. Code blocks, text in
 backquotes, link targets, comments and the generated parts of pages are not counted, since a word may be a name there.
 
     tools/pages/words.py
@@ -7,39 +7,20 @@ backquotes, link targets, comments and the generated parts of pages are not coun
 import re
 import sys
 
-from sources import ROOT, ended
+from sources import ROOT, ended, table_of
 
-PAGES = ("*.md", "docs/*.md", "bindings/**/*.md", "bench/*.md", "oracle/*.md", "tools/*.md")
-
-# Folders that package managers and compilers fill.
-OTHERS = {"node_modules", "target", "out"}
-
-WORDS = re.compile(
-    r"\b(answer(s|ed)?|refus(e|es|ed|als?)|lend(s|ing)?|lent|bears?|stands?|judge|headlines?|walk(s|ed|ing)?|behind|roads?|houses?)\b",
-    re.IGNORECASE)
-
-# A line of a comment that pages or headers may print.
-COMMENT = re.compile(r'^ *(?:--|///|//!)(.*)$|.*\bcomment = "(.*)"')
-
-# What isn't prose. A table or a list inside a list may be indented as far as a code block.
-PARTS = (
-    re.compile(r"<!-- (?:read|bytes|bench|layers)\b.*?<!-- (?:end|/\w+) -->", re.DOTALL),
-    re.compile(r"^( *)```.*?^\1```$", re.MULTILINE | re.DOTALL),
-    re.compile(r"^ {4} *[^ |\-\n].*$", re.MULTILINE),
-    re.compile(r"<!--.*?-->", re.DOTALL),
-    re.compile(r"(`+).+?\1"),
-    re.compile(r"\]\([^)\s]+\)"),
-)
+TABLE = table_of(__file__)
+WORDS, COMMENT = re.compile(TABLE["words"], re.IGNORECASE), re.compile(TABLE["comment"])
 
 
 if __name__ == "__main__":
-    pages = [it for names in PAGES for it in sorted(ROOT.glob(names)) if not OTHERS & set(it.relative_to(ROOT).parts)]
+    pages = [it for names in TABLE["pages"] for it in sorted(ROOT.glob(names)) if not {*TABLE["others"]} & set(it.relative_to(ROOT).parts)]
     sources = sorted([*ROOT.glob("crates/*/specs/**/*.antt"), *ROOT.glob("crates/*/src/**/*.rt"), ROOT / "bindings/exports.toml"])
     texts = []
     for page in pages:
         text = page.read_text(encoding="utf-8")
-        for part in PARTS:
-            text = part.sub(lambda found: re.sub(r"[^\n]", " ", found[0]), text)
+        for part in TABLE["parts"]:
+            text = re.sub(part, lambda found: re.sub(r"[^\n]", " ", found[0]), text)
         texts.append((page, text))
     for path in sources:
         # The comments on their lines, but for names in backquotes.

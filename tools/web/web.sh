@@ -2,7 +2,7 @@
 # Builds the page that looks into a file, and serves it on the loopback address.
 #   tools/web/web.sh [--port N]   builds bindings/web/out/site and serves it at http://127.0.0.1:N, 8042 where none is given
 #   tools/web/web.sh --build      builds it alone: the folder can then be put on any server of static files
-#   tools/web/web.sh --test       builds it and tests it by bindings/web/tests/page.py, where Chromium is installed, and else says so
+#   tools/web/web.sh --test [--files N]   builds it and tests it by bindings/web/tests/page.py, where Chromium is installed, and else says so
 # XMAS_ELF_MODULE: a file elf_c.wasm; where it isn't set, `rt lib` makes it of crates/elf_c and what that uses.
 set -euo pipefail
 cd "$(dirname "$0")/../.."
@@ -67,11 +67,9 @@ module() {
     room=""
 }
 
-if [ "$does" = test ]; then
-    if ! /usr/bin/python3 -c "import selenium" 2> /dev/null || ! command -v chromedriver > /dev/null; then
-        echo "web: Debian's python3-selenium and chromium-driver are not installed: the page is not tested"
-        exit 0
-    fi
+if [ "$does" = test ] && { ! /usr/bin/python3 -c "import selenium" 2> /dev/null || ! command -v chromedriver > /dev/null; }; then
+    echo "web: Debian's python3-selenium and chromium-driver are not installed: the page is not tested"
+    exit 0
 fi
 mkdir -p "$web/out"
 if [ -z "${XMAS_ELF_MODULE:-}" ]; then
@@ -86,7 +84,7 @@ tools/web/records.py "$site/records.js"
 tools/web/example.py "$site"
 echo "web: $site"
 if [ "$does" = test ]; then
-    /usr/bin/python3 bindings/web/tests/page.py
+    /usr/bin/python3 bindings/web/tests/page.py "${@:2}"
 elif [ "$does" = serve ]; then
     echo "web: http://127.0.0.1:$port (stop with Ctrl-C)"
     python3 -m http.server --bind 127.0.0.1 --directory "$site" "$port" > /dev/null
