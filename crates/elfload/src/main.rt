@@ -125,14 +125,7 @@ pub fn run<W: Write, E: Write>(
     ensures checked { result ≡ 0 → HasStatic inputs.now
         ⊎ AreImagesGood ⟦<DynEntry32 as Record>⟧ ⟦<DynEntry64 as Record>⟧ asked.entry.page inputs.now }
 {
-    let status = run_plans(
-        alloc,
-        asked.form,
-        asked.page,
-        inputs,
-        &mut *out,
-        &mut *err,
-    );
+    let status = run_plans(alloc, asked.form, asked.page, inputs, &mut *out, &mut *err);
     if status != 0 {
         return status;
     }

@@ -18,8 +18,8 @@ ghost use Rattle.program_ends.specs.Stops.{IsStop};
 ghost use Rattle.program_ends.specs.declared.Stop.TheVariants as stops_are;
 ghost use Rattle.elf_loading.specs.Plan.{plan_file};
 
-use elf_loading::{Contents, LoadError, LoadPlan, Loader, Mapping, Mappings, Span, Tls};
 use crate::records::flags_or_null;
+use elf_loading::{Contents, LoadError, LoadPlan, Loader, Mapping, Mappings, Span, Tls};
 use program_ends::json::{Form, Member, write_json};
 use program_ends::{Output, Stop, json, write_name};
 use std::fmt::Display;
