@@ -192,7 +192,7 @@ def try_loads(test):
 
 
 # Changes of oracle/loaders.py, each with what the page says where the file isn't loaded, or is loaded without a plan.
-MADE = {"Alignment": "Alignment of a load segment is not a power of two", "Overlap": "Load segment begins before the end of the one before it",
+REASONS = {"Alignment": "Alignment of a load segment is not a power of two", "Overlap": "Load segment begins before the end of the one before it",
         "Zeros": "Load segment has zeros but is not readable and writable", "Data": "Load segment is past the end of the file",
         "FileSize": "Load segment is larger in the file than in memory", "IdentVersion": "Version in the first bytes is not 1",
         "Misaligned": "Address and offset of a load segment differ modulo the page size",
@@ -204,17 +204,17 @@ def try_loads_of_made_files(test):
     page says so."""
     room = loaders.Room(str(test.room), "")
     changes = {it[0]: it[1] for it in loaders.CASES}
-    for error, name in itertools.product(MADE, ("program", "library")):
+    for error, name in itertools.product(REASONS, ("program", "library")):
         path = room.changed(changes[error], name).rename(test.room / f"{error} {name}")
         is_program = name == "program"
         is_loaded = subprocess.run([path]).returncode == 42 if is_program else loaders.by_glibc(str(path)) == "loaded"
         test.open(path, tab="Overview")
-        wanted = ["fine", "yes"] if is_loaded else ["bad", f"no: {MADE[error]}"]
+        wanted = ["fine", "yes"] if is_loaded else ["bad", f"no: {REASONS[error]}"]
         test.same(f"{error}, {name}: loads", test.page.run(LOADS), [*wanted, BY_LINUX if is_program else BY_GLIBC])
         has_plan = error == "IdentVersion" or not is_loaded
-        test.same(f"{error}, {name}: pages in memory", test.page.texts(".card.first .facts .weak"), [] if has_plan else [f"not known: {MADE[error]}"])
+        test.same(f"{error}, {name}: pages in memory", test.page.texts(".card.first .facts .weak"), [] if has_plan else [f"not known: {REASONS[error]}"])
         unread = [it for it in test.page.texts(".faults li") if it.startswith("Pages in memory")]
-        test.same(f"{error}, {name}: what can't be read", unread, [] if has_plan else [f"Pages in memory{MADE[error]}"])
+        test.same(f"{error}, {name}: what can't be read", unread, [] if has_plan else [f"Pages in memory{REASONS[error]}"])
 
 
 def try_zeros(test):
