@@ -27,7 +27,6 @@ mod plan;
 mod program_check;
 mod relocate;
 mod segments;
-mod slots;
 mod span;
 mod value;
 mod words;

@@ -10,20 +10,21 @@ ghost use Rattle.std.specs.List.{list_any};
 ghost use Rattle.elf_loading.specs.Segments.{loads_of};
 ghost use Rattle.elf_loading.specs.RelativeWords.{asks_as};
 ghost use Rattle.elf_loading.specs.Words.{IsBoundIf, addend_of, addend_place, address_size};
-ghost use Rattle.elf_loading.specs.Words.{binds_lazily, has_zeros, is_later, needs_symbol};
-ghost use Rattle.elf_loading.specs.Words.{own_size, takes_addend, takes_symbol, value_rows};
-ghost use Rattle.elf_loading.specs.Words.{value_word, word_in_memory, word_of};
+ghost use Rattle.elf_loading.specs.Words.{binds_lazily, formula_when, has_zeros, in_place_when};
+ghost use Rattle.elf_loading.specs.Words.{is_lazy, needs_symbol, own_size, takes_addend};
+ghost use Rattle.elf_loading.specs.Words.{takes_symbol, value_rows, value_word};
+ghost use Rattle.elf_loading.specs.Words.{word_in_memory, word_of};
 ghost use Rattle.elf_loading.specs.WordsLeft.{AreWordsOf, HasWordOf, IsSame, own_relocations};
 ghost use Rattle.elf_loading.specs.WordsLeft.{relocation_of, relocations_left, words_file};
-ghost use Rattle.elf_loading.specs.WordsLeft.{words_index, words_lazy, words_objects, words_own};
+ghost use Rattle.elf_loading.specs.WordsLeft.{words_index, words_lazy, words_objects};
 
 use crate::LoadError;
 use crate::in_order::{InOrder, Relocation};
 use crate::loads::Loads;
 use crate::relocate::relative_word;
-use crate::slots::{is_later, slot_word};
 use crate::value::{Terms, Value, bytes_of, is_elsewhere, value_of};
 use elf_base::bytes::Record;
+use elf_linking::references::types::Row;
 use elf_linking::references::{Formula, Reference, relative_of, row_of};
 use elf_linking::scope::{Bound, Scope};
 use elf_linking::view::{DT_BIND_NOW, DT_FLAGS, DT_FLAGS_1, DynamicView, LinkedSymbol, word_at};
@@ -36,9 +37,7 @@ pub enum Binding {
     /// Before the program runs.
     Now,
     /// When a function is called first, unless the file asks for `Now`: by DT_BIND_NOW, or by the
-    /// flag DF_BIND_NOW or DF_1_NOW. On 386 slots with an addend in their records get their symbols
-    /// before, and on AArch64 those of symbols with the flag STO_AARCH64_VARIANT_PCS in a file with an
-    /// entry DT_AARCH64_VARIANT_PCS.
+    /// flag DF_BIND_NOW or DF_1_NOW.
     Lazy,
 }
 
@@ -64,8 +63,7 @@ pub struct Relocated<E> {
     /// What it writes.
     ///
     /// Errors: `WordType`; `Link` with those of the word in place if it is the addend, and then of
-    /// the symbol; `NoSize`, `CopyKind` and `CallSymbol`. Of a slot that gets its symbol later: `Link`
-    /// with those of the second word at DT_PLTGOT, and then of the word in place.
+    /// the symbol; `NoSize`, `CopyKind` and `CallSymbol`.
     pub word: Result<Word, LoadError>,
 }
 
@@ -108,6 +106,13 @@ pub(crate) fn binds_lazily(view: &DynamicView<'_>, when: Binding) -> bool
     }
 }
 
+// Whether a relocation is a jump slot that gets its symbol when it is called first.
+fn is_lazy(row: &Row, lazy: bool, relocation: &Relocation) -> bool
+    ensures { result ≡ is_lazy row.now lazy relocation.now }
+{
+    lazy && relocation.slot && row.slot
+}
+
 // Whether a formula has a symbol.
 fn takes_symbol(formula: Formula) -> bool
     ensures { result ≡ takes_symbol formula }
@@ -129,14 +134,30 @@ fn takes_addend(formula: Formula) -> bool
     )
 }
 
-// Whether the word of a relocation depends on a symbol: not if its slot gets it later.
-pub(crate) fn needs_symbol(machine: u16, later: bool, relocation: &Relocation) -> bool
-    ensures { result ≡ needs_symbol machine later relocation.now }
+// The formula of a relocation. A jump slot that gets its symbol later holds the word in place, moved
+// with the file.
+fn formula_when(row: &Row, lazy: bool, relocation: &Relocation) -> Option<Formula>
+    ensures { result ≡ formula_when row.now lazy relocation.now }
 {
-    if later {
-        return false;
+    if is_lazy(row, lazy, relocation) {
+        return Some(Formula::Base);
     }
-    match row_of(machine, relocation.reference.kind).formula {
+    row.formula
+}
+
+// Whether the addend is the word in place.
+fn in_place_when(row: &Row, lazy: bool, relocation: &Relocation) -> bool
+    ensures { result ≡ in_place_when row.now lazy relocation.now }
+{
+    relocation.in_place || is_lazy(row, lazy, relocation)
+}
+
+// Whether the word of a relocation depends on a symbol.
+pub(crate) fn needs_symbol(machine: u16, lazy: bool, relocation: &Relocation) -> bool
+    ensures { result ≡ needs_symbol machine lazy relocation.now }
+{
+    let row = row_of(machine, relocation.reference.kind);
+    match formula_when(&row, lazy, relocation) {
         Some(formula) => takes_symbol(formula),
         None => false,
     }
@@ -189,7 +210,7 @@ fn is_in_zeros(file: &ElfFile<'_>, address: u64, width: u64) -> bool
 }
 
 // The word at an address in memory before relocation.
-pub(crate) fn word_in_memory(file: &ElfFile<'_>, address: u64) -> Result<u64, LinkError>
+fn word_in_memory(file: &ElfFile<'_>, address: u64) -> Result<u64, LinkError>
     ensures { result ≡ word_in_memory file.now address }
 {
     match word_at(file, address) {
@@ -199,15 +220,14 @@ pub(crate) fn word_in_memory(file: &ElfFile<'_>, address: u64) -> Result<u64, Li
     }
 }
 
-// Whether a relocation gets the symbol that another gets: it has the type and the symbol of it, is a
-// slot if it is one, and has its addend where that has it.
+// Whether a relocation gets the symbol that another gets: it has the type and the symbol of it, and
+// is a slot if it is one.
 fn asks_as(one: &Relocation, other: &Relocation) -> bool
     ensures { result ≡ asks_as one.now other.now }
 {
     one.reference.symbol == other.reference.symbol
         && one.reference.kind == other.reference.kind
         && one.slot == other.slot
-        && one.in_place == other.in_place
 }
 
 // The addend of a relocation, if the formula has one.
@@ -278,18 +298,15 @@ fn word_of<E: LinkedSymbol>(
     relocation: &Relocation,
     bound: &Result<Option<Bound<E>>, LinkError>,
 ) -> Result<Word, LoadError>
-    ensures { result ≡ word_of E.fields file.now own.now of
-        (is_later E.fields file.now own.now lazy relocation.now) relocation.now bound.now }
+    ensures { result ≡ word_of E.fields file.now own.now of lazy relocation.now bound.now }
 {
     let reference = &relocation.reference;
     let row = row_of(file.header.pt2.machine().raw(), reference.kind);
-    if is_later(file, own, lazy, relocation) {
-        return slot_word(file, own, of, row.width, reference);
-    }
-    let Some(formula) = row.formula else {
+    let Some(formula) = formula_when(&row, lazy, relocation) else {
         return Err(LoadError::WordType);
     };
-    let addend = match addend_of(file, relocation.in_place, formula, reference) {
+    let in_place = in_place_when(&row, lazy, relocation);
+    let addend = match addend_of(file, in_place, formula, reference) {
         Ok(addend) => addend,
         Err(error) => return Err(LoadError::Link(error)),
     };
@@ -343,14 +360,12 @@ impl<'s, 'a, E: LinkedSymbol> Words<'s, 'a, E> {
 
     // The symbol that a relocation gets, if its word depends on one.
     fn bound(&self, relocation: &Relocation) -> Result<Option<Bound<E>>, LinkError>
-        ensures { IsBoundIf (needs_symbol (file_machine (words_file self.now))
-            (is_later E.fields (words_file self.now) (words_own self.now) (words_lazy self.now) relocation.now)
+        ensures { IsBoundIf (needs_symbol (file_machine (words_file self.now)) (words_lazy self.now)
             relocation.now) E.fields (words_objects self.now).now (words_index self.now)
             relocation.now.reference result }
     {
         let machine = self.file.header.pt2.machine().raw();
-        let later = is_later(&self.file, self.own, self.lazy, relocation);
-        if needs_symbol(machine, later, relocation) {
+        if needs_symbol(machine, self.lazy, relocation) {
             self.scope.bind(self.of, &relocation.reference)
         } else {
             Ok(None)
@@ -407,8 +422,7 @@ impl<'s, 'a, E: LinkedSymbol> Words<'s, 'a, E> {
         relocation: Relocation,
         bound: Result<Option<Bound<E>>, LinkError>,
     ) -> Relocated<E>
-        requires { IsBoundIf (needs_symbol (file_machine (words_file self.now))
-            (is_later E.fields (words_file self.now) (words_own self.now) (words_lazy self.now) relocation)
+        requires { IsBoundIf (needs_symbol (file_machine (words_file self.now)) (words_lazy self.now)
             relocation) E.fields (words_objects self.now).now (words_index self.now)
             relocation.reference bound }
         ensures relocation { result.relocation ≡ relocation }
