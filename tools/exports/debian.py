@@ -41,7 +41,8 @@ def unfit(name: str) -> str:
         return f"{program.relative_to(ROOT)} is missing: `rt ci` builds it"
     folders = (ROOT / "crates" / crate / part for crate in [*below(crates(), name), name] for part in ("src", "specs", "proofs"))
     newest = max((file for folder in folders for file in folder.rglob("*") if file.is_file()), key=lambda file: file.stat().st_mtime)
-    if newest.stat().st_mtime <= program.stat().st_mtime:
+    # A program that `rt ci` kept from an earlier run has the time of that run, and was put here later.
+    if newest.stat().st_mtime <= program.stat().st_ctime:
         return ""
     return f"{program.relative_to(ROOT)} is older than {newest.relative_to(ROOT)}: `rt ci` builds it again"
 
