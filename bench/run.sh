@@ -18,7 +18,7 @@ while [ $# -gt 0 ]; do
         --paste) paste=1 ;;
         --programs) programs="$(realpath "$2")"; shift ;;
         --growth) growth=growth ;;
-        --bindings) bindings=elf_c ;;
+        --bindings) bindings="elf_search elf_debug elf_c" ;;
         *) sed -n '2,5s/^# \{0,1\}//p' "$0" >&2; exit 2 ;;
     esac
     shift

@@ -4,7 +4,7 @@
     tools/compare/fuzz_bindings.py [--elfbind PATH] [--elfsym PATH] [--seed N] [--count N]
 
 docs/TESTS.md ("With changed bytes") says what is changed at random from the seed, and what isn't compared: bindings of N copies of a
-program or of one of its libraries, as far as the linker gets, and names in N copies of a library.
+program or of one of its libraries of each class, as far as the linker gets, and names in N copies of a library.
 """
 import random
 import struct
@@ -22,8 +22,9 @@ from loading import agrees, asked
 
 DATA = ROOT / "crates"
 SCOPE = ("caller", "libfirst.so", "libsecond.so")
+KEPT = {True: SCOPE, False: ("caller_32", "libfirst_32.so", "libsecond_32.so")}
 FIRST = DATA / "elfbind/data/libfirst.so"
-LINKER = "/lib64/ld-linux-x86-64.so.2"
+LINKERS = {True: "/lib64/ld-linux-x86-64.so.2", False: "/lib/ld-linux.so.2"}
 
 # What is compiled of tools/compare/sources, as for `worked_files::linked::versions`, whose pages are too small for a linker: a library,
 # and one that it needs.
@@ -36,26 +37,32 @@ VERSYM, VERDEF, VERDEFNUM, VERNEED, VERNEEDNUM = 0x6FFFFFF0, 0x6FFFFFFC, 0x6FFFF
 # A tag that the linker doesn't read.
 UNREAD = 0x6FFFFEF0
 
+# The size of a symbol, the form of its fields, which of them are the name, the information, the visibility, the section index and the
+# value, and where the last four are: in class 64, and in class 32.
+Symbols = namedtuple("Symbols", "size form order info other section value")
+SYMBOLS = {True: Symbols(24, "IBBHQ", (0, 1, 2, 3, 4), 4, 5, 6, 8), False: Symbols(16, "IIIBBH", (0, 3, 4, 5, 1), 12, 13, 14, 4)}
+
 # A number at a place of a file, its size in bytes, and what it becomes.
 Change = namedtuple("Change", "what place size number")
 
 
 class Object(Headers):
-    """The dynamic parts of a little-endian file of class 64, by their places."""
+    """The dynamic parts of a little-endian file of either class, by their places."""
 
     def __init__(self, content: bytes) -> None:
         super().__init__(content)
+        self.width, self.of_symbol = 8 if self.layout.wide else 4, SYMBOLS[self.layout.wide]
         self.loads = [it for it in self.program_headers() if it.type == LOAD]
         entries = self.dynamic()
         end = next((index for index, (_, tag, _) in enumerate(entries) if tag == 0), len(entries))
         # The number of the last entry of each tag, and its place.
-        self.entries = {tag: (number, place + 8) for place, tag, number in entries[:end]}
+        self.entries = {tag: (number, place + self.width) for place, tag, number in entries[:end]}
         # GNU ld leaves room for entries behind those of a file.
         spare = [place for place, *numbers in entries[end : end + 2] if numbers == [0, 0]]
         self.spare = spare[0] if len(spare) == 2 else 0
         self.strings, self.symbols = self.offset(5), self.offset(6)
         # GNU ld puts the strings behind the symbols.
-        self.count = (self.strings - self.symbols) // 24
+        self.count = (self.strings - self.symbols) // self.of_symbol.size
 
     def fields(self, form: str, place: int) -> tuple[int, ...]:
         return struct.unpack_from("<" + form, self.content, place)
@@ -74,7 +81,8 @@ class Object(Headers):
 
     def symbol(self, index: int) -> tuple[str, int, int, int, int]:
         """The name, the information, the visibility, the section index and the value of a symbol."""
-        name, *fields = self.fields("IBBHQ", self.symbols + 24 * index)
+        read = self.fields(self.of_symbol.form, self.symbols + self.of_symbol.size * index)
+        name, *fields = (read[place] for place in self.of_symbol.order)
         return self.text(name), *fields
 
     def names_with(self, test: Callable[[int], bool]) -> set[str]:
@@ -120,14 +128,14 @@ class Object(Headers):
 def change_of_symbol(held: Object, chance: random.Random, kinds: list[int]) -> Change:
     index = chance.randrange(1, held.count)
     name, info, other, _, value = held.symbol(index)
-    place = held.symbols + 24 * index
+    of_symbol, place = held.of_symbol, held.symbols + held.of_symbol.size * index
     what = chance.choice(("type", "binding", "visibility", "section", "value"))
     at, size, number = {
-        "type": lambda: (4, 1, info // 16 * 16 + chance.choice(kinds)),
-        "binding": lambda: (4, 1, chance.choice((0, 1, 2, 3, 10, 13)) * 16 + info % 16),
-        "visibility": lambda: (5, 1, other // 4 * 4 + chance.randrange(4)),
-        "section": lambda: (6, 2, chance.choice((0, 1, 5, 0xFFF1, 0xFFF2))),
-        "value": lambda: (8, 8, chance.choice((0, value, value + 4))),
+        "type": lambda: (of_symbol.info, 1, info // 16 * 16 + chance.choice(kinds)),
+        "binding": lambda: (of_symbol.info, 1, chance.choice((0, 1, 2, 3, 10, 13)) * 16 + info % 16),
+        "visibility": lambda: (of_symbol.other, 1, other // 4 * 4 + chance.randrange(4)),
+        "section": lambda: (of_symbol.section, 2, chance.choice((0, 1, 5, 0xFFF1, 0xFFF2))),
+        "value": lambda: (of_symbol.value, held.width, chance.choice((0, value, value + 4))),
     }[what]()
     return Change(f"{what} of {name}", place + at, size, number)
 
@@ -162,7 +170,7 @@ def change_of_version(held: Object, chance: random.Random) -> Change:
 
 def change_of_list(held: Object, chance: random.Random) -> Change | None:
     """A change of the number of records of a list, of its end or its begin, or of the flags, by a further entry."""
-    counts = [Change(f"number in {tag:#x}", held.entries[tag][1], 8, chance.choice((0, 1, 9))) for tag in (VERDEFNUM, VERNEEDNUM) if tag in held.entries]
+    counts = [Change(f"number in {tag:#x}", held.entries[tag][1], held.width, chance.choice((0, 1, 9))) for tag in (VERDEFNUM, VERNEEDNUM) if tag in held.entries]
     counts += [Change("number of parts", place + 2, 2, chance.choice((0, 1, 9))) for place in held.needed_files()]
     lists = [(place + 16, held.number(place + 16)) for place, _ in held.definitions()]
     lists += [(place + 12, held.number(place + 12)) for place in (*held.needed_files(), *held.needs())]
@@ -170,8 +178,8 @@ def change_of_list(held: Object, chance: random.Random) -> Change | None:
     firsts = [(VERDEF, [place for place, _ in held.definitions()]), (VERNEED, held.needed_files())]
     later = [(tag, held.entries[tag][0] + places[1] - places[0]) for tag, places in firsts if places[1:]]
     further = [*later, (FLAGS, held.entries.get(FLAGS, (0, 0))[0] ^ SYMBOLIC)]
-    doubled = [Change(f"further entry {tag:#x}", held.spare, 16, tag | number << 64) for tag, number in further if held.spare]
-    unread = [Change(f"no entry {tag:#x}", held.entries[tag][1] - 8, 8, UNREAD) for tag in (VERDEF, VERNEED) if tag in held.entries]
+    doubled = [Change(f"further entry {tag:#x}", held.spare, 2 * held.width, tag | number << 8 * held.width) for tag, number in further if held.spare]
+    unread = [Change(f"no entry {tag:#x}", held.entries[tag][1] - held.width, held.width, UNREAD) for tag in (VERDEF, VERNEED) if tag in held.entries]
     kinds = [it for it in (counts, ends, doubled, unread) if it]
     return chance.choice(chance.choice(kinds)) if kinds else None
 
@@ -180,7 +188,7 @@ def change_of(held: Object, chance: random.Random, kinds: list[int]) -> Change:
     what = chance.random()
     if what < 0.1 and FLAGS in held.entries:
         number, place = held.entries[FLAGS]
-        return Change("flag DF_SYMBOLIC", place, 8, number ^ SYMBOLIC)
+        return Change("flag DF_SYMBOLIC", place, held.width, number ^ SYMBOLIC)
     if what < 0.3 and (found := change_of_list(held, chance)):
         return found
     return change_of_version(held, chance) if what < 0.6 and held.offset(VERSYM) else change_of_symbol(held, chance, kinds)
@@ -210,12 +218,13 @@ class Comparison(namedtuple("Comparison", "elfbind elfsym room tally")):
         """Compares the bindings of a program one of whose files was changed."""
         paths = [f"{self.room}/{name}" for name in SCOPE]
         Path(self.room, file).write_bytes(files[file])
-        program = Program(paths[0], LINKER, paths)
+        linker = LINKERS[Object(files[file]).layout.wide]
+        program = Program(paths[0], linker, paths)
         said = run([self.elfbind, *paths])
         if said.errors:
             self.tally["errors of elfbind"] += 1
             return
-        linked = run([LINKER, paths[0]], **BINDINGS, LD_LIBRARY_PATH=self.room)
+        linked = run([linker, paths[0]], **BINDINGS, LD_LIBRARY_PATH=self.room)
         own, reads = read_elfbind(program, said), read_linker(program, linked)
         whole = linked.status == 0
         self.tally["bindings until the linker ended early"] += 0 if whole else sum(map(len, reads.bound.values()))
@@ -261,8 +270,9 @@ class Comparison(namedtuple("Comparison", "elfbind elfsym room tally")):
                     self.tally.fault(f"{path.name}: {asked_for}: elfsym says {line!r}, {call} {other}: {changes}")
 
 
-def compare_bindings(comparison: Comparison, chance: random.Random, count: int) -> None:
-    sources = {name: (DATA / "elfbind/data" / name).read_bytes() for name in SCOPE}
+def compare_bindings(comparison: Comparison, chance: random.Random, count: int, wide: bool) -> None:
+    """Compares bindings of changed copies of the program of a class and its libraries, which have the names of those of class 64."""
+    sources = {name: (DATA / "elfbind/data" / kept).read_bytes() for name, kept in zip(SCOPE, KEPT[wide])}
     for name, content in sources.items():
         place = Path(comparison.room, name)
         place.write_bytes(content)
@@ -294,6 +304,10 @@ if __name__ == "__main__":
     tally = Tally("", "copies", "results compared")
     with tempfile.TemporaryDirectory() as room:
         comparison = Comparison(given.elfbind, given.elfsym, room, tally)
-        compare_bindings(comparison, random.Random(given.seed), given.count)
+        for wide in (True, False):
+            if Path(LINKERS[wide]).exists():
+                compare_bindings(comparison, random.Random(given.seed), given.count, wide)
+            else:
+                print(f"{LINKERS[wide]} is not here: nothing of its class is compared")
         compare_symbols(comparison, random.Random(given.seed), given.count)
     sys.exit(tally.ended())

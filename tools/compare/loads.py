@@ -245,6 +245,8 @@ def compare(path: str, room: str, tally: Plans) -> None:
         compare_start(process, path, room, tally)
     finally:
         process.end()
+        # A later process may have the same number.
+        Path(f"{room}/said.{process.pid}").unlink(missing_ok=True)
 
 
 # Fields of the ELF header and of a program header: their offset and size.

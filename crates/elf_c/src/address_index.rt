@@ -159,7 +159,7 @@ fn build<E: Entry + Record>(
             open_count: 0,
         });
     }
-    SymbolIndex::build(symbols, within, words, numbers)?;
+    SymbolIndex::build_sized(symbols, within, size, words, numbers)?;
     Ok(Sizes {
         words: count as u64,
         numbers: size.numbers() as u64,

@@ -17,7 +17,9 @@ pub mod EntryItems
 pub mod LastNumbers
 pub mod NeededItems
 pub mod NeededTexts
+pub mod Filtered
 pub mod ReferenceItems
+pub mod UnresolvedItems
 pub mod ViewTables
 pub mod SymbolCounts
 pub mod SymbolsInPlace

@@ -7,24 +7,19 @@ use Rattle.elf_base.proofs.lemmas.RecordLemmas.{length-records}
 use Rattle.elf_linking.specs.References.{names_symbol}
 use Rattle.elf_linking.specs.RelocationRecords.{references_by}
 use Rattle.elf_linking.specs.declared.references.Reference.{Reference}
+use Rattle.elf_linking.proofs.Filtered.{kept_first, kept_none, kept_other}
 
 -- the first of the relocations, which names a symbol or doesn't
 pub named_none : (machine : ℕ) (relocations : List Reference) → relocations ≡ [] → filter (names_symbol machine) relocations ≡ []
-named_none machine relocations is = ap (filter (names_symbol machine)) is
+named_none machine = kept_none names_symbol machine
 
 pub named_first : (machine after : ℕ) (relocations others : List Reference) (relocation : Reference) → after ≡ machine → relocations ≡ relocation ∷ others → names_symbol machine relocation ≡ true
     → filter (names_symbol machine) relocations ≡ relocation ∷ filter (names_symbol after) others
-named_first machine after relocations others relocation same is named =
-    ap (filter (names_symbol machine)) is
-    ∙ ap (λ b. if b then relocation ∷ filter (names_symbol machine) others else filter (names_symbol machine) others) named
-    ∙ ap (λ m. relocation ∷ filter (names_symbol m) others) (sym same)
+named_first machine = kept_first names_symbol machine
 
 pub named_other : (machine after : ℕ) (relocations others : List Reference) (relocation : Reference) → after ≡ machine → relocations ≡ relocation ∷ others → names_symbol machine relocation ≡ false
     → filter (names_symbol machine) relocations ≡ filter (names_symbol after) others
-named_other machine after relocations others relocation same is none =
-    ap (filter (names_symbol machine)) is
-    ∙ ap (λ b. if b then relocation ∷ filter (names_symbol machine) others else filter (names_symbol machine) others) none
-    ∙ ap (λ m. filter (names_symbol m) others) (sym same)
+named_other machine = kept_other names_symbol machine
 
 -- the first relocation of a table and of those after it, and those after a table without any
 pub begins : (table others later : List Reference) (relocation : Reference) → table ≡ relocation ∷ others → table ++ later ≡ relocation ∷ (others ++ later)

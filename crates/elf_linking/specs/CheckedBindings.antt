@@ -1,11 +1,12 @@
 -- The references of all objects of a scope of files whose checks passed, and what each gets (gABI, "Relocation" and
 -- "Dynamic Section"). They come in the order of the scope; this order is the project's own.
-use Rattle.std.specs.Prelude.{ℕ, ◌+◌, List, [], ◌∷◌, ◌++◌, drop, map, Option, None, Some, Result, Ok, Err}
+use Rattle.std.specs.Prelude.{ℕ, ◌+◌, ◌/◌, ◌==◌, not, Bool, true, false, List, [], ◌∷◌, ◌++◌, drop, filter, map, slice_get, Option, None, Some, option_map, Result, Ok, Err}
 use Rattle.elf_linking.specs.Bindings.{current_left}
 use Rattle.elf_linking.specs.CheckedScope.{bound_fields, bound_in}
 use Rattle.elf_linking.specs.Exports.{ObjectParts}
 use Rattle.elf_linking.specs.declared.checked.bindings.CheckedBinding.{CheckedBinding}
 use Rattle.elf_linking.specs.declared.checked.bindings.CheckedBindings.{CheckedBindings}
+use Rattle.elf_linking.specs.declared.checked.unresolved.Unresolved.{Unresolved}
 use Rattle.elf_linking.specs.declared.references.Reference.{Reference}
 use Rattle.elf_linking.specs.declared.scope.Bound.{Bound}
 use Rattle.xmas_elf.specs.Symbol.{SymbolFields}
@@ -40,3 +41,29 @@ checked_objects iter = iter.scope
 abbrev pub checked_left : {E : Type 0} → CheckedBindings E → List (ℕ × Option (Reference × Option (Bound SymbolFields)))
 checked_left iter = let objects = checked_objects iter in
     bindings_at objects iter.from (Some (current_left iter.references)) ++ bindings_from objects iter.next (drop iter.next objects)
+
+-- Those that get no symbol.
+
+-- a symbol is weak (gABI, "Symbol Table": STB_WEAK, 2), if there is one
+abbrev pub is_weak : Option SymbolFields → Bool
+is_weak None = false
+is_weak (Some fields) = fields.info / 16 == 2
+
+-- the symbol at an index of an object is weak, if there are both
+abbrev pub is_weak_in : Option ObjectParts → ℕ → Bool
+is_weak_in None index = false
+is_weak_in (Some object) index = is_weak (option_map (λ symbol. symbol.fields) (slice_get object.symbols index))
+
+-- a reference gets no symbol and isn't weak; or the relocations of the object can't be read
+abbrev pub is_unresolved : List ObjectParts → ℕ × Option (Reference × Option (Bound SymbolFields)) → Bool
+is_unresolved objects (from, None) = true
+is_unresolved objects (from, Some (reference, Some bound)) = false
+is_unresolved objects (from, Some (reference, None)) = not (is_weak_in (slice_get objects from) reference.symbol)
+
+-- the references of a scope that get no symbol and aren't weak, in its order
+abbrev pub all_unresolved : List ObjectParts → List (ℕ × Option (Reference × Option (Bound SymbolFields)))
+all_unresolved objects = filter (is_unresolved objects) (all_bindings objects)
+
+-- those that an iterator has not yet returned
+abbrev pub unresolved_left : {E : Type 0} → Unresolved E → List (ℕ × Option (Reference × Option (Bound SymbolFields)))
+unresolved_left iter = filter (is_unresolved (checked_objects iter.bindings)) (checked_left iter.bindings)

@@ -79,23 +79,35 @@ pub record Tables : Type 0 where
   pub rel : List Reference
   pub plt : List Reference
 
--- those of the three tables, or the first error
-unfoldable pub relocation_tables : ElfFile → List (Dynamic ℕ) → Result Tables LinkError
-relocation_tables file entries =
+-- those of the three tables, or of two without that of DT_REL; or the first error
+unfoldable pub tables_with : Bool → ElfFile → List (Dynamic ℕ) → Result Tables LinkError
+tables_with with_rel file entries =
     and_then (table_relocations file (table_by entries DT_RELA DT_RELASZ) (Some DT_RELA)) (λ rela.
-    and_then (table_relocations file (table_by entries DT_REL DT_RELSZ) (Some DT_REL)) (λ rel.
+    and_then (if with_rel then table_relocations file (table_by entries DT_REL DT_RELSZ) (Some DT_REL) else Ok []) (λ rel.
     and_then (table_relocations file (table_by entries DT_JMPREL DT_PLTRELSZ) (number_with DT_PLTREL entries)) (λ plt.
     Ok (record { rela = rela; rel = rel; plt = plt }))))
 
--- the same, one table after the other
-unfoldable pub relocations_of : ElfFile → List (Dynamic ℕ) → Result (List Reference) LinkError
-relocations_of file entries =
-    and_then (relocation_tables file entries) (λ tables. Ok (tables.rela ++ (tables.rel ++ tables.plt)))
+-- those of the three tables
+unfoldable pub relocation_tables : ElfFile → List (Dynamic ℕ) → Result Tables LinkError
+relocation_tables file entries = tables_with true file entries
 
--- those that name a symbol
+-- the machines x86-64 (62) and AArch64 (183) have records with addends alone (their psABIs), and glibc doesn't read the
+-- table of DT_REL there
+abbrev pub takes_rel : ℕ → Bool
+takes_rel machine = not (machine == 62 || machine == 183)
+
+-- the relocations of some tables, one table after the other
+abbrev pub in_tables : Result Tables LinkError → Result (List Reference) LinkError
+in_tables answer = and_then answer (λ tables. Ok (tables.rela ++ (tables.rel ++ tables.plt)))
+
+-- those of the three tables
+unfoldable pub relocations_of : ElfFile → List (Dynamic ℕ) → Result (List Reference) LinkError
+relocations_of file entries = in_tables (relocation_tables file entries)
+
+-- those that name a symbol, of the tables that the machine has
 unfoldable pub references_of : ElfFile → List (Dynamic ℕ) → Result (List Reference) LinkError
-references_of file entries =
-    and_then (relocations_of file entries) (λ all. Ok (filter (names_symbol (file_machine file)) all))
+references_of file entries = let machine = file_machine file in
+    and_then (in_tables (tables_with (takes_rel machine) file entries)) (λ all. Ok (filter (names_symbol machine) all))
 
 -- the relocations that an iterator over one table has not yet read
 abbrev pub relocations_left : Relocations → List Reference

@@ -1,8 +1,8 @@
 -- The relocation types that a dynamic linker applies: the rows are constants of the code (the processor supplements of the
 -- System V ABI, tables of relocation types; which of them take an addend, and which want a defined symbol, as glibc 2.36
 -- has it).
-use Rattle.std.specs.Prelude.{ℕ, ◌==◌, ◌&&◌, not, Bool, true, false, List, [], ◌∷◌, Option, None, Some, unwrap_or, if◌then◌else◌}
-use Rattle.std.specs.List.{find, list_any}
+use Rattle.std.specs.Prelude.{ℕ, ◌==◌, Bool, true, false, List, [], Option, None, Some, unwrap_or, if◌then◌else◌}
+use Rattle.std.specs.List.{find}
 use Rattle.elf_linking.specs.declared.find.Use.TheVariants.{Any}
 use Rattle.elf_linking.specs.declared.references.types.Formula.{Formula}
 use Rattle.elf_linking.specs.declared.references.types.Formula.TheVariants.{Base}
@@ -12,11 +12,6 @@ use Rattle.elf_linking.specs.declared.references.types.TheConstants.{AARCH64, I3
 -- the types of a machine (e_machine): x86-64 (62), 386 (3) or AArch64 (183)
 abbrev pub rows_of : ℕ → List Row
 rows_of machine = if machine == 62 then X86_64 else (if machine == 3 then I386 else (if machine == 183 then AARCH64 else []))
-
--- no number is in two rows
-abbrev pub has_no_other : List Row → Bool
-has_no_other [] = true
-has_no_other (row ∷ rows) = not (list_any (λ (other : Row). other.kind == row.kind) rows) && has_no_other rows
 
 -- the row of a type in a file for a machine; without one it has no formula, and may name any symbol
 abbrev pub row_of : ℕ → ℕ → Row

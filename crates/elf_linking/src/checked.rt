@@ -1,13 +1,15 @@
 //! Files whose checks passed: their look-ups return no error (gABI, "Hash Table"; LSB, "Symbol
 //! Versioning").
 
-ghost use Rattle.std.specs.Prelude.{◌≡◌, IfOk, option_map};
+ghost use Rattle.std.specs.Prelude.{◌≡◌, IfOk, option_map, slice_get};
 
 mod bindings;
 mod scope;
+mod unresolved;
 
 pub use crate::checked::bindings::{CheckedBinding, CheckedBindings};
 pub use crate::checked::scope::CheckedScope;
+pub use crate::checked::unresolved::Unresolved;
 use crate::find::{Use, Wanted};
 use crate::gnu_hash::gnu_hash;
 use crate::references::{Reference, References};
@@ -80,6 +82,14 @@ impl<'a, E: LinkedSymbol> CheckedObject<'a, E> {
         ensures { result ≡ self.now.symbolic }
     {
         self.object.is_symbolic()
+    }
+
+    /// The symbol at an index; `None` if there are not so many symbols.
+    pub fn symbol(&self, index: u32) -> Option<E>
+        ensures { option_map E.fields result
+            ≡ option_map (λ symbol. symbol.fields) (slice_get self.now.symbols index) }
+    {
+        self.object.symbol(index)
     }
 
     /// An iterator over the relocations of the file that name a symbol; `None` if they can't be read:

@@ -21,7 +21,9 @@ pub mod versions;
 pub mod view;
 
 pub use crate::any_table::AnyTable;
-pub use crate::checked::{CheckedBinding, CheckedBindings, CheckedObject, CheckedScope};
+pub use crate::checked::{
+    CheckedBinding, CheckedBindings, CheckedObject, CheckedScope, Unresolved,
+};
 pub use crate::error::LinkError;
 pub use crate::object::DynamicObject;
 pub use crate::segments::{Segment, Segments};

@@ -8,6 +8,7 @@ ghost use Rattle.elf_linking.specs.Relr.{relr_rest};
 ghost use Rattle.elf_linking.specs.References.{all_left, each_left, names_symbol, references_left};
 ghost use Rattle.elf_linking.specs.References.{references_of, relocation_tables, relocations_left};
 ghost use Rattle.elf_linking.specs.References.{relocations_of, table_left, tables_left};
+ghost use Rattle.elf_linking.specs.References.{in_tables, tables_with, takes_rel};
 
 mod names;
 mod rows;
@@ -20,6 +21,7 @@ pub use crate::references::rows::{formula_of, relative_of, row_of, use_of, width
 pub use crate::references::tables::Relocates;
 use crate::references::tables::Relocations;
 pub use crate::references::types::Formula;
+use crate::references::types::{EM_AARCH64, EM_X86_64};
 use crate::relr::Relr;
 use crate::view::{
     DT_JMPREL, DT_PLTREL, DT_PLTRELSZ, DT_REL, DT_RELA, DT_RELASZ, DT_RELR, DT_RELRSZ, DT_RELSZ,
@@ -69,7 +71,7 @@ pub struct RelocationTables<'a> {
 }
 
 /// An iterator over the relocations of a file that name a symbol, in the order of
-/// `AllRelocations`.
+/// `AllRelocations`; in a file for x86-64 or AArch64 without those of Rel.
 ///
 /// A record names no symbol if its symbol index is 0, or if its type is `NONE` or `RELATIVE` of
 /// x86-64, 386 or AArch64, whatever the index is. It is passed over, so that a call of `next` takes
@@ -93,23 +95,23 @@ impl<'a> DynamicView<'a> {
     /// JmpRel, no entry PltRel; `RelocationKind` if the number in the entry PltRel is not that of Rel
     /// or Rela; those of `bytes_at`; `UnknownClass` if the class of the file is neither 1 nor 2;
     /// `Elf` with `NotMultiple` if the bytes are not a whole number of records.
-    #[tactic(auto, unfolding(crate::specs::References::relocations_of), using(crate::proofs::ReferenceItems::relocations_fit))]
+    #[tactic(auto, unfolding(crate::specs::References::relocations_of, crate::specs::References::relocation_tables))]
     pub fn relocations(&self, file: &ElfFile<'a>) -> Result<AllRelocations<'a>, LinkError>
         ensures exact { let answer = relocations_of file.now (view_entries self.now) in
             MatchResult result (λ all. answer ≡ Ok (all_left all)) (λ error. answer ≡ Err error) }
         ensures fits { IfOk result (λ all. length (all_left all) < 2 ^ 64) }
     {
-        let all = self.read_tables(file)?;
-        Ok(all)
+        self.all_of(true, file)
     }
 
     /// The relocations of each table. Those of Rela, of Rel and of JmpRel, one after the other, are those
     /// of `relocations`, which has the same errors.
+    #[tactic(auto, unfolding(crate::specs::References::relocation_tables))]
     pub fn relocation_tables(&self, file: &ElfFile<'a>) -> Result<RelocationTables<'a>, LinkError>
         ensures exact { let answer = relocation_tables file.now (view_entries self.now) in
             MatchResult result (λ tables. answer ≡ Ok (each_left tables)) (λ error. answer ≡ Err error) }
     {
-        let all = self.read_tables(file)?;
+        let all = self.read_tables(true, file)?;
         Ok(RelocationTables {
             rela: TableRelocations { rest: all.rela },
             rel: TableRelocations { rest: all.rel },
@@ -117,10 +119,25 @@ impl<'a> DynamicView<'a> {
         })
     }
 
-    // The relocations of the three tables.
-    #[tactic(auto, unfolding(crate::specs::References::relocation_tables))]
-    fn read_tables(&self, file: &ElfFile<'a>) -> Result<AllRelocations<'a>, LinkError>
-        ensures exact { let answer = relocation_tables file.now (view_entries self.now) in
+    // The same, one table after the other.
+    #[tactic(auto, using(crate::proofs::ReferenceItems::relocations_fit))]
+    fn all_of(&self, with_rel: bool, file: &ElfFile<'a>) -> Result<AllRelocations<'a>, LinkError>
+        ensures exact { let answer = in_tables (tables_with with_rel file.now (view_entries self.now)) in
+            MatchResult result (λ all. answer ≡ Ok (all_left all)) (λ error. answer ≡ Err error) }
+        ensures fits { IfOk result (λ all. length (all_left all) < 2 ^ 64) }
+    {
+        let all = self.read_tables(with_rel, file)?;
+        Ok(all)
+    }
+
+    // The relocations of the three tables, or without those of DT_REL.
+    #[tactic(auto, unfolding(crate::specs::References::tables_with))]
+    fn read_tables(
+        &self,
+        with_rel: bool,
+        file: &ElfFile<'a>,
+    ) -> Result<AllRelocations<'a>, LinkError>
+        ensures exact { let answer = tables_with with_rel file.now (view_entries self.now) in
             MatchResult result (λ all. answer ≡ Ok (tables_left all)) (λ error. answer ≡ Err error) }
         ensures rela { IfOk result (λ all. length (relocations_left all.rela) < 2 ^ 61) }
         ensures rel { IfOk result (λ all. length (relocations_left all.rel) < 2 ^ 61) }
@@ -128,17 +145,22 @@ impl<'a> DynamicView<'a> {
     {
         let rela = self.table_by(DT_RELA, DT_RELASZ);
         let rela = Relocations::read(file, &rela, Some(DT_RELA))?;
-        let rel = self.table_by(DT_REL, DT_RELSZ);
-        let rel = Relocations::read(file, &rel, Some(DT_REL))?;
+        let rel = if with_rel {
+            let table = self.table_by(DT_REL, DT_RELSZ);
+            Relocations::read(file, &table, Some(DT_REL))?
+        } else {
+            Relocations::Absent
+        };
         let plt = self.table_by(DT_JMPREL, DT_PLTRELSZ);
         let plt = Relocations::read(file, &plt, self.entry(DT_PLTREL))?;
         Ok(AllRelocations { rela, rel, plt })
     }
 
     /// An iterator over the relocations of the file that name a symbol: those of `relocations` with
-    /// another symbol index than 0 and a type that takes a symbol.
+    /// another symbol index than 0 and a type that takes a symbol. In a file for x86-64 or AArch64,
+    /// whose records all have addends, the table Rel is not read, as in glibc.
     ///
-    /// The errors are those of `relocations`.
+    /// The errors are those of `relocations`, of the tables that are read.
     #[tactic(auto, unfolding(crate::specs::References::references_of), using(crate::proofs::ReferenceItems::references_fit))]
     pub fn references(&self, file: &ElfFile<'a>) -> Result<References<'a>, LinkError>
         ensures exact { let answer = references_of file.now (view_entries self.now) in
@@ -146,8 +168,8 @@ impl<'a> DynamicView<'a> {
             (λ error. answer ≡ Err error) }
         ensures fits { IfOk result (λ references. length (references_left references) < 2 ^ 64) }
     {
-        let all = self.relocations(file)?;
         let machine = file.header.pt2.machine().raw();
+        let all = self.all_of(takes_rel(machine), file)?;
         Ok(References { all, machine })
     }
 
@@ -224,6 +246,13 @@ impl Iterator for References<'_> {
             }
         }
     }
+}
+
+// Whether files for a machine can have relocations without addends.
+fn takes_rel(machine: u16) -> bool
+    ensures { result ≡ takes_rel machine }
+{
+    !matches!(machine, EM_X86_64 | EM_AARCH64)
 }
 
 // Whether a relocation in a file for a machine names a symbol.

@@ -1,5 +1,5 @@
 -- The words of an image by the lists of its object, and the bytes that they leave.
-use Rattle.std.proofs.Common.{◌≡◌, ℕ, ◌+◌, ◌-◌, ◌<◌, ◌≤◌, ◌||◌, Bool, true, false, List, [], ◌∷◌, length, map, slice_index, slice_get, Option, None, Some, Result, Ok, Err, if◌then◌else◌, refl, sym, ap, ◌∙◌, subst}
+use Rattle.std.proofs.Common.{◌≡◌, ℕ, ◌+◌, ◌-◌, ◌<◌, ◌≤◌, Bool, true, false, List, [], ◌∷◌, length, map, slice_index, slice_get, Option, None, Some, Result, Ok, Err, if◌then◌else◌, refl, sym, ap, ◌∙◌, subst}
 use Rattle.std.proofs.lemmas.Bool.{le-leb, leb-true}
 use Rattle.std.proofs.lemmas.List.Elements.{All-head, All-tail}
 use Rattle.std.proofs.lemmas.Option.{slice_get-map}
@@ -54,10 +54,6 @@ module _ {E : Type 0} (fields : E → SymbolFields) (terms : Terms) where
 
   word_by_fields : (bound : Option (Bound E)) (formula : Formula) → value_word fields terms bound formula ≡ value_word (λ symbol. symbol) terms (bound_fields fields bound) formula
   word_by_fields bound formula = ap word_with (same_value bound formula)
-
-or_false : (one : Bool) → (one || false) ≡ one
-or_false true = refl
-or_false false = refl
 
 module _ {E : Type 0} {r : _} (fields : E → SymbolFields) (objects : List (DynamicObject E r)) (plans : List LoadPlan) (index : ℕ) (own : DynamicObject E r) (plan : LoadPlan) where
   abbrev parts : ImageParts
@@ -139,8 +135,7 @@ module _ {E : Type 0} {r : _} (fields : E → SymbolFields) (objects : List (Dyn
     pub item_word : (item : Relocated E) (word : Word) → Worded item → item.word ≡ Ok word → word_for parts (with_addend own item.relocation) ≡ Some word
     item_word item word (bound, word_is) known =
         let formula = (row_of (file_machine (object_file own)) item.relocation.reference.kind).formula in
-        word_by_formula item.relocation word formula item.bound bound
-        (ap (λ b. formula_word fields (object_file own) own index b item.relocation.reference item.bound formula) (sym (or_false item.relocation.in_place)) ∙ sym word_is ∙ known)
+        word_by_formula item.relocation word formula item.bound bound (sym word_is ∙ known)
 
     words_by : (items : List (Relocated E)) (words : List Word) → All Worded items → item_words items ≡ map (λ word. Ok word) words
         → filter_map (word_for parts) (map (with_addend own) (map relocation_of items)) ≡ words

@@ -178,9 +178,9 @@ module _ {E : Type 0} {r : _} (fields : E → SymbolFields) (objects : Bor (List
         by_parts formula (Ok addend) (Ok symbol) is = refl
 
         by_formula : (formula : Option Formula) (found : Result (Option (Bound E)) LinkError)
-            → formula_word fields (object_file own) own index (item.relocation.in_place || false) item.relocation.reference found formula ≡ Ok word → IsOk found
+            → formula_word fields (object_file own) own index item.relocation.in_place item.relocation.reference found formula ≡ Ok word → IsOk found
         by_formula None found is = absurd (cc)
-        by_formula (Some formula) found is = by_parts formula (addend_of (object_file own) (item.relocation.in_place || false) formula item.relocation.reference) found is
+        by_formula (Some formula) found is = by_parts formula (addend_of (object_file own) item.relocation.in_place formula item.relocation.reference) found is
 
     missing_is : (item : Relocated E) (word : Word) → Worded item → item.word ≡ Ok word → is_unresolved fields own false item ≡ is_missing lists (with_addend own item.relocation)
     missing_is item word has known =

@@ -1,12 +1,13 @@
 -- The words of a relocation have the bytes of those that were checked.
-use Rattle.std.proofs.Common.{◌≡◌, ℕ, zero, suc, ◌+◌, ◌<◌, ◌≤◌, ◌&&◌, ◌||◌, ◌⊎◌, Bool, true, false, List, [], ◌∷◌, map, slice_get, Option, Some, Result, Ok, Err, if◌then◌else◌, inl, inr, cond, refl, sym, ap, ◌∙◌, subst, arith}
+use Rattle.std.proofs.Common.{◌≡◌, ℕ, zero, suc, ◌+◌, ◌<◌, ◌≤◌, ◌&&◌, not, ◌⊎◌, Bool, true, false, List, [], ◌∷◌, map, slice_get, Option, Some, Result, Ok, Err, if◌then◌else◌, inl, inr, cond, refl, sym, ap, ◌∙◌, subst, arith}
 use Rattle.std.specs.Prelude.{All}
 use Rattle.std.specs.List.{count_by}
 use Rattle.std.proofs.lemmas.Bool.{and_parts}
 use Rattle.std.proofs.lemmas.List.Elements.{All-head, All-tail}
 use Rattle.std.proofs.lemmas.List.Sums.{sum_by-append}
 use Rattle.elf_base.specs.FirstError.{unless}
-use Rattle.elf_linking.specs.DynamicObject.{object_file}
+use Rattle.elf_linking.specs.DynamicObject.{object_file, object_view}
+use Rattle.elf_linking.specs.DynamicView.{view_entries}
 use Rattle.elf_linking.specs.References.{file_machine}
 use Rattle.elf_loading.specs.Types.{Bound, DynamicObject, Formula, LinkError, LoadError, Reference, Relocated, Relocation, Row, Segment, Terms, Word}
 use Rattle.elf_linking.proofs.lemmas.Bound.{reference_once}
@@ -14,10 +15,12 @@ use Rattle.elf_linking.specs.RelocationTypes.{row_of}
 use Rattle.elf_linking.proofs.lemmas.RelocationTypes.{row_passes}
 use Rattle.elf_loading.specs.ImageWords.{AreWordsApart, covers, item_words}
 use Rattle.elf_loading.specs.OneWord.{is_of_word, is_over}
-use Rattle.elf_loading.specs.Values.{bytes_of, value_of}
-use Rattle.elf_loading.specs.Words.{HasWord, IsBoundIf, addend_of, and_link, formula_word, is_lazy, own_size, formula_has_symbol, value_rows, value_word}
+use Rattle.elf_loading.specs.Values.{bytes_of, low, value_of}
+use Rattle.elf_loading.specs.Words.{HasWord, IsBoundIf, addend_of, and_link, formula_word, is_bound_at_once, is_later, needs_symbol, own_size, slot_number, value_rows, value_word, word_of}
 use Rattle.elf_loading.specs.WordsLeft.{relocation_of, own_relocations}
 use Rattle.elf_linking.specs.declared.references.types.Formula.TheVariants as formulas
+use Rattle.elf_loading.specs.declared.value.Origin.TheVariants.{Base}
+use Rattle.elf_loading.specs.declared.value.Value.TheVariants.{Sum}
 use Rattle.elf_loading.proofs.LoadChecks.{unless_ok}
 use Rattle.elf_loading.proofs.Marks.{covers_parts}
 use Rattle.xmas_elf.specs.Symbol.{SymbolFields}
@@ -97,18 +100,14 @@ module _ {E : Type 0} {r : _} (fields : E → SymbolFields) (objects : List (Dyn
   -- the parts of an item have the word of its relocation, whose symbol is looked for later or not
   abbrev HasParts : Bool → Relocation → Result (Option (Bound E)) LinkError → Result Word LoadError → Type 0
   HasParts later relocation bound word =
-      let machine = file_machine (object_file own) in
-      let formula = if later then Some formulas.Base else (row_of machine relocation.reference.kind).formula in
-      IsBoundIf (formula_has_symbol formula) fields objects of relocation.reference bound
-      × (word ≡ formula_word fields (object_file own) own of (relocation.in_place || later) relocation.reference bound formula)
+      IsBoundIf (needs_symbol (file_machine (object_file own)) later relocation) fields objects of relocation.reference bound
+      × (word ≡ word_of fields (object_file own) own of later relocation bound)
 
   pub word_once : (later : Bool) (relocation : Relocation) (one other : Result (Option (Bound E)) LinkError) (word word' : Result Word LoadError)
       → HasParts later relocation one word → HasParts later relocation other word' → word ≡ word'
   word_once later relocation one other word word' (is, word_is) (also, word_also) =
-      let machine = file_machine (object_file own) in
-      let formula = if later then Some formulas.Base else (row_of machine relocation.reference.kind).formula in
-      let same = bound_by (formula_has_symbol formula) relocation.reference one other is also in
-      word_is ∙ ap (λ bound. formula_word fields (object_file own) own of (relocation.in_place || later) relocation.reference bound formula) same ∙ sym word_also
+      let same = bound_by (needs_symbol (file_machine (object_file own)) later relocation) relocation.reference one other is also in
+      word_is ∙ ap (word_of fields (object_file own) own of later relocation) same ∙ sym word_also
 
   -- items of one relocation have the same word
   pub same_word : (item one : Relocated E) → item.relocation ≡ one.relocation → HasWord fields objects (object_file own) own of false item
@@ -143,6 +142,17 @@ module _ {E : Type 0} {r : _} (fields : E → SymbolFields) (objects : List (Dyn
           let (none, same) = unless_ok (value_rows fields reference.symbol symbol formula) (value_word fields (terms_of reference addend) symbol formula) word is in
           (sym (ap (λ (w : Word). w.address) same), sym (ap (λ (w : Word). w.width) same) ∙ plain (terms_of reference addend) symbol)
 
+  abbrev slot_with : Reference → ℕ → ℕ → Word
+  slot_with reference width number = record { address = reference.offset; width = width; value = Sum (Base of) (low width number) }
+
+  -- the word of a slot that gets its symbol later is where its relocation says
+  slot_extent : (reference : Reference) (width : ℕ) (said : Result ℕ LinkError) (word : Word) → and_link said (λ number. Ok (slot_with reference width number)) ≡ Ok word
+      → (word.address ≡ reference.offset) × (word.width ≡ width)
+  slot_extent reference width (Err e) word is = absurd (cc)
+  slot_extent reference width (Ok number) word is =
+      let same : slot_with reference width number ≡ word = cc in
+      (sym (ap (λ (w : Word). w.address) same), sym (ap (λ (w : Word). w.width) same))
+
   slot_formula : (m k : ℕ) → (row_of m k).slot ≡ true → ((row_of m k).formula ≡ Some formulas.SymbolAlone) ⊎ ((row_of m k).formula ≡ Some formulas.Symbol)
   slot_formula m k slot = by_slot (row_of m k).slot (row_of m k).formula (row_passes has_symbol refl refl refl m k refl) slot
     where
@@ -166,27 +176,29 @@ module _ {E : Type 0} {r : _} (fields : E → SymbolFields) (objects : List (Dyn
         → is_of_word address word ≡ true → covers address known ≡ true
     over_later relocation one other (Err e) known slot has also hit = absurd (cc)
     over_later relocation one other (Ok word) known slot (is, word_is) (is', word_is') hit =
-        let (start, size) = extent_of formulas.Base (relocation.in_place || true) relocation.reference one word (λ terms symbol. refl) (sym word_is) in
         let machine = file_machine (object_file own) in
+        let width = (row_of machine relocation.reference.kind).width in
+        let (start, size) = slot_extent relocation.reference width (slot_number (object_file own) (view_entries (object_view own)) width relocation.reference.offset) word (sym word_is) in
         let formula = (row_of machine relocation.reference.kind).formula in
-        let there : (found : Option Formula) → formula ≡ found → formula_word fields (object_file own) own of (relocation.in_place || false) relocation.reference other found ≡ Ok known
-        = λ found same. ap (formula_word fields (object_file own) own of (relocation.in_place || false) relocation.reference other) (sym same) ∙ sym word_is' in
+        let there : (found : Option Formula) → formula ≡ found → formula_word fields (object_file own) own of relocation.in_place relocation.reference other found ≡ Ok known
+        = λ found same. ap (formula_word fields (object_file own) own of relocation.in_place relocation.reference other) (sym same) ∙ sym word_is' in
         let extent : (known.address ≡ relocation.reference.offset) × (known.width ≡ (row_of machine relocation.reference.kind).width)
         = elim (slot_formula machine relocation.reference.kind slot) [
-          | inl alone ↦ extent_of formulas.SymbolAlone (relocation.in_place || false) relocation.reference other known (λ terms symbol. refl) (there (Some formulas.SymbolAlone) alone)
-          | inr symbol ↦ extent_of formulas.Symbol (relocation.in_place || false) relocation.reference other known (λ terms symbol. refl) (there (Some formulas.Symbol) symbol)
+          | inl alone ↦ extent_of formulas.SymbolAlone relocation.in_place relocation.reference other known (λ terms symbol. refl) (there (Some formulas.SymbolAlone) alone)
+          | inr symbol ↦ extent_of formulas.Symbol relocation.in_place relocation.reference other known (λ terms symbol. refl) (there (Some formulas.Symbol) symbol)
         ] in
         covers_same word known (start ∙ sym extent.0) (size ∙ sym extent.1) hit
 
     over_by : (lazy later : Bool) (relocation : Relocation) (one other : Result (Option (Bound E)) LinkError) (word : Result Word LoadError) (known : Word)
-        → is_lazy (row_of (file_machine (object_file own)) relocation.reference.kind) lazy relocation ≡ later → HasParts later relocation one word → HasParts false relocation other (Ok known)
+        → is_later fields (object_file own) own lazy relocation ≡ later → HasParts later relocation one word → HasParts false relocation other (Ok known)
         → is_of_word address word ≡ true → covers address known ≡ true
     over_by lazy false relocation one other word known is has also hit =
         let same : word ≡ Ok known = word_once false relocation one other word (Ok known) has also in
         ap (is_of_word address) (sym same) ∙ hit
     over_by lazy true relocation one other word known is has also hit =
-        let slot = (and_parts relocation.slot ((row_of (file_machine (object_file own)) relocation.reference.kind).slot)
-        (and_parts lazy (relocation.slot && (row_of (file_machine (object_file own)) relocation.reference.kind).slot) is).1).1 in
+        let jump = (row_of (file_machine (object_file own)) relocation.reference.kind).slot in
+        let rest = not (is_bound_at_once fields (object_file own) own relocation) in
+        let slot = (and_parts jump rest (and_parts relocation.slot (jump && rest) (and_parts lazy (relocation.slot && (jump && rest)) is).1).1).0 in
         over_later relocation one other word known slot has also hit
 
     over_same : (lazy : Bool) (item checked : Relocated E) (known : Word) → item.relocation ≡ checked.relocation → checked.word ≡ Ok known
@@ -196,7 +208,7 @@ module _ {E : Type 0} {r : _} (fields : E → SymbolFields) (objects : List (Dyn
         let there : HasParts false item.relocation checked.bound (Ok known) =
         subst (λ rel. HasParts false rel checked.bound (Ok known)) (sym same) (subst (HasParts false checked.relocation checked.bound) known_is also) in
         ap (is_of_word address) known_is
-        ∙ over_by lazy (is_lazy (row_of (file_machine (object_file own)) item.relocation.reference.kind) lazy item.relocation) item.relocation item.bound checked.bound item.word known refl has there hit
+        ∙ over_by lazy (is_later fields (object_file own) own lazy item.relocation) item.relocation item.bound checked.bound item.word known refl has there hit
 
     count_least : (one other : Bool) → (one ≡ true → other ≡ true) → ◌≤◌ (cond one 1 0) (cond other 1 0)
     count_least true other so = rw (so refl) (omega arith)

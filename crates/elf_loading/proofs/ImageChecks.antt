@@ -81,6 +81,17 @@ module _ {E : Type 0} {r : _} (fields : E → SymbolFields) (loads : List Segmen
     marked = clear;
   })
 
+  -- at the end
+  pub all_checked : (all now : Words E r) (marks : List ℕ) → relocations_left now ≡ [] → AreCheckedSoFar all now marks → AreWordsFrom fields loads text tables all (Ok tt)
+  all_checked all now marks end so_far = record {
+    items = so_far.items;
+    rest = relocations_left now;
+    are = so_far.are;
+    have_words = so_far.have_words;
+    all = end;
+    checked = ap (λ result. and_then result (λ words. Ok tt)) (sym so_far.checked);
+  }
+
   module _ (all now next : Words E r) (marks : List ℕ) (item : Relocated E) (so_far : AreCheckedSoFar all now marks)
       (first : relocations_left now ≡ relocation_of item ∷ relocations_left next) (same : IsSame now next)
       (has : HasWordOf fields now item) where
@@ -100,8 +111,8 @@ module _ {E : Type 0} {r : _} (fields : E → SymbolFields) (loads : List Segmen
         ∙ checked_after loads text tables [] (item_words so_far.items) item.word
         ∙ ap (λ result. and_then result (λ after. check_word loads text tables after item.word)) so_far.checked
 
-    pub one_checked : (new : List ℕ) (word : Word) (after : List Word) → item.word ≡ Ok word → check_word loads text tables so_far.before (Ok word) ≡ Ok after → AreMarksOf start after new → AreCheckedSoFar all next new
-    one_checked new word after is ok marked =
+    pub one_checked : (new : List ℕ) (after : List Word) → check_word loads text tables so_far.before item.word ≡ Ok after → AreMarksOf start after new → AreCheckedSoFar all next new
+    one_checked new after ok marked =
         let (one, two, three, four, five) = so_far.same in
         let (one', two', three', four', five') = same in record {
           items = so_far.items ++ (item ∷ []);
@@ -109,18 +120,18 @@ module _ {E : Type 0} {r : _} (fields : E → SymbolFields) (loads : List Segmen
           same = (one' ∙ one, two' ∙ two, three' ∙ three, four' ∙ four, five' ∙ five);
           have_words = have_more;
           before = after;
-          checked = checked_more ∙ ap (check_word loads text tables so_far.before) is ∙ ok;
+          checked = checked_more ∙ ok;
           marked = marked;
         }
 
-    pub one_stops : (word : Result Word LoadError) (error : LoadError) → item.word ≡ word → check_word loads text tables so_far.before word ≡ Err error → AreWordsFrom fields loads text tables all (Err error)
-    one_stops word error is err = record {
+    pub one_stops : (error : LoadError) → check_word loads text tables so_far.before item.word ≡ Err error → AreWordsFrom fields loads text tables all (Err error)
+    one_stops error err = record {
       items = so_far.items ++ (item ∷ []);
       rest = relocations_left next;
       are = are_more;
       have_words = have_more;
       all = tt;
-      checked = ap (λ result. and_then result (λ words. Ok tt)) (sym (checked_more ∙ ap (check_word loads text tables so_far.before) is ∙ err));
+      checked = ap (λ result. and_then result (λ words. Ok tt)) (sym (checked_more ∙ err));
     }
 
 -- The relocations of an object whose tables can be used.

@@ -1,16 +1,19 @@
 -- The load that has a word, and the span of a plan, which has all loads.
-use Rattle.std.proofs.Common.{◌≡◌, ℕ, zero, suc, ◌+◌, ◌-◌, ◌*◌, ◌<◌, ◌≤◌, Bool, true, false, List, [], ◌∷◌, length, slice_index_or, Some, None, if◌then◌else◌, refl, ap, ◌∙◌, subst, arith}
-use Rattle.std.proofs.lemmas.Bool.{and_parts, leb-true}
-use Rattle.std.proofs.lemmas.Option.{same_Some}
-use Rattle.std.specs.Prelude.{nat_le}
-use Rattle.std.specs.List.{Contains, find}
-use Rattle.elf_loading.specs.Types.{Segment, Word}
-use Rattle.elf_loading.specs.ImageWords.{holds_word}
+use Rattle.std.proofs.Common.{◌≡◌, ℕ, zero, suc, ◌+◌, ◌-◌, ◌*◌, ◌<◌, ◌≤◌, not, Bool, true, false, List, [], ◌∷◌, length, slice_index_or, Option, Some, None, if◌then◌else◌, min, max, refl, sym, ap, ◌∙◌, subst, arith}
+use Rattle.std.proofs.lemmas.Bool.{and_parts, and_right, le-ltb, leb-true, lt-leb, ltb-false, not-true, or_parts}
+use Rattle.std.proofs.lemmas.List.Folds.{find_at}
+use Rattle.std.proofs.lemmas.Option.{get_or_from_slice_get, same_Some, slice_get_within}
+use Rattle.std.specs.Prelude.{IfSome, nat_le, option_map, slice_get}
+use Rattle.std.specs.List.{Contains, find, list_any, position_or_len}
+use Rattle.elf_loading.specs.Types.{Segment, TableLocation, Word}
+use Rattle.elf_loading.specs.ImageWords.{IsKnown, holds_word, is_held, touch_one, touches, touches_at}
 use Rattle.elf_loading.specs.LoadCheck.{load_end, load_start}
 use Rattle.elf_loading.specs.Plan.{plan_file, plan_loads, plan_size, plan_span}
+use Rattle.elf_loading.specs.declared.image_words.Holder.{Holder}
 use Rattle.elf_loading.specs.declared.plan.LoadPlan.{LoadPlan}
 use Rattle.elf_loading.proofs.FileChecks.{passes_apart}
 use Rattle.elf_loading.proofs.Filled.{AreBetween, all_between, first_between}
+use Rattle.elf_loading.proofs.LoadChecks.{AreApart, after_all}
 use Rattle.elf_loading.proofs.Rounded.{down_le, up_ge}
 
 pub holder_first : (word : Word) (items others : List Segment) (load : Segment) → items ≡ load ∷ others → holds_word word load ≡ true → find (holds_word word) items ≡ Some load
@@ -41,6 +44,12 @@ found_holder word (first ∷ loads) load is = by_first (found_holder word loads 
         → (if b then Some first else find (holds_word word) loads) ≡ Some load → IsHolder word load
     by_first later true held found = subst (IsHolder word) (same_Some first load found) (holder_by word first held)
     by_first later false held found = later found
+
+-- it is one of the loads
+pub holder_within : (word : Word) (loads : List Segment) (load : Segment) → find (holds_word word) loads ≡ Some load → Contains loads load
+holder_within word loads load is =
+    let at : slice_get loads (position_or_len (holds_word word) loads) ≡ Some load = sym (find_at (holds_word word) loads) ∙ is in
+    (position_or_len (holds_word word) loads, slice_get_within loads _ load at, get_or_from_slice_get loads _ load load at)
 
 -- the pages of a load that is found are between those of all loads
 module _ (word : Word) (page low high : ℕ) (h : 0 < page) where
@@ -96,3 +105,56 @@ pub held_in_plan : (plan : LoadPlan) (word : Word) (load : Segment) → Contains
 held_in_plan plan word load (k, below, is) holder =
     let (begins, ends) = in_span plan.page (plan_span plan).start (plan_span plan).end k (plan_loads plan) load plan.paged (plan_between plan) below is in
     in_plan plan word load begins ends holder
+
+-- Of loads that are apart one has all bytes of a word.
+
+module _ (page : ℕ) (h : 0 < page) (word : Word) (some : 0 < word.width) where
+  missed_before : (load : Segment) → load_end page load ≤ word.address → holds_word word load ≡ false
+  missed_before load past =
+      let ends : load.address + load.mem_size ≤ load_end page load = up_ge page (load.address + load.mem_size) h in
+      and_right (nat_le load.address word.address) (nat_le (word.address + word.width) (load.address + load.mem_size)) (lt-leb _ _ (omega (arith, past, ends, some)))
+
+  holder_at : (before k : ℕ) (loads : List Segment) (load : Segment) → AreApart page before loads → k < length loads → slice_index_or loads k load ≡ load → holds_word word load ≡ true → find (holds_word word) loads ≡ Some load
+  holder_at before k [] load apart below is held = absurd (omega (arith, below))
+  holder_at before zero (first ∷ loads) load apart below is held =
+      let hit : holds_word word first ≡ true = subst (λ l. holds_word word l ≡ true) (sym is) held in
+      rw hit (ap (λ l. Some l) is)
+  holder_at before (suc k) (first ∷ loads) load (after, apart) below is held =
+      let later : load_end page first ≤ load_start page load = after_all page (load_end page first) k loads load h apart (omega (arith, below)) is in
+      let low : load_start page load ≤ load.address = down_le page load.address in
+      let begins : load.address ≤ word.address = (holder_by word load held).begins in
+      rw (missed_before first (omega (arith, later, low, begins))) (holder_at (load_end page first) k loads load apart (omega (arith, below)) is held)
+
+-- the load of a word before, if it has a word too, is the first that has it
+pub found_again : (plan : LoadPlan) (tables : List TableLocation) (word : Word) (holder : Option Holder) → 0 < word.width → IfSome holder (IsKnown (plan_loads plan) tables)
+    → is_held word holder ≡ true → option_map (λ one. one.load) holder ≡ find (holds_word word) (plan_loads plan)
+found_again plan tables word None some known held = absurd (cc)
+found_again plan tables word (Some one) some known held =
+    let (k, below, is) = known.0 in
+    sym (holder_at plan.page plan.paged word some 0 k (plan_loads plan) one.load (passes_apart (plan_file plan) plan.page plan.limit plan.end plan.checked) below is held)
+
+-- Of a load without tables no word has a byte of one.
+
+touch_within : (address many other others : ℕ) (start size : Option ℕ) → address ≤ other → other + others ≤ address + many → touches_at address many start size ≡ false → touches_at other others start size ≡ false
+touch_within address many other others (Some start) (Some size) begins ends free =
+    let apart : min (address + many) (start + size) ≤ max address start = ltb-false _ _ free in
+    le-ltb _ _ (omega (arith, apart, begins, ends))
+touch_within address many other others (Some start) None begins ends free = refl
+touch_within address many other others None size begins ends free = refl
+
+pub touch_none : (word : Word) (load : Segment) (tables : List TableLocation) → IsHolder word load → touch_one load.address load.mem_size tables ≡ false → list_any (touches word) tables ≡ false
+touch_none word load [] holder free = refl
+touch_none word load (table ∷ tables) holder free =
+    let (first, rest) = or_parts (touches_at load.address load.mem_size table.start table.size) (touch_one load.address load.mem_size tables) free in
+    rw (touch_within load.address load.mem_size word.address word.width table.start table.size holder.begins holder.ends first, touch_none word load tables holder rest) refl
+
+-- so they are looked at only if the load of a word is not free
+pub free_load : (plan : LoadPlan) (tables : List TableLocation) (word : Word) (holder : Holder) → IsKnown (plan_loads plan) tables holder → find (holds_word word) (plan_loads plan) ≡ Some holder.load
+    → holder.is_free ≡ true → list_any (touches word) tables ≡ false
+free_load plan tables word holder known found free =
+    touch_none word holder.load tables (found_holder word (plan_loads plan) holder.load found) (not-true (touch_one holder.load.address holder.load.mem_size tables) (sym known.1 ∙ free))
+
+-- a load that was looked for
+pub holder_is : (word : Word) (loads : List Segment) (holder : Option Holder) (one : Holder) → option_map (λ some. some.load) holder ≡ find (holds_word word) loads → holder ≡ Some one
+    → find (holds_word word) loads ≡ Some one.load
+holder_is word loads holder one first is = sym first ∙ ap (option_map (λ (some : Holder). some.load)) is

@@ -1,10 +1,9 @@
 -- What holds of an object whose words can be written.
 use Rattle.std.proofs.Common.{◌≡◌, ℕ, zero, suc, ◌+◌, ◌<◌, ◌==◌, ◌&&◌, not, nat_lt, Bool, true, false, List, [], ◌∷◌, ◌++◌, length, map, Option, Some, None, is_none, Result, Ok, Err, if◌then◌else◌, min, max, refl, sym, ap, ◌∙◌, subst, arith, append-nil}
 use Rattle.std.proofs.lemmas.Bool.{eqb-true, lt-ltb, ne_eqb, not-false, or_parts}
-use Rattle.std.proofs.lemmas.List.Folds.{find_at}
-use Rattle.std.proofs.lemmas.Option.{get_or_from_slice_get, slice_get_read, slice_get_within}
+use Rattle.std.proofs.lemmas.Option.{slice_get_read}
 use Rattle.std.specs.Prelude.{IfOk, slice_get, ⊤}
-use Rattle.std.specs.List.{Contains, find, list_any, position_or_len}
+use Rattle.std.specs.List.{Contains, find, list_any}
 use Rattle.elf_base.specs.FirstError.{and_then, unless}
 use Rattle.elf_linking.specs.DynamicObject.{object_view}
 use Rattle.elf_linking.specs.DynamicView.{view_entries}
@@ -18,7 +17,7 @@ use Rattle.elf_linking.specs.declared.error.LinkError.TheVariants.{ObjectIndex}
 use Rattle.elf_loading.specs.declared.error.LoadError.TheVariants as error
 use Rattle.elf_loading.specs.declared.plan.LoadPlan.{LoadPlan}
 use Rattle.elf_loading.proofs.ImageChecks.{relocations_are, then_ok}
-use Rattle.elf_loading.proofs.ImageLoads.{found_holder}
+use Rattle.elf_loading.proofs.ImageLoads.{found_holder, holder_within}
 use Rattle.elf_loading.proofs.LoadChecks.{unless_ok}
 use Rattle.xmas_elf.specs.Symbol.{SymbolFields}
 
@@ -30,9 +29,6 @@ none_at test (y ∷ xs) (suc k) x none is = none_at test xs k x (or_parts (test 
 
 read_of : {X : Type 0} (xs : List X) (x : X) → Contains xs x → (k : ℕ) × (slice_get xs k ≡ Some x)
 read_of xs x (k, below, at) = (k, slice_get_read xs (length xs) k x refl below (sym at))
-
-contains_read : {X : Type 0} (xs : List X) (k : ℕ) (x : X) → slice_get xs k ≡ Some x → Contains xs x
-contains_read xs k x is = (k, slice_get_within xs k x is, get_or_from_slice_get xs k x x is)
 
 -- ranges with an address in common meet
 meet_at : (start size other many address : ℕ) → IsInExtent start size address → IsInExtent other many address → nat_lt (max start other) (min (start + size) (other + many)) ≡ true
@@ -66,7 +62,7 @@ module _ (loads : List Segment) (text : Bool) (tables : List TableLocation) wher
   writable_by word None is some shut free = absurd (true_false some)
   writable_by word (Some load) is some shut free =
       let within = found_holder word loads load is in record {
-        held = (load, contains_read loads (position_or_len (holds_word word) loads) load (sym (find_at (holds_word word) loads) ∙ is), within.begins, within.ends);
+        held = (load, holder_within word loads load is, within.begins, within.ends);
         writable = λ closed. not-false (has_flag 2 load) (rw closed at shut);
         in_no_table = in_no_table word free;
       }

@@ -2,7 +2,12 @@
 use Rattle.std.proofs.Common.{◌≡◌, ◌<◌, ◌-◌, ℕ, zero, suc, Bool, List, [], ◌∷◌, ◌++◌, map, refl, sym, ap, ◌∙◌, arith}
 use Rattle.std.specs.Prelude.{take}
 use Rattle.elf_linking.specs.declared.references.Reference.{Reference}
-use Rattle.elf_loading.specs.InOrder.{place, placed, relative_at}
+use Rattle.elf_loading.specs.InOrder.{placed, relative_at}
+use Rattle.elf_loading.specs.Types.{Relocation}
+
+-- a relocation of a table
+abbrev place : Bool → Bool → Reference → Relocation
+place in_place slot reference = record { reference = reference; in_place = in_place; slot = slot }
 
 pub relative_none : (kind : ℕ) (addresses : List ℕ) → addresses ≡ [] → map (relative_at kind) addresses ≡ []
 relative_none kind addresses is = ap (map (relative_at kind)) is

@@ -149,7 +149,7 @@ start_le_end page load h =
     omega arith
 
 -- a load begins at or after the address before all of them
-after_all : (page before k : ℕ) (loads : List Segment) (load : Segment) → 0 < page → AreApart page before loads → k < length loads → slice_index_or loads k load ≡ load → before ≤ load_start page load
+pub after_all : (page before k : ℕ) (loads : List Segment) (load : Segment) → 0 < page → AreApart page before loads → k < length loads → slice_index_or loads k load ≡ load → before ≤ load_start page load
 after_all page before k [] load h apart below is = absurd (omega arith)
 after_all page before zero (first ∷ loads) load h (after, apart) below is = subst (λ l. before ≤ load_start page l) is after
 after_all page before (suc k) (first ∷ loads) load h (after, apart) below is =

@@ -1,5 +1,5 @@
 -- The words that are written so far.
-use Rattle.std.proofs.Common.{◌≡◌, ℕ, ◌+◌, ◌-◌, ◌^◌, ◌++◌, Bool, true, false, List, [], ◌∷◌, length, map, slice_index, Result, Ok, Err, if◌then◌else◌, cond, refl, sym, ap, ◌∙◌, subst, arith, append_assoc, append-nil, ◌==◌, ◌&&◌, ◌||◌, not, Option, Some, None, MatchOption, MatchResult}
+use Rattle.std.proofs.Common.{◌≡◌, ℕ, ◌+◌, ◌-◌, ◌^◌, ◌++◌, Bool, true, false, List, [], ◌∷◌, length, map, slice_index, Result, Ok, Err, if◌then◌else◌, cond, refl, sym, ap, ◌∙◌, subst, arith, append_assoc, append-nil, ◌==◌, ◌&&◌, not, Option, Some, None, MatchOption, MatchResult}
 use Rattle.std.proofs.lemmas.Option.{slice_get-get_or}
 use Rattle.std.specs.Borrow.{Bor}
 use Rattle.std.specs.Slice.{IsItemAt}
@@ -15,7 +15,7 @@ use Rattle.elf_linking.specs.DynamicObject.{object_file, object_view, object_rec
 use Rattle.elf_linking.specs.DynamicView.{view_entries}
 use Rattle.elf_linking.specs.declared.error.LinkError.TheVariants.{ObjectIndex}
 use Rattle.elf_loading.specs.Relocate.{AreWordsFor, AreItemsWritten, IsRelocation, IsRelocationIn, IsWriting, all, has_no_number, is_copy_outside, is_outside, is_unresolved, is_wrong_size, lacks_number, relocated_byte, sized_relocations, some, sources_of, image_start, word_byte, write_item, write_word}
-use Rattle.elf_loading.specs.Words.{HasWord, binds_lazily, IsBoundIf, formula_when, formula_word, in_place_when, is_lazy, needs_symbol, formula_has_symbol}
+use Rattle.elf_loading.specs.Words.{HasWord, binds_lazily, IsBoundIf, formula_word, is_bound_at_once, is_later, needs_symbol, formula_has_symbol, word_of}
 use Rattle.elf_loading.specs.WordsLeft.{HasWordOf, IsSame, relocation_of, words_lazy, own_relocations, words_own}
 use Rattle.elf_loading.specs.declared.plan.LoadPlan.{LoadPlan}
 use Rattle.elf_loading.specs.declared.relocate.Sources.{Sources}
@@ -219,30 +219,39 @@ module _ {E : Type 0} {r : _} (fields : E → SymbolFields) (objects : List (Dyn
   bound_same_if true is = bound_same is
   bound_same_if false is = is
 
-same_slot : (one other : Bool) → (if one then other else not other) ≡ true → one ≡ other
-same_slot true other is = sym is
-same_slot false false is = refl
-same_slot false true is = absurd (cc)
+same_flag : (one other : Bool) → (if one then other else not other) ≡ true → one ≡ other
+same_flag true other is = sym is
+same_flag false false is = refl
+same_flag false true is = absurd (cc)
 
-needs_by : ℕ → Bool → Bool → ℕ → Bool
-needs_by machine lazy slot kind =
-    formula_has_symbol (if lazy && (slot && (row_of machine kind).slot) then Some formulas.Base else (row_of machine kind).formula)
+module _ {E : Type 0} {r : _} (fields : E → SymbolFields) (file : ElfFile) (own : DynamicObject E r) (lazy : Bool) where
+  -- whether a slot gets its symbol later, by what its relocation says of it
+  abbrev later_by : Bool → Bool → ℕ → ℕ → Bool
+  later_by slot in_place kind symbol =
+      is_later fields file own lazy (record { reference = record { offset = 0; kind = kind; symbol = symbol; addend = 0 }; in_place = in_place; slot = slot })
 
--- a relocation that asks as another gets its symbol
-pub bound_as : {E : Type 0} {r : _} (fields : E → SymbolFields) (objects : List (DynamicObject E r)) (of machine : ℕ) (lazy : Bool) (bound : Result (Option (Bound E)) LinkError) (one other : Relocation)
-    → asks_as one other ≡ true → IsBoundIf (needs_symbol machine lazy one) fields objects of one.reference bound
-    → IsBoundIf (needs_symbol machine lazy other) fields objects of other.reference bound
-unfolding needs_by
-bound_as fields objects of machine lazy bound one other same is =
-    let (symbol_is, rest) = and_parts _ _ same in
-    let (kind_is, slot_is) = and_parts _ _ rest in
-    let symbol : one.reference.symbol ≡ other.reference.symbol = eqb-true _ _ symbol_is in
-    let kind : one.reference.kind ≡ other.reference.kind = eqb-true _ _ kind_is in
-    let slot : one.slot ≡ other.slot = same_slot _ _ slot_is in
-    let needs : needs_symbol machine lazy one ≡ needs_symbol machine lazy other =
-    ap (λ s. needs_by machine lazy s one.reference.kind) slot ∙ ap (needs_by machine lazy other.slot) kind in
-    subst (λ b. IsBoundIf b fields objects of other.reference bound) needs
-    (bound_same_if fields objects of bound one.reference other.reference symbol kind (needs_symbol machine lazy one) is)
+  abbrev needs_by : Bool → ℕ → Bool
+  needs_by later kind = not later && formula_has_symbol (row_of (file_machine file) kind).formula
+
+  -- a relocation that asks as another gets its symbol
+  pub bound_as : (objects : List (DynamicObject E r)) (of : ℕ) (bound : Result (Option (Bound E)) LinkError) (one other : Relocation)
+      → asks_as one other ≡ true → IsBoundIf (needs_symbol (file_machine file) (is_later fields file own lazy one) one) fields objects of one.reference bound
+      → IsBoundIf (needs_symbol (file_machine file) (is_later fields file own lazy other) other) fields objects of other.reference bound
+  bound_as objects of bound one other same is =
+      let (symbol_is, rest) = and_parts _ _ same in
+      let (kind_is, flags_are) = and_parts _ _ rest in
+      let (slot_is, place_is) = and_parts _ _ flags_are in
+      let symbol : one.reference.symbol ≡ other.reference.symbol = eqb-true _ _ symbol_is in
+      let kind : one.reference.kind ≡ other.reference.kind = eqb-true _ _ kind_is in
+      let slot : one.slot ≡ other.slot = same_flag _ _ slot_is in
+      let in_place : one.in_place ≡ other.in_place = same_flag _ _ place_is in
+      let later : is_later fields file own lazy one ≡ is_later fields file own lazy other =
+      ap (λ s. later_by s one.in_place one.reference.kind one.reference.symbol) slot ∙ ap (λ p. later_by other.slot p one.reference.kind one.reference.symbol) in_place
+      ∙ ap (λ k. later_by other.slot other.in_place k one.reference.symbol) kind ∙ ap (later_by other.slot other.in_place other.reference.kind) symbol in
+      let needs : needs_symbol (file_machine file) (is_later fields file own lazy one) one ≡ needs_symbol (file_machine file) (is_later fields file own lazy other) other =
+      ap (λ l. needs_by l one.reference.kind) later ∙ ap (needs_by (is_later fields file own lazy other)) kind in
+      subst (λ b. IsBoundIf b fields objects of other.reference bound) needs
+      (bound_same_if fields objects of bound one.reference other.reference symbol kind (needs_symbol (file_machine file) (is_later fields file own lazy one) one) is)
 
 -- Relative relocations.
 
@@ -268,10 +277,11 @@ module _ (machine : ℕ) (relative : Row) where
   facts_of : relative_of machine ≡ Some relative → Facts machine relative
   facts_of is = by_machine (machine == 62) (machine == 3) (machine == 183) refl refl refl is
 
-not_lazy : (lazy slot jump : Bool) → jump ≡ false → (lazy && (slot && jump)) ≡ false
-not_lazy true true jump is = is
-not_lazy true false jump is = refl
-not_lazy false slot jump is = refl
+not_later : (lazy slot jump rest : Bool) → jump ≡ false → (lazy && (slot && (jump && rest))) ≡ false
+not_later true true true rest is = absurd (cc)
+not_later true true false rest is = refl
+not_later true false jump rest is = refl
+not_later false slot jump rest is = refl
 
 abbrev word_with : ℕ → ℕ → Reference → Word
 word_with of width reference = record { address = reference.offset; width = width; value = Sum (Base of) (low width reference.addend) }
@@ -309,18 +319,15 @@ module _ {E : Type 0} {r : _} (fields : E → SymbolFields) (file : ElfFile) (ow
   abbrev row : Row
   row = row_of machine relocation.reference.kind
 
-  lazy_false : is_lazy row lazy relocation ≡ false
-  lazy_false = not_lazy lazy relocation.slot (row_of machine relocation.reference.kind).slot (ap (λ kind. (row_of machine kind).slot) parts.kind ∙ facts.no_slot)
+  later_false : is_later fields file own lazy relocation ≡ false
+  later_false = not_later lazy relocation.slot (row_of machine relocation.reference.kind).slot (not (is_bound_at_once fields file own relocation))
+      (ap (λ kind. (row_of machine kind).slot) parts.kind ∙ facts.no_slot)
 
-  formula_is : formula_when row lazy relocation ≡ Some formulas.Base
-  formula_is = ap (λ b. if b then Some formulas.Base else (row_of machine relocation.reference.kind).formula) lazy_false
-      ∙ ap (λ kind. (row_of machine kind).formula) parts.kind ∙ facts.formula
+  formula_is : (row_of machine relocation.reference.kind).formula ≡ Some formulas.Base
+  formula_is = ap (λ kind. (row_of machine kind).formula) parts.kind ∙ facts.formula
 
-  pub relative_needs : needs_symbol machine lazy relocation ≡ false
-  relative_needs = ap formula_has_symbol formula_is
-
-  in_place_false : in_place_when row lazy relocation ≡ false
-  in_place_false = ap (λ b. b || is_lazy row lazy relocation) parts.in_record ∙ lazy_false
+  pub relative_needs : needs_symbol machine (is_later fields file own lazy relocation) relocation ≡ false
+  relative_needs = ap (λ later. needs_symbol machine later relocation) later_false ∙ ap formula_has_symbol formula_is
 
   width_is : (row_of machine relocation.reference.kind).width ≡ parts.relative.width
   width_is = ap (λ kind. (row_of machine kind).width) parts.kind ∙ facts.width
@@ -328,7 +335,8 @@ module _ {E : Type 0} {r : _} (fields : E → SymbolFields) (file : ElfFile) (ow
   pub relative_has : (objects : List (DynamicObject E r)) → HasWord fields objects file own of lazy item
   relative_has objects = (
     subst (λ b. IsBoundIf b fields objects of relocation.reference (Ok None)) (sym relative_needs) refl,
-    sym (ap (λ b. formula_word fields file own of b relocation.reference (Ok None) (formula_when row lazy relocation)) in_place_false
+    sym (ap (λ later. word_of fields file own of later relocation (Ok None)) later_false
+        ∙ ap (λ b. formula_word fields file own of b relocation.reference (Ok None) row.formula) parts.in_record
         ∙ ap (formula_word fields file own of false relocation.reference (Ok None)) formula_is
         ∙ ap (λ width. Ok (word_with of width relocation.reference)) width_is ∙ ap (λ one. Ok one) parts.word_is),
   )

@@ -1,5 +1,5 @@
 -- Whether the words of relocations can be written (this project's own list, by what glibc 2.36 needs).
-use Rattle.std.specs.Prelude.{◌≡◌, ℕ, zero, suc, ◌+◌, ◌*◌, ◌/◌, ◌%◌, ◌<◌, ◌≤◌, ◌==◌, ◌&&◌, ◌||◌, not, nat_le, nat_lt, is_none, min, max, slice_get, slice_index, Bool, true, false, List, [], ◌∷◌, ◌++◌, All, map, length, Option, None, Some, Result, Ok, Err, IfOk, MatchOption, if◌then◌else◌}
+use Rattle.std.specs.Prelude.{◌≡◌, ℕ, zero, suc, ◌+◌, ◌*◌, ◌/◌, ◌%◌, ◌<◌, ◌≤◌, ◌==◌, ◌&&◌, ◌||◌, not, nat_le, nat_lt, is_none, min, max, slice_get, slice_index, Bool, true, false, List, [], ◌∷◌, ◌++◌, All, map, length, Option, None, Some, Result, Ok, Err, IfOk, MatchOption, MatchResult, if◌then◌else◌}
 use Rattle.std.specs.Borrow.{Bor}
 use Rattle.std.specs.Int.{bit_at}
 use Rattle.std.specs.List.{Contains, find, list_any}
@@ -16,6 +16,7 @@ use Rattle.elf_loading.specs.Words.{HasWord}
 use Rattle.elf_loading.specs.WordsLeft.{HasWordOf, AreWordsOf, relocation_of, relocations_left, own_relocations}
 use Rattle.elf_loading.specs.declared.error.LoadError.TheVariants as error
 use Rattle.elf_loading.specs.declared.words.Binding.TheVariants.{Now}
+use Rattle.elf_loading.specs.declared.image_words.Holder.{Holder}
 use Rattle.elf_loading.specs.declared.plan.LoadPlan.{LoadPlan}
 use Rattle.elf_loading.specs.declared.words.Words.{Words}
 use Rattle.xmas_elf.specs.Symbol.{SymbolFields}
@@ -34,14 +35,14 @@ meet start size other many = nat_lt (max start other) (min (start + size) (other
 abbrev pub overlaps : Word → Word → Bool
 overlaps one other = meet one.address one.width other.address other.width
 
--- a word and bytes at an address have a byte in common, if the address and the number of bytes are known
-abbrev pub touches_at : Word → Option ℕ → Option ℕ → Bool
-touches_at word (Some start) (Some size) = meet word.address word.width start size
-touches_at word _ _ = false
+-- bytes at an address and others have a byte in common, if the address and the number of the others are known
+abbrev pub touches_at : ℕ → ℕ → Option ℕ → Option ℕ → Bool
+touches_at address many (Some start) (Some size) = meet address many start size
+touches_at address many _ _ = false
 
 -- a word and a table have a byte in common
 abbrev pub touches : Word → TableLocation → Bool
-touches word table = touches_at word table.start table.size
+touches word table = touches_at word.address word.width table.start table.size
 
 -- the memory of a load has all bytes of a word
 abbrev pub holds_word : Word → Segment → Bool
@@ -105,6 +106,35 @@ some_marked marks start (suc count) = some_marked marks start count || is_marked
 -- each mark says whether one of these words has the byte at its address
 pub record AreMarksOf (start : ℕ) (words : List Word) (marks : List ℕ) : Type 0 where
   pub each : (i : ℕ) → i < 8 * length marks → is_marked marks i ≡ list_any (covers (start + i)) words
+
+-- How one word is checked.
+
+-- bytes at an address and one of these tables have a byte in common
+abbrev pub touch_one : ℕ → ℕ → List TableLocation → Bool
+touch_one address many tables = list_any (λ table. touches_at address many table.start table.size) tables
+
+-- a load that had a word is one of these loads, and it is free if no table has a byte of its memory
+abbrev pub IsKnown : List Segment → List TableLocation → Holder → Type 0
+IsKnown loads tables holder = Contains loads holder.load
+    × (holder.is_free ≡ not (touch_one holder.load.address holder.load.mem_size tables))
+
+-- there is a load, and its memory has all bytes of a word
+abbrev pub is_held : Word → Option Holder → Bool
+is_held word None = false
+is_held word (Some holder) = holds_word word holder.load
+
+-- the result of the check of a word after any words of which these are the marks, and the marks after it
+abbrev pub IsWordCheck : List Segment → Bool → List TableLocation → ℕ → Result Word LoadError → List ℕ → List ℕ → Result (Unit {0}) LoadError → Type 0
+IsWordCheck loads text tables start word old new result = (before : List Word) → AreMarksOf start before old
+    → let answer = check_word loads text tables before word in MatchResult result
+    (λ done. (after : List Word) × (answer ≡ Ok after) × AreMarksOf start after new) (λ error. answer ≡ Err error)
+
+-- the same of the word of a relocation, of the words that an iterator is over
+pub record IsItemChecked {E : Type 0} {r : _} (fields : E → SymbolFields) (loads : List Segment) (text : Bool) (tables : List TableLocation) (start : ℕ) (words : Words E r) (relocation : Relocation) (old new : List ℕ) (result : Result (Unit {0}) LoadError) : Type 0 where
+  pub item : Relocated E
+  pub relocation_is : item.relocation ≡ relocation
+  pub has_word : HasWordOf fields words item
+  pub checked : IsWordCheck loads text tables start item.word old new result
 
 -- The check.
 

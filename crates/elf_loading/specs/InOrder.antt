@@ -12,18 +12,14 @@ use Rattle.elf_loading.specs.Types.{Dynamic, ElfFile, InOrder, LinkError, Packed
 use Rattle.elf_linking.specs.declared.view.tags.TheConstants.{DT_JMPREL, DT_PLTREL, DT_PLTRELSZ, DT_REL, DT_RELA, DT_RELASZ, DT_RELR, DT_RELRSZ, DT_RELSZ}
 use Rattle.elf_loading.specs.Words.{address_size}
 
--- a relocation of a table, with addends in the records or in place, of the procedure linkage table or not
-abbrev pub place : Bool → Bool → Reference → Relocation
-place in_place slot reference = record { reference = reference; in_place = in_place; slot = slot }
-
--- those of a table
+-- the relocations of a table, with addends in the records or in place, of the procedure linkage table or not
 abbrev pub placed : Bool → Bool → List Reference → List Relocation
-placed in_place slot references = map (place in_place slot) references
+placed in_place slot references = map (λ reference. record { reference = reference; in_place = in_place; slot = slot }) references
 
 -- the relative relocation at an address, of a type, whose addend is the word there
 abbrev pub relative_at : ℕ → ℕ → Relocation
 relative_at kind address =
-    place true false (record { offset = address; kind = kind; symbol = 0; addend = 0 })
+    record { reference = record { offset = address; kind = kind; symbol = 0; addend = 0 }; in_place = true; slot = false }
 
 -- the addresses of packed relocations, at the entries DT_RELR and DT_RELRSZ; none if there is no entry DT_RELR
 abbrev pub relr_addresses : ElfFile → List (Dynamic ℕ) → Result (List ℕ) LinkError

@@ -21,10 +21,12 @@ relative_word of (Some relative) relocation =
       value = Sum (Base of) (low relative.width relocation.reference.addend);
     }) else None
 
--- two relocations ask alike: the indices of their symbols and their types are the same, and both are slots or neither is
+-- two relocations ask alike: the indices of their symbols and their types are the same, both are slots or neither is, and both
+-- have their addends in place or neither has
 abbrev pub asks_as : Relocation → Relocation → Bool
 asks_as one other = one.reference.symbol == other.reference.symbol
-    && (one.reference.kind == other.reference.kind && (if one.slot then other.slot else not other.slot))
+    && (one.reference.kind == other.reference.kind && ((if one.slot then other.slot else not other.slot)
+    && (if one.in_place then other.in_place else not other.in_place)))
 
 -- a call wrote the word of a relocation to an image, or returned why not
 pub record IsItemWritten {E : Type 0} {r : _} (fields : E → SymbolFields) (sources : Sources E r) (own : DynamicObject E r) (lazy : Bool) (relocation : Relocation) (before after : List ℕ) (result : Result Bool LoadError) : Type 0 where

@@ -14,7 +14,7 @@ use Rattle.elf_linking.specs.References.{file_machine}
 use Rattle.elf_linking.specs.declared.error.LinkError.TheVariants.{ObjectIndex}
 use Rattle.elf_loading.specs.ImageWords.{MatchBoth, as_load_error, covers}
 use Rattle.elf_loading.specs.Plan.{plan_size, plan_span}
-use Rattle.elf_loading.specs.Words.{HasWord, binds_lazily, needs_symbol}
+use Rattle.elf_loading.specs.Words.{HasWord, binds_lazily, is_later, needs_symbol}
 use Rattle.elf_loading.specs.WordsLeft.{relocation_of, words_file, words_index, words_lazy, words_objects, own_relocations, words_own}
 use Rattle.elf_loading.specs.declared.error.LoadError.TheVariants as error
 use Rattle.elf_loading.specs.declared.plan.LoadPlan.{LoadPlan}
@@ -117,7 +117,8 @@ is_absent _ = false
 
 -- a relocation needs a symbol that no object has, and that is not weak
 abbrev pub is_unresolved : {E : Type 0} → {r : _} → (E → SymbolFields) → DynamicObject E r → Bool → Relocated E → Bool
-is_unresolved fields own lazy item = is_absent item.bound && needs_symbol (file_machine (object_file own)) lazy item.relocation
+is_unresolved fields own lazy item = is_absent item.bound
+    && needs_symbol (file_machine (object_file own)) (is_later fields (object_file own) own lazy item.relocation) item.relocation
     && not (is_weak fields (slice_get (table_items (object_records own)) item.relocation.reference.symbol))
 
 -- bytes from an address on are not all in an image of `len` bytes that begins at `start`; no bytes are in each

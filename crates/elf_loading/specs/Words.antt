@@ -1,22 +1,24 @@
 -- The words that relocations write when a file is loaded (the processor supplements of the System V ABI; which symbol
 -- a relocation gets, as `bind` of elf_linking says; what jump slots hold before they are called, as glibc 2.36 has it).
-use Rattle.std.specs.Prelude.{◌≡◌, ℕ, ◌+◌, ◌%◌, ◌^◌, ◌==◌, ◌&&◌, ◌||◌, not, nat_le, is_none, is_some, Bool, true, false, List, [], ◌∷◌, slice_get, Option, None, Some, Result, Ok, Err, if◌then◌else◌}
+use Rattle.std.specs.Prelude.{◌≡◌, ℕ, ◌+◌, ◌*◌, ◌/◌, ◌%◌, ◌^◌, ◌==◌, ◌&&◌, not, nat_le, is_none, is_some, Bool, true, false, List, [], ◌∷◌, slice_get, Option, None, Some, option_map, unwrap_or, Result, Ok, Err, if◌then◌else◌}
 use Rattle.std.specs.List.{list_any}
 use Rattle.elf_base.specs.FileHeader.{file_class}
-use Rattle.elf_base.specs.FirstError.{unless}
+use Rattle.elf_base.specs.FirstError.{and_then, unless}
 use Rattle.elf_base.specs.Table.{table_items}
-use Rattle.elf_linking.specs.DynamicObject.{object_records}
-use Rattle.elf_linking.specs.DynamicView.{flag_in, number_with}
+use Rattle.elf_linking.specs.DynamicObject.{object_records, object_view}
+use Rattle.elf_linking.specs.DynamicView.{flag_in, number_with, view_entries}
 use Rattle.elf_linking.specs.Loaded.{word_at_of}
 use Rattle.elf_linking.specs.References.{file_machine}
 use Rattle.elf_linking.specs.Scope.{IsReferenceBound}
-use Rattle.elf_loading.specs.Types.{Binding, Bound, Dynamic, DynamicObject, ElfFile, Formula, LinkError, LoadError, Reference, Relocated, Relocation, Row, Segment, Terms, Word}
-use Rattle.elf_linking.specs.declared.view.tags.TheConstants.{DT_BIND_NOW, DT_FLAGS, DT_FLAGS_1}
+use Rattle.elf_loading.specs.Types.{Binding, Bound, Dynamic, DynamicObject, ElfFile, Formula, LinkError, LoadError, Reference, Relocated, Relocation, Segment, Terms, Word}
+use Rattle.elf_linking.specs.declared.view.tags.TheConstants.{DT_BIND_NOW, DT_FLAGS, DT_FLAGS_1, DT_PLTGOT}
 use Rattle.elf_linking.specs.RelocationTypes.{row_of}
 use Rattle.elf_loading.specs.Segments.{loads_of}
-use Rattle.elf_loading.specs.Values.{bytes_of, is_elsewhere, value_of}
+use Rattle.elf_loading.specs.Values.{bytes_of, difference, is_elsewhere, low, value_of}
 use Rattle.elf_loading.specs.declared.error.LoadError.TheVariants.{CallSymbol, CopyKind, Link, NoSize, WordType}
 use Rattle.elf_linking.specs.declared.references.types.Formula.TheVariants as formulas
+use Rattle.elf_loading.specs.declared.value.Origin.TheVariants.{Base}
+use Rattle.elf_loading.specs.declared.value.Value.TheVariants.{Sum}
 use Rattle.elf_loading.specs.declared.words.Binding.TheVariants.{Lazy, Now}
 use Rattle.xmas_elf.specs.Symbol.{SymbolFields}
 
@@ -29,19 +31,7 @@ binds_lazily entries Now = false
 binds_lazily entries Lazy = not (is_some (number_with DT_BIND_NOW entries))
     && (not (flag_in (number_with DT_FLAGS entries) 8) && not (flag_in (number_with DT_FLAGS_1 entries) 1))
 
--- a relocation of the procedure linkage table is such a slot, by the row of its type
-abbrev pub is_lazy : Row → Bool → Relocation → Bool
-is_lazy row lazy relocation = lazy && (relocation.slot && row.slot)
-
 -- The formula of a relocation, and what it is made of.
-
--- a jump slot that gets its symbol later holds the word in place, moved with the file
-abbrev pub formula_when : Row → Bool → Relocation → Option Formula
-formula_when row lazy relocation = if is_lazy row lazy relocation then Some formulas.Base else row.formula
-
--- the addend is the word in place
-abbrev pub in_place_when : Row → Bool → Relocation → Bool
-in_place_when row lazy relocation = relocation.in_place || is_lazy row lazy relocation
 
 -- a formula has a symbol
 abbrev pub takes_symbol : Formula → Bool
@@ -64,10 +54,9 @@ abbrev pub formula_has_symbol : Option Formula → Bool
 formula_has_symbol None = false
 formula_has_symbol (Some formula) = takes_symbol formula
 
--- the word of a relocation depends on a symbol
+-- the word of a relocation depends on a symbol: not if its slot gets it later
 abbrev pub needs_symbol : ℕ → Bool → Relocation → Bool
-needs_symbol machine lazy relocation =
-    formula_has_symbol (formula_when (row_of machine relocation.reference.kind) lazy relocation)
+needs_symbol machine later relocation = not later && formula_has_symbol (row_of machine relocation.reference.kind).formula
 
 -- the address of the word in place that is the addend: the second word of a descriptor (on 386, of 4 bytes); otherwise
 -- the word itself
@@ -141,11 +130,38 @@ formula_word fields file own of in_place reference bound (Some formula) =
       width = (row_of (file_machine file) reference.kind).width;
     }) symbol formula)))
 
+-- The word of a relocation, which may be of a jump slot that gets its symbol when it is called first.
+
+-- glibc binds a slot at once although others get their symbols later: on 386 (3) one with an addend in its record
+-- (elf/do-rel.h), on AArch64 (183) one whose symbol has the flag STO_AARCH64_VARIANT_PCS (0x80), in a file with an entry
+-- DT_AARCH64_VARIANT_PCS (0x70000005; dl-machine.h)
+abbrev pub is_bound_at_once : {E : Type 0} → {r : _} → (E → SymbolFields) → ElfFile → DynamicObject E r → Relocation → Bool
+is_bound_at_once fields file own relocation = if file_machine file == 3 then not relocation.in_place else
+    file_machine file == 183 && (is_some (number_with 0x70000005 (view_entries (object_view own))) && unwrap_or (option_map
+    (λ symbol. (fields symbol).other / 128 % 2 == 1) (slice_get (table_items (object_records own)) relocation.reference.symbol)) false)
+
+-- a relocation is of a slot that gets its symbol later: it is of the procedure linkage table, and its type is that of slots
+abbrev pub is_later : {E : Type 0} → {r : _} → (E → SymbolFields) → ElfFile → DynamicObject E r → Bool → Relocation → Bool
+is_later fields file own lazy relocation = lazy && (relocation.slot && ((row_of (file_machine file) relocation.reference.kind).slot && not (is_bound_at_once fields file own relocation)))
+
+-- the entry of the procedure linkage table for the slot of `width` bytes at an address, by that of the first slot, which is
+-- after three words: entries have twice the size of slots on x86-64 (62), four times that on 386 (3); elsewhere glibc takes
+-- the first entry for each slot (dl-machine.h, elf_machine_lazy_rel)
+abbrev pub entry_of_slot : ℕ → ℕ → ℕ → ℕ → ℕ → ℕ
+entry_of_slot machine width table first address = low width (first + (if machine == 62 then 2 else (if machine == 3 then 4 else 0)) * difference width address (low width (table + 3 * width)))
+
+-- what such a slot is, less the base: the word in place, or, if the second word at DT_PLTGOT isn't 0, the entry by this word
+abbrev pub slot_number : ElfFile → List (Dynamic ℕ) → ℕ → ℕ → Result ℕ LinkError
+slot_number file entries width address = unwrap_or (option_map (λ table.
+    and_then (word_in_memory file ((table + width) % 2 ^ 64)) (λ first. if first == 0 then word_in_memory file address
+    else Ok (entry_of_slot (file_machine file) width table first address))) (number_with DT_PLTGOT entries)) (word_in_memory file address)
+
 -- the word of a relocation of the object at index `of`, by the symbol that it gets
 abbrev pub word_of : {E : Type 0} → {r : _} → (E → SymbolFields) → ElfFile → DynamicObject E r → ℕ → Bool → Relocation → Result (Option (Bound E)) LinkError → Result Word LoadError
-word_of fields file own of lazy relocation bound = let row = row_of (file_machine file) relocation.reference.kind in
-    formula_word fields file own of (in_place_when row lazy relocation) relocation.reference bound
-    (formula_when row lazy relocation)
+word_of fields file own of later relocation bound = let row = row_of (file_machine file) relocation.reference.kind in
+    if later then and_link (slot_number file (view_entries (object_view own)) row.width relocation.reference.offset) (λ number.
+    Ok (record { address = relocation.reference.offset; width = row.width; value = Sum (Base of) (low row.width number) }))
+    else formula_word fields file own of relocation.in_place relocation.reference bound row.formula
 
 -- the symbol that a relocation gets, if its word depends on one
 abbrev pub IsBoundIf : {E : Type 0} → {r : _} → Bool → (E → SymbolFields) → List (DynamicObject E r) → ℕ → Reference → Result (Option (Bound E)) LinkError → Type 0
@@ -154,6 +170,6 @@ IsBoundIf false fields objects of reference bound = bound ≡ Ok None
 
 -- an item has the symbol that its relocation gets, and the word that it writes
 abbrev pub HasWord : {E : Type 0} → {r : _} → (E → SymbolFields) → List (DynamicObject E r) → ElfFile → DynamicObject E r → ℕ → Bool → Relocated E → Type 0
-HasWord fields objects file own of lazy item =
-    IsBoundIf (needs_symbol (file_machine file) lazy item.relocation) fields objects of item.relocation.reference item.bound
-    × (item.word ≡ word_of fields file own of lazy item.relocation item.bound)
+HasWord fields objects file own of lazy item = let later = is_later fields file own lazy item.relocation in
+    IsBoundIf (needs_symbol (file_machine file) later item.relocation) fields objects of item.relocation.reference item.bound
+    × (item.word ≡ word_of fields file own of later item.relocation item.bound)

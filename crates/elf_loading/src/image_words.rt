@@ -1,22 +1,29 @@
 //! Whether the words of an object can be written.
 
 ghost use Rattle.std.specs.Prelude.{◌%◌, ◌<◌, [], ◌==◌, ◌≡◌, ◌+◌, ◌&&◌, ◌*◌, ◌≤◌, ◌||◌, Some, nat_lt};
-ghost use Rattle.std.specs.Prelude.{slice_get, Err, MatchResult, not, Ok, ℕ, List, nat_le, length};
+ghost use Rattle.std.specs.Prelude.{slice_get, Err, IfSome, MatchResult, not, Ok, ℕ, nat_le, length};
+ghost use Rattle.std.specs.Prelude.{option_map};
 ghost use Rattle.std.specs.List.{find, list_any};
+ghost use Rattle.elf_linking.specs.References.{file_machine};
+ghost use Rattle.elf_linking.specs.RelocationTypes.{relative_of};
 ghost use Rattle.elf_linking.specs.Scope.{scope_objects};
 ghost use Rattle.elf_loading.specs.ImageTables.{tables_of};
-ghost use Rattle.elf_loading.specs.ImageWords.{AreMarksOf, AreWordsFrom, IsBegun, IsOwnCheck};
-ghost use Rattle.elf_loading.specs.ImageWords.{check_word, checked_relocations, holds_word};
-ghost use Rattle.elf_loading.specs.ImageWords.{is_marked, meet, some_marked, touches};
+ghost use Rattle.elf_loading.specs.ImageWords.{AreMarksOf, AreWordsFrom, IsBegun, IsItemChecked};
+ghost use Rattle.elf_loading.specs.ImageWords.{IsKnown, IsOwnCheck, IsWordCheck};
+ghost use Rattle.elf_loading.specs.ImageWords.{checked_relocations, holds_word, is_held, is_marked};
+ghost use Rattle.elf_loading.specs.ImageWords.{meet, some_marked, touch_one, touches, touches_at};
 ghost use Rattle.elf_loading.specs.Plan.{plan_loads, plan_size, plan_span};
 ghost use Rattle.elf_loading.specs.Segments.{has_flag};
-ghost use Rattle.elf_loading.specs.declared.words.Word.{Word};
+ghost use Rattle.elf_loading.specs.WordsLeft.{HasWordOf, words_file};
 
 use crate::LoadError;
 use crate::image_tables::{asks_for_text, check_records, check_tables, tables_of};
+use crate::in_order::Relocation;
 use crate::plan::LoadPlan;
+use crate::relocate::relative_word;
 use crate::segments::has_flag;
-use crate::words::{Binding, Word, Words};
+use crate::words::{Binding, Relocated, Word, Words};
+use elf_linking::references::types::Row;
 use elf_linking::scope::Scope;
 use elf_linking::view::{LinkedSymbol, TableLocation};
 use elf_linking::{DynamicObject, Segment};
@@ -34,38 +41,51 @@ struct Room<'b, 'a> {
     tables: [TableLocation; 9],
 }
 
+// A load that has a word, and what is known of it.
+#[derive(Clone, Copy)]
+struct Holder {
+    load: Segment,
+    // Whether its memory has no byte of a table.
+    is_free: bool,
+}
+
 // Whether ranges of addresses have a byte in common.
 fn meet(start: u64, size: u64, other: u64, many: u64) -> bool
     ensures { result ≡ meet start size other many }
 {
-    let end = u128::from(start) + u128::from(size);
-    let past = u128::from(other) + u128::from(many);
-    u128::from(start.max(other)) < end.min(past)
+    if other < start {
+        return start - other < many && 0 < size;
+    }
+    other - start < size && 0 < many
 }
 
-// Whether a word and a table have a byte in common.
-fn touches(word: &Word, table: &TableLocation) -> bool
-    ensures { result ≡ touches word.now table.now }
+// Whether bytes at an address and a table have a byte in common.
+fn touches(address: u64, many: u64, table: &TableLocation) -> bool
+    ensures { result ≡ touches_at address many table.now.start table.now.size }
 {
     match (table.start, table.size) {
-        (Some(start), Some(size)) => meet(word.address, word.width, start, size),
+        (Some(start), Some(size)) => meet(address, many, start, size),
         _ => false,
     }
 }
 
-// Whether a word and one of these tables have a byte in common.
-fn is_in_table(word: &Word, tables: &[TableLocation]) -> bool
-    ensures { result ≡ list_any (touches word.now) tables.now }
+// Whether bytes at an address and one of these tables have a byte in common.
+fn touches_one(address: u64, many: u64, tables: &[TableLocation]) -> bool
+    ensures { result ≡ touch_one address many tables.now }
 {
-    tables.iter().any(|table| touches(word, table))
+    tables.iter().any(|table| touches(address, many, table))
 }
 
 // Whether the memory of a load has all bytes of a word.
+#[inline(always)]
 fn holds_word(word: &Word, load: &Segment) -> bool
     ensures { result ≡ holds_word word.now load.now }
 {
-    let end = u128::from(word.address) + u128::from(word.width);
-    load.address <= word.address && end <= u128::from(load.address) + u128::from(load.mem_size)
+    if word.address < load.address {
+        return false;
+    }
+    let skipped = word.address - load.address;
+    skipped <= load.mem_size && word.width <= load.mem_size - skipped
 }
 
 // The first load whose memory has all bytes of a word.
@@ -79,6 +99,65 @@ fn holder_of(word: &Word, plan: &LoadPlan<'_>) -> Option<Segment>
         }
     }
     None
+}
+
+// The same, with what is known of it.
+#[tactic(auto, using(crate::proofs::ImageLoads::holder_within))]
+fn new_holder(room: &Room<'_, '_>, word: &Word) -> Option<Holder>
+    ensures known { IfSome result (IsKnown (plan_loads room.now.plan.now) room.now.tables) }
+    ensures first { option_map (λ holder. holder.load) result
+        ≡ find (holds_word word.now) (plan_loads room.now.plan.now) }
+{
+    match holder_of(word, room.plan) {
+        Some(load) => Some(Holder {
+            load,
+            is_free: !touches_one(load.address, load.mem_size, &room.tables),
+        }),
+        None => None,
+    }
+}
+
+// Whether there is a load, and its memory has all bytes of a word.
+#[inline(always)]
+fn is_held(word: &Word, holder: &Option<Holder>) -> bool
+    ensures { result ≡ is_held word.now holder.now }
+{
+    match holder {
+        Some(holder) => holds_word(word, &holder.load),
+        None => false,
+    }
+}
+
+// Finds the first load whose memory has all bytes of a word. That of a word before it is tried first:
+// loads are apart, so no other has the bytes if that has them.
+#[tactic(auto, using(crate::proofs::ImageLoads::found_again))]
+#[inline(always)]
+fn find_holder(room: &Room<'_, '_>, word: &Word, holder: &mut Option<Holder>)
+    requires some { 0 < word.now.width }
+    requires known { IfSome holder.old (IsKnown (plan_loads room.now.plan.now) room.now.tables) }
+    ensures known { IfSome holder.new (IsKnown (plan_loads room.now.plan.now) room.now.tables) }
+    ensures first { option_map (λ holder. holder.load) holder.new
+        ≡ find (holds_word word.now) (plan_loads room.now.plan.now) }
+{
+    if is_held(word, holder) {
+        return;
+    }
+    *holder = new_holder(room, word);
+}
+
+// Whether a word in the memory of a load and a table have a byte in common.
+#[tactic(auto, using(crate::proofs::ImageLoads::free_load))]
+#[inline(always)]
+fn is_in_table(room: &Room<'_, '_>, holder: &Holder, word: &Word) -> bool
+    requires known { IsKnown (plan_loads room.now.plan.now) room.now.tables holder.now }
+    requires found { find (holds_word word.now) (plan_loads room.now.plan.now)
+        ≡ Some holder.now.load }
+    ensures { result ≡ list_any (touches word.now) room.now.tables }
+{
+    if holder.is_free {
+        return false;
+    }
+    touches_one(word.address, word.width, &room.tables)
 }
 
 // Sets a mark, and returns whether it was set.
@@ -146,33 +225,96 @@ fn is_shut(room: &Room<'_, '_>, load: &Segment) -> bool
     !room.text && !has_flag(load, FLAG_W)
 }
 
-// Whether a word can be written after those that have marks; the word gets marks.
-fn check_word(room: &Room<'_, '_>, word: &Word, marks: &mut [u8]) -> Result<(), LoadError>
+// Whether a word can be written after those that have marks; the word gets marks. `holder` is the load
+// of a word before it, if there is one, and then its own.
+#[inline(always)]
+fn check_word(
+    room: &Room<'_, '_>,
+    word: &Word,
+    holder: &mut Option<Holder>,
+    marks: &mut [u8],
+) -> Result<(), LoadError>
     requires start { room.now.start ≡ (plan_span room.now.plan.now).start }
     requires marks { plan_size room.now.plan.now ≤ 8 * length marks.old }
+    requires holder { IfSome holder.old (IsKnown (plan_loads room.now.plan.now) room.now.tables) }
+    ensures holder { IfSome holder.new (IsKnown (plan_loads room.now.plan.now) room.now.tables) }
     ensures len { length marks.new ≡ length marks.old }
-    ensures exact { (before : List Word) → AreMarksOf room.now.start before marks.old
-        → let answer = check_word (plan_loads room.now.plan.now) room.now.text
-        room.now.tables before (Ok word.now) in MatchResult result
-        (λ done. (after : List Word) × (answer ≡ Ok after) × AreMarksOf room.now.start after marks.new)
-        (λ error. answer ≡ Err error) }
+    ensures exact { IsWordCheck (plan_loads room.now.plan.now) room.now.text room.now.tables
+        room.now.start (Ok word.now) marks.old marks.new result }
 {
     if word.width == 0 {
         return Ok(());
     }
-    let Some(load) = holder_of(word, room.plan) else {
+    find_holder(room, word, holder);
+    let Some(found) = *holder else {
         return Err(LoadError::WordAddress);
     };
-    if is_shut(room, &load) {
+    if is_shut(room, &found.load) {
         return Err(LoadError::ReadOnly);
     }
     if mark_all(marks, word.address - room.start, word.width) {
         return Err(LoadError::WordsOverlap);
     }
-    if is_in_table(word, &room.tables) {
+    if is_in_table(room, &found, word) {
         return Err(LoadError::WordInTable);
     }
     Ok(())
+}
+
+// Checks the word of a relocation that may need a symbol, after those that have marks. `last` is the
+// item of a relocation before it, if there is one, and then its own.
+fn check_other<E: LinkedSymbol>(
+    room: &Room<'_, '_>,
+    words: &Words<'_, '_, E>,
+    relocation: Relocation,
+    last: &mut Option<Relocated<E>>,
+    holder: &mut Option<Holder>,
+    marks: &mut [u8],
+) -> Result<(), LoadError>
+    requires start { room.now.start ≡ (plan_span room.now.plan.now).start }
+    requires marks { plan_size room.now.plan.now ≤ 8 * length marks.old }
+    requires last { IfSome last.old (HasWordOf E.fields words.now) }
+    requires holder { IfSome holder.old (IsKnown (plan_loads room.now.plan.now) room.now.tables) }
+    ensures last { IfSome last.new (HasWordOf E.fields words.now) }
+    ensures holder { IfSome holder.new (IsKnown (plan_loads room.now.plan.now) room.now.tables) }
+    ensures len { length marks.new ≡ length marks.old }
+    ensures item { IsItemChecked E.fields (plan_loads room.now.plan.now) room.now.text
+        room.now.tables room.now.start words.now relocation marks.old marks.new result }
+{
+    let item = words.item_after(relocation, last);
+    *last = Some(item);
+    match item.word {
+        Ok(word) => check_word(room, &word, holder, marks),
+        Err(error) => Err(error),
+    }
+}
+
+// The same of the next relocation. A relative one needs no item.
+#[inline(always)]
+fn check_next<E: LinkedSymbol>(
+    room: &Room<'_, '_>,
+    words: &Words<'_, '_, E>,
+    relative: &Option<Row>,
+    relocation: Relocation,
+    last: &mut Option<Relocated<E>>,
+    holder: &mut Option<Holder>,
+    marks: &mut [u8],
+) -> Result<(), LoadError>
+    requires start { room.now.start ≡ (plan_span room.now.plan.now).start }
+    requires marks { plan_size room.now.plan.now ≤ 8 * length marks.old }
+    requires relative { relative.now ≡ relative_of (file_machine (words_file words.now)) }
+    requires last { IfSome last.old (HasWordOf E.fields words.now) }
+    requires holder { IfSome holder.old (IsKnown (plan_loads room.now.plan.now) room.now.tables) }
+    ensures last { IfSome last.new (HasWordOf E.fields words.now) }
+    ensures holder { IfSome holder.new (IsKnown (plan_loads room.now.plan.now) room.now.tables) }
+    ensures len { length marks.new ≡ length marks.old }
+    ensures item { IsItemChecked E.fields (plan_loads room.now.plan.now) room.now.text
+        room.now.tables room.now.start words.now relocation marks.old marks.new result }
+{
+    match relative_word(words.of, relative, &relocation) {
+        Some(word) => check_word(room, &word, holder, marks),
+        None => check_other(room, words, relocation, last, holder, marks),
+    }
 }
 
 // Clears all marks.
@@ -195,12 +337,18 @@ fn check_words<E: LinkedSymbol>(
     ensures { AreWordsFrom E.fields (plan_loads room.now.plan.now) room.now.text
         room.now.tables words.entry result }
 {
-    for item in words {
-        let word = match item.word {
-            Ok(word) => word,
-            Err(error) => return Err(error),
-        };
-        match check_word(room, &word, marks) {
+    let relative = words.relative_row();
+    let (mut words, mut last, mut holder) = (words, None, None);
+    while let Some(relocation) = words.next_relocation() {
+        match check_next(
+            room,
+            &words,
+            &relative,
+            relocation,
+            &mut last,
+            &mut holder,
+            marks,
+        ) {
             Ok(()) => {}
             Err(error) => return Err(error),
         }

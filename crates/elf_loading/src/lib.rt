@@ -27,6 +27,7 @@ mod plan;
 mod program_check;
 mod relocate;
 mod segments;
+mod slots;
 mod span;
 mod value;
 mod words;

@@ -23,6 +23,7 @@ ghost use Rattle.elf_loading.specs.declared.error.LoadError.TheVariants.{CopySou
 use crate::LoadError;
 use crate::in_order::Relocation;
 use crate::plan::LoadPlan;
+use crate::slots::is_later;
 use crate::value::{Origin, Value, low};
 use crate::words::{Binding, Relocated, Word, Words, binds_lazily, needs_symbol};
 use elf_base::bytes::Record;
@@ -495,8 +496,10 @@ fn is_unresolved<E: LinkedSymbol>(
 ) -> bool
     ensures { result ≡ is_unresolved E.fields own.now lazy item.now }
 {
-    let machine = own.file().header.pt2.machine().raw();
+    let file = own.file();
+    let machine = file.header.pt2.machine().raw();
+    let later = is_later(&file, own, lazy, &item.relocation);
     matches!(item.bound, Ok(None))
-        && needs_symbol(machine, lazy, &item.relocation)
+        && needs_symbol(machine, later, &item.relocation)
         && !is_weak(own, item.relocation.reference.symbol)
 }

@@ -124,7 +124,7 @@ pub(crate) fn low(width: u32, number: u128) -> u64
 }
 
 // The low bytes of a number less another.
-fn difference(width: u32, one: u128, other: u64) -> u64
+pub(crate) fn difference(width: u32, one: u128, other: u64) -> u64
     requires { one < 2 ^ 66 }
     ensures { result ≡ difference width one other }
 {

@@ -5,23 +5,24 @@ ghost use Rattle.std.specs.Iterator.{YieldsFirst, YieldsFirstBy, item_count};
 ghost use Rattle.elf_base.specs.FirstError.{unless};
 ghost use Rattle.elf_linking.specs.DynamicView.{flag_in, view_entries};
 ghost use Rattle.elf_linking.specs.References.{file_machine};
+ghost use Rattle.elf_linking.specs.RelocationTypes.{relative_of};
 ghost use Rattle.elf_linking.specs.Scope.{scope_objects};
 ghost use Rattle.std.specs.List.{list_any};
 ghost use Rattle.elf_loading.specs.Segments.{loads_of};
 ghost use Rattle.elf_loading.specs.RelativeWords.{asks_as};
 ghost use Rattle.elf_loading.specs.Words.{IsBoundIf, addend_of, addend_place, address_size};
-ghost use Rattle.elf_loading.specs.Words.{binds_lazily, formula_when, has_zeros, in_place_when};
-ghost use Rattle.elf_loading.specs.Words.{is_lazy, needs_symbol, own_size, takes_addend};
-ghost use Rattle.elf_loading.specs.Words.{takes_symbol, value_rows, value_word};
-ghost use Rattle.elf_loading.specs.Words.{word_in_memory, word_of};
+ghost use Rattle.elf_loading.specs.Words.{binds_lazily, has_zeros, is_later, needs_symbol};
+ghost use Rattle.elf_loading.specs.Words.{own_size, takes_addend, takes_symbol, value_rows};
+ghost use Rattle.elf_loading.specs.Words.{value_word, word_in_memory, word_of};
 ghost use Rattle.elf_loading.specs.WordsLeft.{AreWordsOf, HasWordOf, IsSame, own_relocations};
 ghost use Rattle.elf_loading.specs.WordsLeft.{relocation_of, relocations_left, words_file};
-ghost use Rattle.elf_loading.specs.WordsLeft.{words_index, words_lazy, words_objects};
+ghost use Rattle.elf_loading.specs.WordsLeft.{words_index, words_lazy, words_objects, words_own};
 
 use crate::LoadError;
 use crate::in_order::{InOrder, Relocation};
 use crate::loads::Loads;
 use crate::relocate::relative_word;
+use crate::slots::{is_later, slot_word};
 use crate::value::{Terms, Value, bytes_of, is_elsewhere, value_of};
 use elf_base::bytes::Record;
 use elf_linking::references::types::Row;
@@ -37,7 +38,9 @@ pub enum Binding {
     /// Before the program runs.
     Now,
     /// When a function is called first, unless the file asks for `Now`: by DT_BIND_NOW, or by the
-    /// flag DF_BIND_NOW or DF_1_NOW.
+    /// flag DF_BIND_NOW or DF_1_NOW. On 386 slots with an addend in their records get their symbols
+    /// before, and on AArch64 those of symbols with the flag STO_AARCH64_VARIANT_PCS in a file with an
+    /// entry DT_AARCH64_VARIANT_PCS.
     Lazy,
 }
 
@@ -63,7 +66,8 @@ pub struct Relocated<E> {
     /// What it writes.
     ///
     /// Errors: `WordType`; `Link` with those of the word in place if it is the addend, and then of
-    /// the symbol; `NoSize`, `CopyKind` and `CallSymbol`.
+    /// the symbol; `NoSize`, `CopyKind` and `CallSymbol`. Of a slot that gets its symbol later: `Link`
+    /// with those of the second word at DT_PLTGOT, and then of the word in place.
     pub word: Result<Word, LoadError>,
 }
 
@@ -71,12 +75,14 @@ pub struct Relocated<E> {
 /// order in which glibc applies them: the packed relocations (DT_RELR), those of DT_RELA and DT_REL,
 /// and those of the procedure linkage table (DT_JMPREL). Records at the end of DT_RELA or DT_REL that
 /// are those of DT_JMPREL again are passed over.
+///
+/// With `Binding::Lazy` each jump slot takes a few passes over the dynamic entries of the file.
 #[derive(Drop)]
 pub struct Words<'s, 'a, E: Record> {
     scope: Scope<'s, 'a, E>,
     file: ElfFile<'a>,
     pub(crate) own: &'s DynamicObject<'a, E>,
-    of: usize,
+    pub(crate) of: usize,
     pub(crate) lazy: bool,
     order: InOrder<'a>,
 }
@@ -106,13 +112,6 @@ pub(crate) fn binds_lazily(view: &DynamicView<'_>, when: Binding) -> bool
     }
 }
 
-// Whether a relocation is a jump slot that gets its symbol when it is called first.
-fn is_lazy(row: &Row, lazy: bool, relocation: &Relocation) -> bool
-    ensures { result ≡ is_lazy row.now lazy relocation.now }
-{
-    lazy && relocation.slot && row.slot
-}
-
 // Whether a formula has a symbol.
 fn takes_symbol(formula: Formula) -> bool
     ensures { result ≡ takes_symbol formula }
@@ -134,30 +133,14 @@ fn takes_addend(formula: Formula) -> bool
     )
 }
 
-// The formula of a relocation. A jump slot that gets its symbol later holds the word in place, moved
-// with the file.
-fn formula_when(row: &Row, lazy: bool, relocation: &Relocation) -> Option<Formula>
-    ensures { result ≡ formula_when row.now lazy relocation.now }
+// Whether the word of a relocation depends on a symbol: not if its slot gets it later.
+pub(crate) fn needs_symbol(machine: u16, later: bool, relocation: &Relocation) -> bool
+    ensures { result ≡ needs_symbol machine later relocation.now }
 {
-    if is_lazy(row, lazy, relocation) {
-        return Some(Formula::Base);
+    if later {
+        return false;
     }
-    row.formula
-}
-
-// Whether the addend is the word in place.
-fn in_place_when(row: &Row, lazy: bool, relocation: &Relocation) -> bool
-    ensures { result ≡ in_place_when row.now lazy relocation.now }
-{
-    relocation.in_place || is_lazy(row, lazy, relocation)
-}
-
-// Whether the word of a relocation depends on a symbol.
-pub(crate) fn needs_symbol(machine: u16, lazy: bool, relocation: &Relocation) -> bool
-    ensures { result ≡ needs_symbol machine lazy relocation.now }
-{
-    let row = row_of(machine, relocation.reference.kind);
-    match formula_when(&row, lazy, relocation) {
+    match row_of(machine, relocation.reference.kind).formula {
         Some(formula) => takes_symbol(formula),
         None => false,
     }
@@ -210,7 +193,7 @@ fn is_in_zeros(file: &ElfFile<'_>, address: u64, width: u64) -> bool
 }
 
 // The word at an address in memory before relocation.
-fn word_in_memory(file: &ElfFile<'_>, address: u64) -> Result<u64, LinkError>
+pub(crate) fn word_in_memory(file: &ElfFile<'_>, address: u64) -> Result<u64, LinkError>
     ensures { result ≡ word_in_memory file.now address }
 {
     match word_at(file, address) {
@@ -220,14 +203,15 @@ fn word_in_memory(file: &ElfFile<'_>, address: u64) -> Result<u64, LinkError>
     }
 }
 
-// Whether a relocation gets the symbol that another gets: it has the type and the symbol of it, and
-// is a slot if it is one.
+// Whether a relocation gets the symbol that another gets: it has the type and the symbol of it, is a
+// slot if it is one, and has its addend where that has it.
 fn asks_as(one: &Relocation, other: &Relocation) -> bool
     ensures { result ≡ asks_as one.now other.now }
 {
     one.reference.symbol == other.reference.symbol
         && one.reference.kind == other.reference.kind
         && one.slot == other.slot
+        && one.in_place == other.in_place
 }
 
 // The addend of a relocation, if the formula has one.
@@ -298,15 +282,18 @@ fn word_of<E: LinkedSymbol>(
     relocation: &Relocation,
     bound: &Result<Option<Bound<E>>, LinkError>,
 ) -> Result<Word, LoadError>
-    ensures { result ≡ word_of E.fields file.now own.now of lazy relocation.now bound.now }
+    ensures { result ≡ word_of E.fields file.now own.now of
+        (is_later E.fields file.now own.now lazy relocation.now) relocation.now bound.now }
 {
     let reference = &relocation.reference;
     let row = row_of(file.header.pt2.machine().raw(), reference.kind);
-    let Some(formula) = formula_when(&row, lazy, relocation) else {
+    if is_later(file, own, lazy, relocation) {
+        return slot_word(file, own, of, row.width, reference);
+    }
+    let Some(formula) = row.formula else {
         return Err(LoadError::WordType);
     };
-    let in_place = in_place_when(&row, lazy, relocation);
-    let addend = match addend_of(file, in_place, formula, reference) {
+    let addend = match addend_of(file, relocation.in_place, formula, reference) {
         Ok(addend) => addend,
         Err(error) => return Err(LoadError::Link(error)),
     };
@@ -358,14 +345,23 @@ impl<'s, 'a, E: LinkedSymbol> Words<'s, 'a, E> {
         self.order.next()
     }
 
+    // The row of the type of relative relocations.
+    pub(crate) fn relative_row(&self) -> Option<Row>
+        ensures { result ≡ relative_of (file_machine (words_file self.now)) }
+    {
+        relative_of(self.file.header.pt2.machine().raw())
+    }
+
     // The symbol that a relocation gets, if its word depends on one.
     fn bound(&self, relocation: &Relocation) -> Result<Option<Bound<E>>, LinkError>
-        ensures { IsBoundIf (needs_symbol (file_machine (words_file self.now)) (words_lazy self.now)
+        ensures { IsBoundIf (needs_symbol (file_machine (words_file self.now))
+            (is_later E.fields (words_file self.now) (words_own self.now) (words_lazy self.now) relocation.now)
             relocation.now) E.fields (words_objects self.now).now (words_index self.now)
             relocation.now.reference result }
     {
         let machine = self.file.header.pt2.machine().raw();
-        if needs_symbol(machine, self.lazy, relocation) {
+        let later = is_later(&self.file, self.own, self.lazy, relocation);
+        if needs_symbol(machine, later, relocation) {
             self.scope.bind(self.of, &relocation.reference)
         } else {
             Ok(None)
@@ -386,8 +382,7 @@ impl<'s, 'a, E: LinkedSymbol> Words<'s, 'a, E> {
         ensures relocation { result.relocation ≡ relocation }
         ensures word { HasWordOf E.fields self.now result }
     {
-        let relative = relative_of(self.file.header.pt2.machine().raw());
-        match relative_word(self.of, &relative, &relocation) {
+        match relative_word(self.of, &self.relative_row(), &relocation) {
             Some(word) => Relocated {
                 relocation,
                 bound: Ok(None),
@@ -422,7 +417,8 @@ impl<'s, 'a, E: LinkedSymbol> Words<'s, 'a, E> {
         relocation: Relocation,
         bound: Result<Option<Bound<E>>, LinkError>,
     ) -> Relocated<E>
-        requires { IsBoundIf (needs_symbol (file_machine (words_file self.now)) (words_lazy self.now)
+        requires { IsBoundIf (needs_symbol (file_machine (words_file self.now))
+            (is_later E.fields (words_file self.now) (words_own self.now) (words_lazy self.now) relocation)
             relocation) E.fields (words_objects self.now).now (words_index self.now)
             relocation.reference bound }
         ensures relocation { result.relocation ≡ relocation }

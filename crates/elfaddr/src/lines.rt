@@ -11,7 +11,7 @@ ghost use Rattle.program_ends.specs.Appended.{AppendsSome};
 ghost use Rattle.program_ends.specs.declared.json.Form.TheVariants.{Json};
 
 use crate::names::{Named, or_mark};
-use elf_addresses::{Claim, ClaimIndex, IndexSize, build_index, index_size, innermost, section_at};
+use elf_addresses::{Claim, ClaimIndex, IndexSize, build_sized, index_size, innermost, section_at};
 use elf_linking::LinkError;
 use program_ends::json::{Form, Member, Value, write_json};
 use program_ends::{Output, Stop, write_name};
@@ -52,7 +52,7 @@ impl<C: Named> Output for Lines<'_, '_, C> {
         let mut words = words.unwrap_or(Vec::new(self.alloc));
         let numbers = vec![in self.alloc; 0; numbers];
         let mut numbers = numbers.unwrap_or(Vec::new(self.alloc));
-        match build_index(self.claims, &mut words, &mut numbers) {
+        match build_sized(self.claims, size, &mut words, &mut numbers) {
             Ok(()) => match write_indexed(self, size, &words, &numbers, out) {
                 Ok(()) => Ok(()),
                 Err(_) => Err(Stop::Write),

@@ -47,3 +47,10 @@ module _ {E : Type 0} {r : _} (fields : E → SymbolFields) (form : Form) (when 
     some_so (slice_get inputs of) (λ (input : Input). path ≡ input.path) (λ (input : Input). failed.path ≡ input.path) (λ (input : Input) is. subst (λ (p : Bor (List ℕ)). failed.path ≡ p) is told.0) named,
     by_word lent words failed.error same are told.1,
   )) (λ written. written) (λ never. never) why
+
+  -- the same with the binding that is asked for
+  pub object_ends_asked : (asked : Binding) → when ≡ asked → (new : Option (List ℕ)) (result : Result (Unit {0}) (Stop (reasons.Failed LoadError))) → MatchResult result (λ done. AppendsSome (IsItemsText fields (place_of form path machine of) words) begun new) (IsStop (λ failed. (failed.path ≡ path) × IsWordError fields words failed.error) ⊤ ⊥)
+      → MatchResult result (λ done. IsSomeAnd (slice_get objects of) (λ one. AppendsSome (IsObjectText fields form asked inputs objects of one) old new)) (IsStop (λ failed. IsOfInput inputs of failed × IsTextError fields asked objects of failed.error) ⊤ ⊥)
+  object_ends_asked asked asked_is new result is =
+      subst (λ (w : Binding). MatchResult result (λ done. IsSomeAnd (slice_get objects of) (λ one. AppendsSome (IsObjectText fields form w inputs objects of one) old new)) (IsStop (λ failed. IsOfInput inputs of failed × IsTextError fields w objects of failed.error) ⊤ ⊥))
+      asked_is (object_ends new result is)

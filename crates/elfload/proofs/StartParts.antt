@@ -12,7 +12,7 @@ use Rattle.elfload.proofs.WordLines.{flat_map_more}
 use Rattle.elfload.specs.Starts.{IsGroup, IsPartError, IsPartOf, IsStepFailed}
 use Rattle.elfload.specs.Types.{DynamicObject, Input, LoadError, Stop}
 use Rattle.elfload.specs.declared.starts.Start.{Start}
-use Rattle.elfload.specs.declared.starts.Step.{Step}
+use Rattle.elfload.specs.declared.steps.Step.{Step}
 use Rattle.linking_programs.specs.declared.Failed as reasons
 use Rattle.program_ends.proofs.Ends.{stop_so}
 use Rattle.program_ends.specs.Appended.{AppendsSome}

@@ -4,8 +4,8 @@ use Rattle.std.proofs.lemmas.List.{take_more}
 use Rattle.std.specs.List.{flat_map}
 use Rattle.elfload.proofs.WordLines.{flat_map_more}
 use Rattle.elfload.specs.Starts.{library_steps, own_steps, place_in, start_steps, step}
-use Rattle.elfload.specs.declared.starts.Part.TheVariants.{Entry, Preinit}
-use Rattle.elfload.specs.declared.starts.Step.{Step}
+use Rattle.elfload.specs.declared.steps.Part.TheVariants.{Entry, Preinit}
+use Rattle.elfload.specs.declared.steps.Step.{Step}
 
 module _ (list : List ℕ) where
   -- the steps before, and those of the libraries with these numbers

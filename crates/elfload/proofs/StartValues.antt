@@ -16,9 +16,9 @@ use Rattle.elfload.proofs.WordLines.{same_then}
 use Rattle.elfload.specs.Starts.{AreInPlace, AreRelocated, AreSet, AreValues, IsArrayError, IsSlotError, by_words, more_in_place, none_in_place, numbered, slot_address, slot_at, start_of, with_items, with_value, with_word}
 use Rattle.elfload.specs.Types.{DynamicObject, ElfFile, LinkError, LoadError, Relocated, Relocation, Stop, Value, Word, Words}
 use Rattle.elfload.specs.Words.{HasKnownWord, IsTextError, IsWordError, by_word, is_unchanged}
-use Rattle.elfload.specs.declared.starts.Slots.{Slots}
+use Rattle.elfload.specs.declared.arrays.Slots.{Slots}
 use Rattle.elfload.specs.declared.starts.Start.{Start}
-use Rattle.elfload.specs.declared.starts.Step.{Step}
+use Rattle.elfload.specs.declared.steps.Step.{Step}
 use Rattle.linking_programs.specs.declared.Failed as reasons
 use Rattle.program_ends.proofs.Ends.{stop_so}
 use Rattle.program_ends.specs.Stops.{IsStop}

@@ -9,7 +9,7 @@ use Rattle.elfload.specs.Plans.{IsInputLoaded, IsInputPlan, IsInputError as IsPl
 use Rattle.elfload.specs.Starts.{AreStartsFailed, AreStartsOf, start_line}
 use Rattle.elfload.specs.Words.{AreWordsWritten, IsTextFailed}
 use Rattle.elfload.specs.declared.starts.Start.{Start}
-use Rattle.elfload.specs.declared.starts.Step.{Step}
+use Rattle.elfload.specs.declared.steps.Step.{Step}
 use Rattle.elfload.specs.declared.Options.{Options}
 use Rattle.elfload.specs.declared.plans.AnyError.{AnyError}
 use Rattle.elfload.specs.declared.plans.AnyError.TheVariants.{Load}

@@ -27,11 +27,11 @@ pub record AreDynamic (bytes : List ℕ) : Type 0 where
   pub header_is : header_of bytes ≡ Ok file.header
   pub has_segment : is_some (dynamic_segment_of file) ≡ true
 
--- the same of each input
-abbrev pub AreAllDynamic : List Input → Type 0
-AreAllDynamic inputs = (i : ℕ) → IfSome (slice_get inputs i) (λ input. AreDynamic input.bytes.items)
+-- none of the inputs is a file with a dynamic segment
+abbrev pub AreAllStatic : List Input → Type 0
+AreAllStatic inputs = (i : ℕ) → IfSome (slice_get inputs i) (λ input. AreStatic input.bytes.items)
 
--- one of the inputs is no file with a dynamic segment
-pub record HasStatic (inputs : List Input) : Type 0 where
+-- one of the inputs is a file with a dynamic segment
+pub record HasDynamic (inputs : List Input) : Type 0 where
   pub index : ℕ
-  pub is_static : IsSomeAnd (slice_get inputs index) (λ input. AreStatic input.bytes.items)
+  pub is_dynamic : IsSomeAnd (slice_get inputs index) (λ input. AreDynamic input.bytes.items)

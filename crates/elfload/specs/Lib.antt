@@ -2,10 +2,12 @@ pub mod Ends
 pub mod Files
 pub mod Found
 pub mod Images
+pub mod Interpreter
 pub mod PlanRecords
 pub mod Plans
 pub mod Records
 pub mod Starts
+pub mod Statuses
 pub mod Texts
 pub mod Types
 pub mod Verdicts

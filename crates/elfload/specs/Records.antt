@@ -4,21 +4,11 @@ use Rattle.elf_loading.specs.declared.value.Origin.TheVariants.{Base, Call, Zero
 use Rattle.elf_loading.specs.declared.value.Value.TheVariants.{Copy, Descriptor, Distance, Module, Sum, Thread, ThreadNegated, Unchanged}
 use Rattle.elfload.specs.Types.{Origin, Value}
 use Rattle.elfload.specs.declared.records.Numbers.{Numbers}
-use Rattle.program_ends.specs.Json.{member, text_value}
+use Rattle.program_ends.specs.Json.{member, number_or_null, text_value}
 use Rattle.program_ends.specs.declared.json.Member.{Member}
 use Rattle.program_ends.specs.declared.json.Value as json
 use Rattle.program_ends.specs.declared.json.Value.TheVariants.{Null, Number}
 use Rattle.xmas_elf.specs.Types.{Flags}
-
--- a number, or null
-abbrev pub number_or_null : Option ℕ → json.Value
-number_or_null None = Null
-number_or_null (Some number) = Number number
-
--- a text, or null
-abbrev pub text_or_null : Option (List ℕ) → json.Value
-text_or_null None = Null
-text_or_null (Some text) = text_value text
 
 -- the flags of a segment, or null
 abbrev pub flags_or_null : Option Flags → json.Value

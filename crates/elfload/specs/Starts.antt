@@ -16,15 +16,15 @@ use Rattle.elf_loading.specs.declared.error.LoadError.TheVariants.{Link}
 use Rattle.elf_loading.specs.declared.value.Origin.TheVariants.{Base, Zero}
 use Rattle.elf_loading.specs.declared.value.Value.TheVariants.{Sum}
 use Rattle.elf_loading.specs.declared.words.Binding.TheVariants.{Now}
-use Rattle.elfload.specs.Records.{number_or_null, value_members}
+use Rattle.elfload.specs.Records.{value_members}
 use Rattle.elfload.specs.Types.{DynamicObject, ElfFile, Failed, Input, LinkError, LoadError, Relocated, Value, Word, Words}
 use Rattle.elfload.specs.Words.{AreItemsOf, IsTextError, is_unchanged, value_text}
-use Rattle.elfload.specs.declared.starts.Part.{Part}
-use Rattle.elfload.specs.declared.starts.Part.TheVariants.{Entry, Init, InitArray, Preinit}
-use Rattle.elfload.specs.declared.starts.Slots.{Slots}
+use Rattle.elfload.specs.declared.arrays.Slots.{Slots}
 use Rattle.elfload.specs.declared.starts.Start.{Start}
-use Rattle.elfload.specs.declared.starts.Step.{Step}
-use Rattle.program_ends.specs.Json.{json_line, member, text_value}
+use Rattle.elfload.specs.declared.steps.Part.{Part}
+use Rattle.elfload.specs.declared.steps.Part.TheVariants.{Entry, Init, InitArray, Preinit}
+use Rattle.elfload.specs.declared.steps.Step.{Step}
+use Rattle.program_ends.specs.Json.{json_line, member, number_or_null, text_value}
 use Rattle.program_ends.specs.declared.json.Form.{Form}
 use Rattle.program_ends.specs.declared.json.Form.TheVariants.{Json, Text}
 use Rattle.xmas_elf.specs.Symbol.{SymbolFields}

@@ -11,10 +11,11 @@ use Rattle.elf_loading.specs.declared.error.LoadError.TheVariants.{Link}
 use Rattle.elf_loading.specs.declared.value.Origin.TheVariants.{Base, Call, Zero}
 use Rattle.elf_loading.specs.declared.value.Value.TheVariants as values
 use Rattle.linking_programs.specs.Files.{IsOfInput}
-use Rattle.elfload.specs.Records.{text_or_null, value_members}
+use Rattle.elfload.specs.Interpreter.{binding_of}
+use Rattle.elfload.specs.Records.{value_members}
 use Rattle.elfload.specs.Texts.{hex}
 use Rattle.elfload.specs.declared.words.Place.{Place}
-use Rattle.program_ends.specs.Json.{json_line, member, text_value}
+use Rattle.program_ends.specs.Json.{json_line, member, text_or_null, text_value}
 use Rattle.program_ends.specs.declared.json.Form.{Form}
 use Rattle.program_ends.specs.declared.json.Form.TheVariants.{Json, Text}
 use Rattle.program_ends.specs.declared.json.Value.TheVariants.{Number}
@@ -151,6 +152,10 @@ pub record IsObjectText {E : Type 0} {r : _} (fields : E → SymbolFields) (form
       IsItemsText fields (place_of form input.path (file_machine (object_file object)) of) words items
       × (text ≡ heading_text form input.path.now ++ items))
 
+-- the same with the binding that is asked for, but of the interpreter with each symbol at once
+abbrev pub IsAskedText : {E : Type 0} → {r : _} → (E → SymbolFields) → Form → Binding → List Input → List (DynamicObject E r) → ℕ → DynamicObject E r → List ℕ → Type 0
+IsAskedText fields form when inputs objects of = IsObjectText fields form (binding_of objects when of) inputs objects of
+
 -- what is written of some items in order: for each, by its index, a text
 pub data AreTexts {A : Type 0} (Is : ℕ → A → List ℕ → Type 0) : List A → List ℕ → Type 0 where
   nothing : AreTexts Is [] []
@@ -159,7 +164,7 @@ pub data AreTexts {A : Type 0} (Is : ℕ → A → List ℕ → Type 0) : List A
 
 -- the text of all objects, which are those of the inputs
 abbrev pub AreWordsWritten : {E : Type 0} → {r : _} → (E → SymbolFields) → Form → Binding → List Input → List (DynamicObject E r) → List ℕ → Type 0
-AreWordsWritten fields form when inputs objects = AreTexts (IsObjectText fields form when inputs objects) objects
+AreWordsWritten fields form when inputs objects = AreTexts (IsAskedText fields form when inputs objects) objects
 
 -- why the text ends before the last word: the relocations of the object at an index can't be read, or one of them has a
 -- word that is not known
@@ -173,4 +178,4 @@ pub data IsTextError {E : Type 0} {r : _} (fields : E → SymbolFields) (when : 
 pub record IsTextFailed {E : Type 0} {r : _} (fields : E → SymbolFields) (when : Binding) (inputs : List Input) (objects : List (DynamicObject E r)) (failed : Failed LoadError) : Type 0 where
   pub of : ℕ
   pub path_is : IsOfInput inputs of failed
-  pub error_is : IsTextError fields when objects of failed.error
+  pub error_is : IsTextError fields (binding_of objects when of) objects of failed.error

@@ -1,23 +1,23 @@
 //! Whether the files have dynamic segments.
 
 ghost use Rattle.std.specs.Prelude.{IsFalse, IsTrue};
-ghost use Rattle.elfload.specs.Files.{AreAllDynamic, AreDynamic, AreStatic, HasStatic};
+ghost use Rattle.elfload.specs.Files.{AreAllStatic, AreDynamic, AreStatic, HasDynamic};
 
 use elf_linking::view::dynamic_segment;
 use linking_programs::Input;
 use xmas_elf::ElfFile;
 
-// Whether all files have a dynamic segment.
-pub(crate) fn all_dynamic(inputs: &[Input<'_>]) -> bool
-    ensures no { IsFalse result → HasStatic inputs.now }
-    ensures yes { IsTrue result → AreAllDynamic inputs.now }
+// Whether one of the files has a dynamic segment.
+pub(crate) fn has_dynamic(inputs: &[Input<'_>]) -> bool
+    ensures no { IsFalse result → AreAllStatic inputs.now }
+    ensures yes { IsTrue result → HasDynamic inputs.now }
 {
     for input in inputs {
-        if !is_dynamic(&input.bytes) {
-            return false;
+        if is_dynamic(&input.bytes) {
+            return true;
         }
     }
-    true
+    false
 }
 
 // Whether bytes are a file with a dynamic segment.

@@ -3,67 +3,61 @@
 //! `elfload PROGRAM` finds the libraries of the program as its loader does; `elfload --alone FILE` takes the
 //! file by itself, and `elfload FILE..` a program and its libraries, in the order in which they are loaded.
 //! It writes for each file its header, what else a loader asks for, and its mappings by both loaders, as they are
-//! in /proc/PID/maps, relative to the base. If each file has a dynamic segment, then it writes for
+//! in /proc/PID/maps, relative to the base. Unless no file has a dynamic segment, it then writes for
 //! each file the words that its relocations write, as `word 0xADDRESS WIDTH TYPE = VALUE`. `--lazy`
-//! before the other options: jump slots get their symbols when they are called first. `--page SIZE` after
-//! this is the size of a page, 4096 without it.
+//! before the other options: jump slots get their symbols when they are called first; those of the
+//! interpreter of the first file, which relocates itself, get them at once. `--page SIZE` after this is
+//! the size of a page, 4096 without it.
 //!
 //! `elfload --start PROGRAM` writes which functions run when the program starts, in order.
 //!
 //! `elfload --kernel FILE..` and `elfload --glibc FILE..` write only whether one loader maps each file.
 #![tactic(auto)]
 
-ghost use Rattle.std.specs.Prelude.{◌≡◌, ◌≢◌, ◌<◌, ◌≤◌, ◌⊎◌, Err, IfErr, IfOk, IfSome, List, MatchResult, Ok};
-ghost use Rattle.std.specs.Prelude.{IsFalse, IsTrue, OnOk, Result, length, ⊤};
-ghost use Rattle.elf_linking.specs.declared.object.DynamicObject.{DynamicObject};
-ghost use Rattle.elfload.specs.Ends.{AreFailed, IsBegun, IsEnd, IsFault, IsStartText, IsWordsEnd};
-ghost use Rattle.elfload.specs.Ends.{IsWritingFailed, IsWritten, load_stop, words_fault_of};
-ghost use Rattle.elfload.specs.Files.{AreLoaded, HasStatic};
+ghost use Rattle.std.specs.Prelude.{◌≡◌, ◌≢◌, ◌<◌, ◌≤◌, ◌⊎◌, IfErr, IfOk, IsFalse, IsTrue, Result, max};
+ghost use Rattle.elfload.specs.Ends.{IsBegun, IsEnd, IsFault, IsWordsEnd};
+ghost use Rattle.elfload.specs.Files.{AreAllStatic, AreLoaded};
 ghost use Rattle.elfload.specs.Found.{IsFoundGood, IsStartGood};
-ghost use Rattle.elfload.specs.Images.{AreImagesGood, AreInputsChecked};
+ghost use Rattle.elfload.specs.Images.{AreImagesGood};
 ghost use Rattle.elfload.specs.Plans.{IsInputLoaded, IsInputPlan, IsInputError};
-ghost use Rattle.elfload.specs.Starts.{AreStartsFailed};
-ghost use Rattle.elfload.specs.Verdicts.{option_of};
+ghost use Rattle.elfload.specs.Statuses.{ArePlanEnds, IsRunStatus};
 ghost use Rattle.elfload.specs.declared.plans.AnyError.{AnyError};
-ghost use Rattle.linking_programs.specs.Files.{AreObjectsOf};
 ghost use Rattle.program_ends.specs.Appended.{AppendsSome};
 ghost use Rattle.program_ends.specs.Ends.{quiet_status_of};
-ghost use Rattle.program_ends.specs.Stops.{IsStop};
 ghost use Rattle.program_ends.specs.declared.Fault.{Fault};
 ghost use Rattle.program_ends.specs.declared.TheConstants.{CLOSED};
 ghost use Rattle.program_libraries.specs.Complete.{IsComplete};
 
-use crate::files::all_dynamic;
-use crate::images::{check_images, read_plans};
+use crate::files::has_dynamic;
+use crate::paths::run_on_arguments;
 use crate::plans::{AnyError, Plan};
-use crate::starts::{StartLines, Step, early_starts, read_starts, start_steps};
-use crate::verdicts::run_verdicts;
-use crate::words::WordsText;
+use crate::printing::print_words;
+use crate::steps::{Step, early_starts, start_steps};
 use elf_base::bytes::Record;
-use elf_linking::view::LinkedSymbol;
-use elf_linking::{DynamicObject, LinkError};
-use elf_loading::{Binding, LoadError, Loader};
-use linking_programs::{Failed, Input, failure, is_first_narrow, read_inputs, read_objects};
-use program_ends::json::{Form, form_asked};
+use elf_loading::Binding;
+use linking_programs::Input;
+use program_ends::json::Form;
 use program_ends::{
-    CLOSED, Fault, Stop, Watched, arguments, exit_code, fault_of, quiet_status_of, say,
-    write_about, write_buffered,
+    CLOSED, Fault, Watched, exit_code, fault_of, quiet_status_of, say, write_buffered,
 };
-use program_libraries::{
-    Finder, Given, Settings, StoredFile, Tree, given_files, listed_inputs, say_error, say_missing,
-    with_missing,
-};
+use program_libraries::{StoredFile, Tree, listed_inputs, say_missing, with_missing};
 use std::alloc::Global;
-use std::io;
 use std::io::Write;
 use std::process::ExitCode;
 use xmas_elf::symbol_table::{DynEntry32, DynEntry64};
 
+mod arguments;
+mod arrays;
 mod files;
 mod images;
+mod interpreter;
+mod paths;
 mod plans;
+mod printing;
 mod records;
+mod start_lines;
 mod starts;
+mod steps;
 mod verdicts;
 mod words;
 
@@ -75,10 +69,10 @@ const USAGE: &str =
 
 const HELP: &str =
     "Prints the header of each file, what else a loader asks for, and what Linux (kernel) and glibc map;
-then, if each has a dynamic segment, what relocations write, for a program and its libraries. The libraries
+then, unless none has a dynamic segment, what relocations write, for a program and its libraries. The libraries
 of one file are found; several files are in the order in which they are loaded.
 --json               before the other options: a JSON object on each line
---lazy               jump slots get their symbols when they are called first
+--lazy               jump slots get their symbols when they are called first, except those of the interpreter
 --page <size>        the size of a page in bytes, a power of two; 4096 without it
 --alone              the file without its libraries
 --root DIR           the program and its libraries are under DIR, the root of another system
@@ -95,7 +89,7 @@ Without --kernel and --glibc a file must pass a list that is stricter than both.
 pub struct Options<'s> {
     /// The size of a page.
     pub page: u64,
-    /// When jump slots get their symbols.
+    /// When jump slots get their symbols; those of the interpreter of the first file get them at once.
     pub when: Binding,
     /// How the lines are written.
     pub form: Form,
@@ -103,14 +97,15 @@ pub struct Options<'s> {
     pub steps: Option<&'s [Step]>,
 }
 
-/// Writes the plan of each file to `out` and, if each has a dynamic segment, the words of each, or
+/// Writes the plan of each file to `out` and, if one has a dynamic segment, the words of each, or
 /// the reasons why it can't to `err`, and returns the exit status.
 ///
 /// The status is 0 once all is written and flushed; `CLOSED`, and nothing more is written or said, if a
 /// write failed since nobody reads the output; and 1 otherwise. By the contract it is 0 only if
-/// each file has a plan (`check_load`), and if, where each has a dynamic segment, the checks of the
-/// symbols and of the images of all files pass. The contracts of `run_plan` and `run_words` say which
-/// fault there can be otherwise. None says what `out` and `err` hold.
+/// each file has a plan (`check_load`), and if, where one has a dynamic segment, the checks of the
+/// symbols and of the images of all files pass, which have dynamic segments; and it is 1 only if the plan of a file has a fault, as
+/// in the contract of `run_plan`, or the words have, as in that of `run_words`. None says what `out`
+/// and `err` hold.
 pub fn run<W: Write, E: Write>(
     alloc: Global,
     asked: Options<'_>,
@@ -122,14 +117,16 @@ pub fn run<W: Write, E: Write>(
     ensures bound { result ≢ CLOSED → result ≤ 1 }
     ensures closed { result ≡ CLOSED → IsTrue out.new.closed }
     ensures loaded { result ≡ 0 → AreLoaded asked.entry.page inputs.now }
-    ensures checked { result ≡ 0 → HasStatic inputs.now
+    ensures checked { result ≡ 0 → AreAllStatic inputs.now
         ⊎ AreImagesGood ⟦<DynEntry32 as Record>⟧ ⟦<DynEntry64 as Record>⟧ asked.entry.page inputs.now }
+    ensures status { result ≢ CLOSED
+        → IsRunStatus ⟦<DynEntry32 as Record>⟧ ⟦<DynEntry64 as Record>⟧ asked.entry inputs.now result }
 {
     let status = run_plans(alloc, asked.form, asked.page, inputs, &mut *out, &mut *err);
     if status != 0 {
         return status;
     }
-    if !all_dynamic(inputs) {
+    if !has_dynamic(inputs) {
         return 0;
     }
     run_words(alloc, asked, inputs, out, err)
@@ -248,6 +245,7 @@ fn run_plans<W: Write, E: Write>(
     ensures bound { result ≢ CLOSED → result ≤ 1 }
     ensures closed { result ≡ CLOSED → IsTrue out.new.closed }
     ensures loaded { result ≡ 0 → AreLoaded page inputs.now }
+    ensures ends { result ≢ CLOSED → ArePlanEnds form page inputs.now result }
 {
     let mut status = 0;
     for input in inputs {
@@ -278,9 +276,7 @@ pub(crate) fn is_shut(status: u8) -> bool
 
 // The greater of two statuses.
 fn worse(one: u8, other: u8) -> u8
-    ensures one { one ≤ result }
-    ensures other { other ≤ result }
-    ensures bound { one ≤ 1 → other ≤ 1 → result ≤ 1 }
+    ensures { result ≡ max one other }
 {
     one.max(other)
 }
@@ -387,348 +383,6 @@ pub fn run_words<W: Write, E: Write>(
     quiet_status_of(NAME, ended, out.is_closed(), err)
 }
 
-// Writes the words of the files, by the class of the first.
-fn print_words<'a, W: Write>(
-    alloc: Global,
-    asked: Options<'_>,
-    inputs: &'a [Input<'_>],
-    out: &mut W,
-) -> Result<(), Fault<'a, AnyError>>
-    requires { 0 < asked.page }
-    ensures { IsWordsEnd ⟦<DynEntry32 as Record>⟧ ⟦<DynEntry64 as Record>⟧ asked.entry inputs.now result }
-{
-    if is_first_narrow(inputs) {
-        ended(print::<DynEntry32, _>(alloc, asked, inputs, &mut *out))
-    } else {
-        // A file of another class than 64 has an error there.
-        ended(print::<DynEntry64, _>(alloc, asked, inputs, &mut *out))
-    }
-}
-
-// What the program says, by how the output ended.
-fn ended<W: Drop>(
-    written: Result<W, Stop<Failed<'_, LoadError>>>,
-) -> Result<(), Fault<'_, AnyError>>
-    ensures { MatchResult written.entry (λ _. result ≡ Ok tt)
-        (λ stop. result ≡ Err (words_fault_of stop)) }
-{
-    match written {
-        Ok(_) => Ok(()),
-        Err(stop) => Err(words_fault_of(stop)),
-    }
-}
-
-// What the program says where the words aren't written to their end.
-fn words_fault_of(stop: Stop<Failed<'_, LoadError>>) -> Fault<'_, AnyError>
-    ensures { result ≡ words_fault_of stop.entry }
-{
-    match stop {
-        Stop::Failed(failed) => Fault::Failed {
-            path: failed.path,
-            error: AnyError::Load(failed.error),
-        },
-        Stop::Write => Fault::Write,
-        Stop::Memory => Fault::Memory,
-    }
-}
-
-// Writes the words of files of a class, and gives the writer back.
-fn print<'a, E: LinkedSymbol, W: Write + Drop>(
-    alloc: Global,
-    asked: Options<'_>,
-    inputs: &'a [Input<'_>],
-    out: W,
-) -> Result<W, Stop<Failed<'a, LoadError>>>
-    requires { 0 < asked.page }
-    ensures checked { OnOk result
-        (AreInputsChecked {E = E} E.Record E.fields E.CLASS E.SIZE asked.entry.page inputs.now) }
-    ensures written { IfOk result (λ back. (objects : List (DynamicObject E E.Record))
-        × AreObjectsOf E.CLASS E.SIZE inputs.now objects
-        × AppendsSome (IsWritten E.fields asked.entry inputs.now objects)
-        (W.contents out) (W.contents back)) }
-    ensures stopped { IfErr result
-        (IsStop (AreFailed {E = E} E.Record E.fields E.CLASS E.SIZE asked.entry inputs.now)
-        (AreInputsChecked {E = E} E.Record E.fields E.CLASS E.SIZE asked.entry.page inputs.now) ⊤) }
-{
-    let objects = match read_objects::<E>(alloc, inputs) {
-        Ok(objects) => objects,
-        Err(stop) => return Err(load_stop(stop)),
-    };
-    print_checked(alloc, asked, inputs, &objects, out)
-}
-
-// Writes the words of files, of which these are the objects, and gives the writer back.
-fn print_checked<'a, E: LinkedSymbol, W: Write + Drop>(
-    alloc: Global,
-    asked: Options<'_>,
-    inputs: &'a [Input<'_>],
-    objects: &[DynamicObject<'_, E>],
-    out: W,
-) -> Result<W, Stop<Failed<'a, LoadError>>>
-    requires paged { 0 < asked.page }
-    requires same { length objects.now ≡ length inputs.now }
-    requires own { AreObjectsOf E.CLASS E.SIZE inputs.now objects.now }
-    ensures checked { OnOk result
-        (AreInputsChecked {E = E} E.Record E.fields E.CLASS E.SIZE asked.entry.page inputs.now) }
-    ensures written { IfOk result (λ back. AppendsSome
-        (IsWritten E.fields asked.entry inputs.now objects.now) (W.contents out) (W.contents back)) }
-    ensures stopped { IfErr result
-        (IsStop (AreFailed {E = E} E.Record E.fields E.CLASS E.SIZE asked.entry inputs.now)
-        (AreInputsChecked {E = E} E.Record E.fields E.CLASS E.SIZE asked.entry.page inputs.now) ⊤) }
-{
-    let plans = match read_plans(alloc, asked.page, inputs, objects) {
-        Ok(plans) => plans,
-        Err(stop) => return Err(stop),
-    };
-    match check_images(alloc, inputs, objects, &plans) {
-        Ok(()) => write_asked(alloc, asked, inputs, objects, out),
-        Err(stop) => Err(stop),
-    }
-}
-
-// Writes what is asked of these objects, and gives the writer back.
-fn write_asked<'a, E: LinkedSymbol, W: Write + Drop>(
-    alloc: Global,
-    asked: Options<'_>,
-    inputs: &'a [Input<'_>],
-    objects: &[DynamicObject<'_, E>],
-    out: W,
-) -> Result<W, Stop<Failed<'a, LoadError>>>
-    requires same { length objects.now ≡ length inputs.now }
-    ensures { MatchResult result (λ back. AppendsSome (IsWritten E.fields asked.entry inputs.now objects.now)
-        (W.contents out) (W.contents back))
-        (IsStop (IsWritingFailed E.fields asked.entry inputs.now objects.now) ⊤ ⊤) }
-{
-    match asked.steps {
-        Some(steps) => write_steps(alloc, asked.form, steps, inputs, objects, out),
-        None => {
-            let text = WordsText {
-                form: asked.form,
-                when: asked.when,
-                inputs,
-                objects,
-            };
-            write_buffered(alloc, &text, out)
-        }
-    }
-}
-
-// Writes which functions run in these steps, and gives the writer back.
-fn write_steps<'a, E: LinkedSymbol, W: Write + Drop>(
-    alloc: Global,
-    form: Form,
-    steps: &[Step],
-    inputs: &'a [Input<'_>],
-    objects: &[DynamicObject<'_, E>],
-    out: W,
-) -> Result<W, Stop<Failed<'a, LoadError>>>
-    requires { length objects.now ≡ length inputs.now }
-    ensures { MatchResult result
-        (λ back. AppendsSome (IsStartText E.fields form inputs.now objects.now steps.now)
-        (W.contents out) (W.contents back))
-        (IsStop (AreStartsFailed E.fields inputs.now objects.now steps.now) ⊤ ⊤) }
-{
-    match read_starts(alloc, steps, inputs, objects) {
-        Ok(starts) => {
-            let lines = StartLines {
-                form,
-                starts: &starts,
-            };
-            write_buffered(alloc, &lines, out)
-        }
-        Err(stop) => Err(stop),
-    }
-}
-
-// Why files are not read, as an error of a loader.
-fn load_stop(stop: Stop<Failed<'_, LinkError>>) -> Stop<Failed<'_, LoadError>>
-    ensures { result ≡ load_stop stop.entry }
-{
-    match stop {
-        Stop::Failed(failed) => failure(failed.path, LoadError::Link(failed.error)),
-        Stop::Write => Stop::Write,
-        Stop::Memory => Stop::Memory,
-    }
-}
-
 fn main(rt: HostRuntime) -> ExitCode {
     exit_code(NAME, run_on_arguments(&rt), &mut rt.stderr())
-}
-
-// The status, or why the arguments can't be read: for want of memory, or since one is not UTF-8.
-fn run_on_arguments(rt: &HostRuntime) -> io::Result<u8> {
-    let words = arguments(rt)?;
-    let (mut out, mut err) = (Watched::new(rt.stdout()), rt.stderr());
-    if let Some(status) = write_about(NAME, USAGE, HELP, &words, &mut out, &mut err) {
-        return Ok(status);
-    }
-    let (form, rest) = form_asked(&words);
-    if let Some((by, page, paths)) = asked_of_loader(rest) {
-        return Ok(run_on_each(rt, by, form, page, paths, &mut out, &mut err));
-    }
-    if let Some((page, settings, path)) = asked_of_start(rest) {
-        return Ok(run_start_on(rt, form, page, settings, path, &mut out, &mut err));
-    }
-    let Some((asked, given)) = asked(form, rest) else {
-        return Ok(say("usage", &USAGE, &mut out));
-    };
-    match given {
-        Given::Program(settings, path) => {
-            Ok(run_on_program(rt, asked, settings, path, &mut out, &mut err))
-        }
-        Given::Files(paths) => Ok(run_on_files(rt, asked, paths, &mut out, &mut err)),
-    }
-}
-
-// Writes what is asked of the program at a path and its libraries, or why there is none.
-fn run_on_program<W: Write, E: Write>(
-    rt: &HostRuntime,
-    asked: Options<'_>,
-    settings: Settings<'_>,
-    path: &str,
-    out: &mut Watched<W>,
-    err: &mut E,
-) -> u8
-    requires { 0 < asked.page }
-{
-    let mut finder = match Finder::new(rt, settings) {
-        Ok(finder) => finder,
-        Err(error) => return say_error(NAME, &error, err),
-    };
-    match finder.find(rt, path) {
-        Ok(tree) => run_found(rt.alloc(), asked, finder.files(), &tree, out, err),
-        Err(error) => say_error(NAME, &error, err),
-    }
-}
-
-// Writes which functions run when the program at a path starts, or why there is no such program.
-fn run_start_on<W: Write, E: Write>(
-    rt: &HostRuntime,
-    form: Form,
-    page: u64,
-    settings: Settings<'_>,
-    path: &str,
-    out: &mut Watched<W>,
-    err: &mut E,
-) -> u8
-    requires { 0 < page }
-{
-    let mut finder = match Finder::new(rt, settings) {
-        Ok(finder) => finder,
-        Err(error) => return say_error(NAME, &error, err),
-    };
-    match finder.find(rt, path) {
-        Ok(tree) => run_start(rt.alloc(), form, page, finder.files(), &tree, out, err),
-        Err(error) => say_error(NAME, &error, err),
-    }
-}
-
-// Writes what is asked of the files at some paths, or which can't be read.
-fn run_on_files<W: Write, E: Write>(
-    rt: &HostRuntime,
-    asked: Options<'_>,
-    paths: &[String],
-    out: &mut Watched<W>,
-    err: &mut E,
-) -> u8
-    requires { 0 < asked.page }
-{
-    match read_inputs::<_, AnyError>(rt, paths) {
-        Ok(inputs) => run(rt.alloc(), asked, &inputs, out, err),
-        Err(fault) => say(NAME, &fault, err),
-    }
-}
-
-// Writes whether a loader maps each of the files at some paths, or which can't be read.
-fn run_on_each<W: Write, E: Write>(
-    rt: &HostRuntime,
-    by: Loader,
-    form: Form,
-    page: u64,
-    paths: &[String],
-    out: &mut Watched<W>,
-    err: &mut E,
-) -> u8
-    requires { 0 < page }
-{
-    match read_inputs::<_, AnyError>(rt, paths) {
-        Ok(inputs) => run_verdicts(by, form, page, &inputs, out, err),
-        Err(fault) => say(NAME, &fault, err),
-    }
-}
-
-// The size of a page, how libraries are found, and the program whose start is asked for, if it is asked for as it should be.
-fn asked_of_start(arguments: &[String]) -> Option<(u64, Settings<'_>, &str)>
-    ensures { IfSome result (λ asked. 0 < asked.0) }
-{
-    let (first, others) = arguments.split_first()?;
-    if first.as_str() != "--start" {
-        return None;
-    }
-    let (page, rest) = page_of(others)?;
-    match given_files(rest)? {
-        Given::Program(settings, path) => Some((page, settings, path)),
-        Given::Files(_) => None,
-    }
-}
-
-// The loader that is asked for, the size of a page, and the files, if one loader is asked for as it should be.
-fn asked_of_loader(arguments: &[String]) -> Option<(Loader, u64, &[String])>
-    ensures { IfSome result (λ asked. 0 < asked.1) }
-{
-    let (first, others) = arguments.split_first()?;
-    let by = loader_of(first.as_str())?;
-    let (page, paths) = page_of(others)?;
-    let (path, _) = paths.split_first()?;
-    if path.as_str().starts_with("--") {
-        return None;
-    }
-    Some((by, page, paths))
-}
-
-// The loader that an option names.
-fn loader_of(option: &str) -> Option<Loader>
-    ensures { IfSome result (λ by. option.now ≡ option_of by) }
-{
-    match option {
-        "--kernel" => Some(Loader::Kernel),
-        "--glibc" => Some(Loader::Glibc),
-        _ => None,
-    }
-}
-
-// What the arguments ask for, and of which files, if they are as they should be.
-fn asked(form: Form, arguments: &[String]) -> Option<(Options<'_>, Given<'_>)>
-    ensures { IfSome result (λ asked. 0 < asked.0.page) }
-{
-    let (first, others) = arguments.split_first()?;
-    let (when, rest) = if first.as_str() == "--lazy" {
-        (Binding::Lazy, others)
-    } else {
-        (Binding::Now, arguments)
-    };
-    let (page, rest) = page_of(rest)?;
-    let asked = Options {
-        page,
-        when,
-        form,
-        steps: None,
-    };
-    Some((asked, given_files(rest)?))
-}
-
-// The size of a page that the arguments ask for, and those after it, if it is as it should be.
-fn page_of(arguments: &[String]) -> Option<(u64, &[String])>
-    ensures { IfSome result (λ asked. 0 < asked.0) }
-{
-    let (first, others) = arguments.split_first()?;
-    if first.as_str() != "--page" {
-        return Some((4096, arguments));
-    }
-    let (size, rest) = others.split_first()?;
-    let page = size.as_str().parse::<u64>().ok()?;
-    if !page.is_power_of_two() {
-        return None;
-    }
-    Some((page, rest))
 }

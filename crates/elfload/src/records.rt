@@ -1,8 +1,8 @@
 //! The values of words as members of JSON objects.
 
 ghost use Rattle.std.specs.Prelude.{◌≡◌};
-ghost use Rattle.elfload.specs.Records.{flags_or_null, number_or_null, origin_numbers, value_kind};
-ghost use Rattle.elfload.specs.Records.{value_numbers};
+ghost use Rattle.elfload.specs.Records.{flags_or_null, origin_numbers, value_kind, value_numbers};
+ghost use Rattle.program_ends.specs.Json.{number_or_null};
 
 use elf_loading::{Origin, Value};
 use program_ends::json;
@@ -19,16 +19,6 @@ pub(crate) struct Numbers {
     pub(crate) offset: Option<u64>,
     /// How many bytes are copied.
     pub(crate) size: Option<u64>,
-}
-
-/// A number, or null.
-pub(crate) fn number_or_null<'a>(number: Option<u64>) -> json::Value<'a>
-    ensures { result ≡ number_or_null number }
-{
-    match number {
-        Some(number) => json::Value::Number(number),
-        None => json::Value::Null,
-    }
 }
 
 /// An index, or null.

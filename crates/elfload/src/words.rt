@@ -3,7 +3,8 @@
 ghost use Rattle.std.specs.Prelude.{◌≡◌, ◌<◌, Err, IsOk, IsSomeAnd, MatchResult, Some, length, slice_get};
 ghost use Rattle.std.specs.Prelude.{OnOk, ⊤};
 ghost use Rattle.std.specs.Io.KnownBytes.{Appends};
-ghost use Rattle.elfload.specs.Words.{AreWordsWritten, IsItemsText, IsObjectText, IsTextError};
+ghost use Rattle.elfload.specs.Interpreter.{binding_of};
+ghost use Rattle.elfload.specs.Words.{AreWordsWritten, IsAskedText, IsItemsText, IsTextError};
 ghost use Rattle.elfload.specs.Words.{IsTextFailed, IsWordError, heading_text, is_unchanged, item_text, line_text};
 ghost use Rattle.elfload.specs.Words.{name_text, path_text, prefix_of, start_text, value_text, without_prefix};
 ghost use Rattle.elfload.specs.Words.{word_record, word_text};
@@ -12,14 +13,15 @@ ghost use Rattle.program_ends.proofs.Flushed.{appended_flushed};
 ghost use Rattle.program_ends.specs.Appended.{AppendsSome};
 ghost use Rattle.program_ends.specs.Stops.{IsStop};
 
-use crate::records::{index_or_null, number_or_null, value_kind, value_numbers};
+use crate::interpreter::binding_of;
+use crate::records::{index_or_null, value_kind, value_numbers};
 use elf_linking::DynamicObject;
 use elf_linking::references::relocation_name;
 use elf_linking::scope::Scope;
 use elf_linking::view::LinkedSymbol;
 use elf_loading::{Binding, LoadError, Origin, Relocated, Value, Word, Words};
 use linking_programs::{Failed, Input, failure, failure_at};
-use program_ends::json::{Form, Member, write_json};
+use program_ends::json::{Form, Member, number_or_null, write_json};
 use program_ends::{Output, Stop, json};
 use std::fmt::Display;
 use std::io::Write;
@@ -89,10 +91,10 @@ fn write_object<'s, E: LinkedSymbol, W: Write>(
     requires below { of < length objects.now }
     ensures { MatchResult result
         (λ _. IsSomeAnd (slice_get objects.now of) (λ object.
-        AppendsSome (IsObjectText E.fields form when inputs.now objects.now of object)
+        AppendsSome (IsAskedText E.fields form when inputs.now objects.now of object)
         (W.contents out.old) (W.contents out.new)))
         (IsStop (λ failed. IsOfInput inputs.now of failed
-        × IsTextError E.fields when objects.now of failed.error) ⊤ ⊥) }
+        × IsTextError E.fields (binding_of objects.now when of) objects.now of failed.error) ⊤ ⊥) }
 {
     let path = inputs[of].path;
     write_heading(form, path, out)?;
@@ -103,7 +105,8 @@ fn write_object<'s, E: LinkedSymbol, W: Write>(
         machine,
         of,
     };
-    match Words::new(Scope::new(objects), of, when) {
+    let own = binding_of(objects, when, of);
+    match Words::new(Scope::new(objects), of, own) {
         Ok(words) => write_items(place, words, out),
         Err(error) => Err(failure_at(inputs, of, LoadError::Link(error))),
     }

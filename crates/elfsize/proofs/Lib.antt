@@ -1,4 +1,3 @@
-pub mod Alike
 mod FileEnds
 mod NoSections
 mod Inputs

@@ -1,20 +1,8 @@
 -- The lines for other programs (this project's own): a JSON object on each, as `write_json` writes it.
-use Rattle.std.specs.Prelude.{ℕ, ◌-◌, ◌^◌, Bool, List, [], ◌∷◌, Option, None, Some, codes, if◌then◌else◌, min, nat_lt}
-use Rattle.program_ends.specs.Json.{json_line, member, name_value, text_value}
+use Rattle.std.specs.Prelude.{ℕ, ◌-◌, ◌^◌, Bool, List, [], ◌∷◌, Option, codes, if◌then◌else◌, min, nat_lt}
+use Rattle.program_ends.specs.Json.{json_line, member, name_or_null, number_or_null, text_or_null, text_value}
 use Rattle.program_ends.specs.declared.json.Value.{Value}
 use Rattle.program_ends.specs.declared.json.Value.TheVariants as values
-
-abbrev pub text_or_null : Option (List ℕ) → Value
-text_or_null None = values.Null
-text_or_null (Some text) = text_value text
-
-abbrev pub name_or_null : Option (List ℕ) → Value
-name_or_null None = values.Null
-name_or_null (Some name) = name_value name
-
-abbrev pub number_or_null : Option ℕ → Value
-number_or_null None = values.Null
-number_or_null (Some number) = values.Number number
 
 -- a number less another one
 abbrev pub less : ℕ → ℕ → Value

@@ -2,11 +2,9 @@
 
 ghost use Rattle.std.specs.Prelude.{◌≡◌, OnOk, option_map};
 ghost use Rattle.std.specs.Io.KnownBytes.{Appends};
-ghost use Rattle.elfsize.specs.Json.{capped, change_record, less, name_or_null, number_or_null};
-ghost use Rattle.elfsize.specs.Json.{size_record, text_or_null};
-ghost use Rattle.program_ends.specs.Json.{json_value, key_end};
+ghost use Rattle.elfsize.specs.Json.{capped, change_record, less, size_record};
 
-use program_ends::json::{Member, Value, write_json};
+use program_ends::json::{Member, Value, name_or_null, number_or_null, text_or_null, write_json};
 use std::io;
 use std::io::Write;
 
@@ -88,38 +86,6 @@ fn member<'a>(key: &'a str, value: Value<'a>) -> Member<'a>
     ensures value { result.value ≡ value.entry }
 {
     Member { key, value }
-}
-
-// A text, or null.
-fn text_or_null<'a>(text: Option<&'a str>) -> Value<'a>
-    ensures value { json_value result ≡ json_value (text_or_null (option_map (λ text. text.now) text.entry)) }
-    ensures key { key_end result ≡ key_end (text_or_null (option_map (λ text. text.now) text.entry)) }
-{
-    match text {
-        Some(text) => Value::Text(text),
-        None => Value::Null,
-    }
-}
-
-// A name, or null.
-fn name_or_null<'a>(name: Option<&'a [u8]>) -> Value<'a>
-    ensures value { json_value result ≡ json_value (name_or_null (option_map (λ name. name.now) name.entry)) }
-    ensures key { key_end result ≡ key_end (name_or_null (option_map (λ name. name.now) name.entry)) }
-{
-    match name {
-        Some(name) => Value::Name(name),
-        None => Value::Null,
-    }
-}
-
-// A number, or null.
-fn number_or_null<'a>(number: Option<u64>) -> Value<'a>
-    ensures { result ≡ number_or_null number }
-{
-    match number {
-        Some(number) => Value::Number(number),
-        None => Value::Null,
-    }
 }
 
 // A number less another one.

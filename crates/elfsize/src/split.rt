@@ -119,7 +119,7 @@ fn listed_by_section<E: Entry + Record>(
     let size = SymbolIndex::size(symbols, None);
     let mut words = vec![in alloc; 0u32; size.words()]?;
     let mut numbers = vec![in alloc; 0u64; size.numbers()]?;
-    let _built = SymbolIndex::build(symbols, None, &mut words, &mut numbers);
+    let _built = SymbolIndex::build_sized(symbols, None, size, &mut words, &mut numbers);
     let sized = SymbolIndex::lend(symbols, None, size, &words, &numbers).sized;
     let mut list = vec![in alloc; 0u32; sized.len()]?;
     for index in sized {

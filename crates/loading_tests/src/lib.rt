@@ -2,6 +2,7 @@
 #![tactic(auto)]
 
 pub mod callers;
+pub mod slot_callers;
 #[cfg(test)]
 mod tests;
 pub mod word_callers;

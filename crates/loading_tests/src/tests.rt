@@ -13,6 +13,7 @@ mod messages;
 mod plans;
 mod relocated_files;
 mod relocated_images;
+mod relocated_slots;
 mod rows;
 mod want;
 mod words;

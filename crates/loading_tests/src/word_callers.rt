@@ -4,7 +4,8 @@ ghost use Rattle.std.specs.Prelude.{◌≡◌, ◌<◌, ◌+◌, ℕ, IfOk, IsSo
 ghost use Rattle.std.specs.Prelude.{length, slice_get, slice_index};
 ghost use Rattle.elf_linking.specs.DynamicObject.{object_view};
 ghost use Rattle.elf_linking.specs.DynamicView.{flag_in, view_entries};
-ghost use Rattle.elf_loading.specs.CheckedImage.{image_words, mapped_at, relocated_at, start_in};
+ghost use Rattle.elf_loading.specs.CheckedImage.{image_result, image_words, mapped_at};
+ghost use Rattle.elf_loading.specs.CheckedImage.{relocated_at, start_in};
 ghost use Rattle.elf_loading.specs.ImageTables.{asks_for_text};
 ghost use Rattle.elf_loading.specs.ImageWords.{AreWritten};
 ghost use Rattle.elf_loading.specs.LoadScope.{loaded_objects, loaded_plans};
@@ -85,7 +86,8 @@ pub fn load_checked<E: LinkedSymbol>(
     others: &[&[u8]],
     memory: &mut [u8],
 ) -> Result<u64, ImageError>
-    ensures { let first = start_in image.now image.now.index in IfOk result (λ count. (i : ℕ)
+    ensures exact { result ≡ image_result image.now places.now others.now (length memory.old) }
+    ensures bytes { let first = start_in image.now image.now.index in IfOk result (λ count. (i : ℕ)
         → i < length memory.new → slice_index memory.new i ≡ relocated_at image.now places.now
         others.now (image_words image.now) (first + i) (mapped_at image.now Glibc (first + i))) }
 {

@@ -1,5 +1,6 @@
 pub mod Ends
 pub mod Flushed
+pub mod JsonAlike
 mod JsonSpelled
 mod JsonTexts
 pub mod LineLists

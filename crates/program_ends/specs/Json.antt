@@ -1,5 +1,5 @@
 -- The JSON text (RFC 8259) of a record: an object on a line, with no space between its tokens.
-use Rattle.std.specs.Prelude.{ℕ, ◌/◌, ◌%◌, ◌==◌, ◌||◌, nat_lt, Bool, true, false, List, [], ◌∷◌, ◌++◌, codes, decimal, if◌then◌else◌}
+use Rattle.std.specs.Prelude.{ℕ, ◌/◌, ◌%◌, ◌==◌, ◌||◌, nat_lt, Bool, true, false, List, [], ◌∷◌, ◌++◌, Option, None, Some, codes, decimal, if◌then◌else◌}
 use Rattle.std.specs.Fmt.{digit_glyph}
 use Rattle.std.specs.List.{flat_map, join_by}
 use Rattle.std.specs.Str.{is_utf8}
@@ -65,6 +65,19 @@ text_value text = values.Text (record { ref_ptr = (0, 0); now = text })
 
 abbrev pub name_value : List ℕ → Value
 name_value name = values.Name (record { ref_ptr = (0, 0); now = name })
+
+-- the values of a number, of a text and of a name that may be missing: null without it
+abbrev pub number_or_null : Option ℕ → Value
+number_or_null None = values.Null
+number_or_null (Some number) = values.Number number
+
+abbrev pub text_or_null : Option (List ℕ) → Value
+text_or_null None = values.Null
+text_or_null (Some text) = text_value text
+
+abbrev pub name_or_null : Option (List ℕ) → Value
+name_or_null None = values.Null
+name_or_null (Some name) = name_value name
 
 -- an object, whose members have commas between them, and a line feed
 abbrev pub json_line : List Member → List ℕ

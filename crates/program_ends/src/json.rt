@@ -1,12 +1,13 @@
 //! Records as JSON (RFC 8259), an object on a line, for other programs to read.
 
-ghost use Rattle.std.specs.Prelude.{◌≡◌, ◌+◌, ◌<◌, ◌^◌, IfSome, List, OnOk, false, length, ℕ};
+ghost use Rattle.std.specs.Prelude.{◌≡◌, ◌+◌, ◌<◌, ◌^◌, IfSome, List, OnOk, false, length, option_map, ℕ};
 ghost use Rattle.std.specs.Fmt.{digit_glyph};
 ghost use Rattle.std.specs.Io.KnownBytes.{Appends};
 ghost use Rattle.std.specs.List.{flat_map, position_from};
 ghost use Rattle.std.specs.Str.{is_utf8};
 ghost use Rattle.program_ends.specs.Json.{hex_byte, is_escaped, json_line, json_member};
-ghost use Rattle.program_ends.specs.Json.{json_string, json_value, key_end, quoted, string_byte};
+ghost use Rattle.program_ends.specs.Json.{json_string, json_value, key_end, name_or_null, number_or_null};
+ghost use Rattle.program_ends.specs.Json.{quoted, string_byte, text_or_null};
 ghost use Rattle.program_ends.specs.JsonStrings.{Spells};
 
 use std::convert::AsStr;
@@ -53,6 +54,38 @@ pub enum Value<'a> {
 pub struct Member<'a> {
     pub key: &'a str,
     pub value: Value<'a>,
+}
+
+/// A number, or null.
+pub fn number_or_null<'a>(number: Option<u64>) -> Value<'a>
+    ensures { result ≡ number_or_null number }
+{
+    match number {
+        Some(number) => Value::Number(number),
+        None => Value::Null,
+    }
+}
+
+/// A text, or null.
+pub fn text_or_null<'a>(text: Option<&'a str>) -> Value<'a>
+    ensures value { json_value result ≡ json_value (text_or_null (option_map (λ text. text.now) text.entry)) }
+    ensures key { key_end result ≡ key_end (text_or_null (option_map (λ text. text.now) text.entry)) }
+{
+    match text {
+        Some(text) => Value::Text(text),
+        None => Value::Null,
+    }
+}
+
+/// A name, or null.
+pub fn name_or_null<'a>(name: Option<&'a [u8]>) -> Value<'a>
+    ensures value { json_value result ≡ json_value (name_or_null (option_map (λ name. name.now) name.entry)) }
+    ensures key { key_end result ≡ key_end (name_or_null (option_map (λ name. name.now) name.entry)) }
+{
+    match name {
+        Some(name) => Value::Name(name),
+        None => Value::Null,
+    }
 }
 
 /// Writes a JSON object with these members in their order, and a line feed.

@@ -1,6 +1,6 @@
 -- What the rows of relocation types have in common.
-use Rattle.std.proofs.Common.{◌≡◌, ◌==◌, ◌||◌, ◌⊎◌, Bool, true, false, ℕ, List, [], ◌∷◌, None, Some, unwrap_or, cond, if◌then◌else◌, inl, inr, option_map, refl, subst, sym}
-use Rattle.std.specs.List.{find, list_all}
+use Rattle.std.proofs.Common.{◌≡◌, ◌==◌, ◌&&◌, ◌||◌, ◌⊎◌, ◌≤◌, Bool, true, false, ℕ, List, [], ◌∷◌, None, Some, unwrap_or, arith, cond, if◌then◌else◌, inl, inr, not, option_map, refl, subst, sym}
+use Rattle.std.specs.List.{find, list_all, list_any}
 use Rattle.std.proofs.lemmas.Bool.{and_parts, eqb-true}
 use Rattle.elf_linking.specs.RelocationTypes.{is_relative, relative_kind, relative_of, row_of, rows_of}
 use Rattle.elf_linking.specs.declared.find.Use.TheVariants.{Any}
@@ -63,3 +63,21 @@ of_either false = refl
 -- a relocation writes a number of 4 or of 8 bytes
 pub width_is : (machine kind : ℕ) → ((row_of machine kind).width ≡ 4) ⊎ ((row_of machine kind).width ≡ 8)
 width_is machine kind = either (row_of machine kind).width _ _ refl refl (row_passes has_width refl refl refl machine kind (of_either (machine == 3)))
+
+-- so at most 8 bytes
+pub width_fits : (machine kind : ℕ) → (row_of machine kind).width ≤ 8
+width_fits machine kind = elim (width_is machine kind) [ inl four ↦ omega (arith, four) | inr eight ↦ omega (arith, eight) ]
+
+-- no number is in two rows
+abbrev has_no_other : List Row → Bool
+has_no_other [] = true
+has_no_other (row ∷ rows) = not (list_any (λ (other : Row). other.kind == row.kind) rows) && has_no_other rows
+
+x86_64_once : has_no_other X86_64 ≡ true
+x86_64_once = refl
+
+i386_once : has_no_other I386 ≡ true
+i386_once = refl
+
+aarch64_once : has_no_other AARCH64 ≡ true
+aarch64_once = refl

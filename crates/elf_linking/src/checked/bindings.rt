@@ -31,7 +31,7 @@ pub struct CheckedBinding<E> {
 /// `DynamicObject::references` says why. The iterator goes on with the next object.
 #[derive(Drop)]
 pub struct CheckedBindings<'s, 'a, E: LinkedSymbol> {
-    scope: CheckedScope<'s, 'a, E>,
+    pub(crate) scope: CheckedScope<'s, 'a, E>,
     // The index of the object that was read last, and the references that are left of it.
     from: usize,
     references: Option<References<'a>>,
@@ -42,7 +42,8 @@ pub struct CheckedBindings<'s, 'a, E: LinkedSymbol> {
 impl<'s, 'a, E: LinkedSymbol> CheckedScope<'s, 'a, E> {
     /// An iterator over the references of all objects, with what each gets.
     pub fn bindings(&self) -> CheckedBindings<'s, 'a, E>
-        ensures { checked_left result ≡ all_bindings self.now }
+        ensures objects { checked_objects result ≡ self.now }
+        ensures items { checked_left result ≡ all_bindings self.now }
     {
         CheckedBindings {
             scope: CheckedScope::new(self.objects()),

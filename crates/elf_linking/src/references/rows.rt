@@ -1,9 +1,7 @@
 //! The row of a relocation type, and what is read from it.
 
-ghost use Rattle.std.specs.Prelude.{◌≡◌, ◌≤◌, ◌⊎◌, option_map, true, unwrap_or};
-ghost use Rattle.elf_linking.specs.RelocationTypes.{has_no_other, relative_kind, relative_of};
-ghost use Rattle.elf_linking.specs.RelocationTypes.{row_of, rows_of};
-ghost use Rattle.elf_linking.specs.declared.references.types.TheConstants.{AARCH64, I386, X86_64};
+ghost use Rattle.std.specs.Prelude.{◌≡◌, option_map, unwrap_or};
+ghost use Rattle.elf_linking.specs.RelocationTypes.{relative_kind, relative_of, row_of, rows_of};
 
 use crate::find::Use;
 use crate::references::types::{
@@ -26,11 +24,7 @@ fn rows_of(machine: u16) -> &'static [Row]
 /// doesn't apply, or of another machine than x86-64, 386 and AArch64, has no formula and may name
 /// any symbol.
 pub fn row_of(machine: u16, kind: u32) -> Row
-    ensures exact { result ≡ row_of machine kind }
-    ensures once { (has_no_other X86_64 ≡ true) × (has_no_other I386 ≡ true)
-        × (has_no_other AARCH64 ≡ true) }
-    ensures width { (result.width ≡ 4) ⊎ (result.width ≡ 8) }
-    ensures small { result.width ≤ 8 }
+    ensures { result ≡ row_of machine kind }
 {
     let unknown = Row {
         kind,
@@ -59,9 +53,7 @@ pub fn formula_of(machine: u16, kind: u32) -> Option<Formula>
 /// The number of bytes of the number that a relocation of this type writes: 4 for each type of 386,
 /// and for `R_X86_64_32`, `R_X86_64_PC32` and `R_X86_64_SIZE32`; otherwise 8.
 pub fn width_of(machine: u16, kind: u32) -> u32
-    ensures exact { result ≡ (row_of machine kind).width }
-    ensures either { (result ≡ 4) ⊎ (result ≡ 8) }
-    ensures small { result ≤ 8 }
+    ensures { result ≡ (row_of machine kind).width }
 {
     row_of(machine, kind).width
 }

@@ -114,11 +114,12 @@ pub const R_386_IRELATIVE: u32 = 42;
 /// `R_AARCH64_NONE`: relocates nothing (AArch64 psABI, "Relocation types").
 pub const R_AARCH64_NONE: u32 = 0;
 
-/// The older number of `R_AARCH64_NONE`, withdrawn (AArch64 psABI).
-pub const R_AARCH64_WITHDRAWN: u32 = 256;
-
 /// `R_AARCH64_ABS64`: the symbol and the addend, in 64 bits (AArch64 psABI).
 pub const R_AARCH64_ABS64: u32 = 257;
+
+/// `R_AARCH64_ABS32`: the symbol and the addend, in 32 bits (AArch64 psABI). glibc 2.36 writes 64
+/// bits (sysdeps/aarch64/dl-machine.h, elf_machine_rela).
+pub const R_AARCH64_ABS32: u32 = 258;
 
 /// `R_AARCH64_COPY`: copies the object of the symbol (AArch64 psABI, "Dynamic relocations").
 pub const R_AARCH64_COPY: u32 = 1024;
@@ -252,8 +253,8 @@ pub const I386: [Row; 14] = [
 #[rattlefmt::skip]
 pub const AARCH64: [Row; 12] = [
     Row { kind: R_AARCH64_NONE,       formula: Some(Unchanged),     width: 8, use_: Use::Any,     names: false, slot: false },
-    Row { kind: R_AARCH64_WITHDRAWN,  formula: Some(Unchanged),     width: 8, use_: Use::Any,     names: false, slot: false },
     Row { kind: R_AARCH64_ABS64,      formula: Some(Symbol),        width: 8, use_: Use::Any,     names: true,  slot: false },
+    Row { kind: R_AARCH64_ABS32,      formula: Some(Symbol),        width: 8, use_: Use::Any,     names: true,  slot: false },
     Row { kind: R_AARCH64_COPY,       formula: Some(Formula::Copy), width: 8, use_: Use::Copy,    names: true,  slot: false },
     Row { kind: R_AARCH64_GLOB_DAT,   formula: Some(Symbol),        width: 8, use_: Use::Any,     names: true,  slot: false },
     Row { kind: R_AARCH64_JUMP_SLOT,  formula: Some(Symbol),        width: 8, use_: Use::Defined, names: true,  slot: true },

@@ -1,15 +1,16 @@
 //! The version of a symbol (LSB, "Symbol Versioning").
 
-ghost use Rattle.std.specs.Prelude.{◌≡◌, Err, Ok, Option, option_map};
+ghost use Rattle.std.specs.Prelude.{◌≡◌, ◌<◌, ℕ, Err, IsOkAnd, Ok, Option, option_map};
 ghost use Rattle.std.specs.Str.{bytes_eq};
 ghost use Rattle.elf_linking.specs.Loaded.{lent};
 ghost use Rattle.elf_linking.specs.VersionList.{entry_of, named_in, numbers_in, versions_in};
 ghost use Rattle.elf_linking.specs.VersionTables.{definition_parts, definitions_in, result_map};
 ghost use Rattle.elf_linking.specs.VersionTables.{need_parts, needs_in};
-ghost use Rattle.elf_linking.specs.Versions.{IsVersion, entry_item, first_item, version_at};
+ghost use Rattle.elf_linking.specs.Versions.{CanBeRead, HasReadableName, entry_item, first_item};
 ghost use Rattle.elf_linking.specs.Versions.{defines_number, needs_number, version_tables};
 ghost use Rattle.elf_linking.specs.Versions.{item_with, named_at, number_of};
-ghost use Rattle.elf_linking.specs.Versions.{named_entry, named_parts, version_item, version_list};
+ghost use Rattle.elf_linking.specs.Versions.{named_entry, named_parts, version_at, version_item};
+ghost use Rattle.elf_linking.specs.Versions.{version_list};
 
 use crate::LinkError;
 use crate::versions::definitions::definition_at;
@@ -114,8 +115,9 @@ impl<'a> Versions<'a> {
     /// definition with a number below 64 is found at once, if it is one of the first 64 and lies in
     /// the first 64 KiB of the table.
     pub fn version_of(&self, index: u32) -> Result<Option<SymbolVersion<'a>>, LinkError>
-        ensures answer { IsVersion (version_list self.now) index (entry_item result) }
         ensures exact { entry_item result ≡ version_at (version_list self.now) index }
+        ensures readable { (count : ℕ) → CanBeRead (version_list self.now) count → index < count
+            → IsOkAnd (entry_item result) HasReadableName }
         ensures named { version_item result ≡ named_at (version_tables self.now) index }
         ensures listed { version_list self.now ≡ versions_in (version_tables self.now) }
     {

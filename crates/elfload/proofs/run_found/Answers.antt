@@ -1,14 +1,14 @@
 use Rattle.std.proofs.Common.{◌≡◌, ℕ, List, subst}
 use Rattle.std.specs.Prelude.{◌⊎◌}
-use Rattle.elfload.specs.Files.{AreLoaded, HasStatic}
+use Rattle.elfload.specs.Files.{AreAllStatic, AreLoaded}
 use Rattle.elfload.specs.Images.{AreImagesGood}
 use Rattle.elfload.proofs.run_found.Goals as goal
 use Rattle.linking_programs.specs.declared.Input.{Input}
 
 -- the checks of the same inputs
-same_checked : (narrow_record wide_record : _) (page : ℕ) (one other : List Input) → one ≡ other → HasStatic one ⊎ AreImagesGood narrow_record wide_record page one → HasStatic other ⊎ AreImagesGood narrow_record wide_record page other
+same_checked : (narrow_record wide_record : _) (page : ℕ) (one other : List Input) → one ≡ other → AreAllStatic one ⊎ AreImagesGood narrow_record wide_record page one → AreAllStatic other ⊎ AreImagesGood narrow_record wide_record page other
 same_checked narrow_record wide_record page one other same is =
-    subst (λ (inputs : List Input). HasStatic inputs ⊎ AreImagesGood narrow_record wide_record page inputs) same is
+    subst (λ (inputs : List Input). AreAllStatic inputs ⊎ AreImagesGood narrow_record wide_record page inputs) same is
 
 pub returns-in-Some-clause-bound : goal.returns-in-Some-clause-bound
 returns-in-Some-clause-bound g c = c.with_missing.ensures.bound c.run.ensures.bound

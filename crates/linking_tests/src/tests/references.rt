@@ -187,6 +187,27 @@ fn lists_relocations_that_name_symbols(rt: HostRuntime) -> Result<(), LinkError>
     Ok(())
 }
 
+// In a file for x86-64 or AArch64 the table Rel isn't read, as in glibc; in one for 386 it is.
+#[test]
+fn passes_over_rel_where_all_records_have_addends(rt: HostRuntime) -> Result<(), LinkError> {
+    for (machine, wanted) in [
+        (62, None),
+        (183, None),
+        (3, Some(LinkError::Address)),
+        (8, Some(LinkError::Address)),
+    ] {
+        let entries = [RELA_AT, RELA_SIZE, (17, 0x9000, 0x9000), REL_SIZE];
+        let mut bytes = reference_file(2, Order::Little, &entries);
+        set(&mut bytes, 0, Place(18, 2), machine, Order::Little);
+        let file = open(&rt, &bytes);
+        let view = DynamicView::read(&file)?;
+        want_at(&rt, machine, view.references(&file).err(), wanted);
+        let all = view.relocations(&file).err();
+        want_at(&rt, machine, all, Some(LinkError::Address));
+    }
+    Ok(())
+}
+
 fn check_table(rt: &impl Abort, mut table: TableRelocations<'_>, rows: &[Row], class: u8) {
     for &row in rows {
         want(rt, table.next(), Some(reference(row, class)));

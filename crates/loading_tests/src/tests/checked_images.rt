@@ -1,6 +1,7 @@
 //! What relocations write to checked images: the bytes are worked out by hand from the formulas of
 //! the processor supplements.
 
+use crate::slot_callers::slot_after;
 use crate::tests::images::{BUCKETS, KIND, MARKS, PAGE, SECOND, SYMBOL, file_64};
 use crate::tests::relocated_files::{SIZE, SYMBOLS, WORD};
 use crate::tests::relocated_images::PLACES;
@@ -58,6 +59,34 @@ fn each_word_of_a_checked_image_is_written(rt: HostRuntime) {
     want_at(&rt, "the words", words, true);
     let after = memory.get(WORD + 32..) == bytes.get(WORD + 32..);
     want_at(&rt, "after the words", after, true);
+}
+
+// Addresses, and the words of the second of two objects there: symbol 1 of the first object, by
+// R_X86_64_64 with addend 0 and by R_X86_64_JUMP_SLOT; an address before the image, and one with seven
+// bytes after it.
+const SLOTS: [(u64, Option<u64>); 4] = [
+    (0x1608, Some(0x7_0000_1500)),
+    (0x1610, Some(0x7_0000_1500)),
+    (0xfff, None),
+    (0x1679, None),
+];
+
+#[test]
+fn a_slot_has_the_address_of_its_symbol(rt: HostRuntime) {
+    let bytes = file_64();
+    let file = open(&rt, &bytes);
+    let one = DynamicObject::<DynEntry64>::read(&file).expect(&rt, "an object");
+    let two = DynamicObject::<DynEntry64>::read(&file).expect(&rt, "an object");
+    let (objects, others): (_, [&[u8]; 2]) = ([one, two], [&[], &[]]);
+    let plans = [LoadPlan::check_load(&file, PAGE, LIMIT).expect(&rt, "a plan"); 2];
+    let loads = LoadScope::new(Scope::new(&objects), &plans);
+    let scope = CheckedLoadScope::of(loads).expect(&rt, "a checked scope");
+    let image = CheckedImage::of(&scope, 1, &mut [0; MARKS]).expect(&rt, "a checked image");
+    for &(slot, wanted) in &SLOTS {
+        let mut memory = [0; SIZE];
+        let found = slot_after(&image, PLACES, &others, slot, &mut memory);
+        want_at(&rt, slot, found, Ok(wanted));
+    }
 }
 
 // Changes of the file, the index of the object, the number of places, the size of its image, and the

@@ -48,8 +48,8 @@ const I386: &[Expected] = &[
 
 const AARCH64: &[Expected] = &[
     (0, Some(Formula::Unchanged), 8, None),
-    (256, Some(Formula::Unchanged), 8, None),
     (257, Some(Formula::Symbol), 8, Some(Use::Any)),
+    (258, Some(Formula::Symbol), 8, Some(Use::Any)),
     (1024, Some(Formula::Copy), 8, Some(Use::Copy)),
     (1025, Some(Formula::Symbol), 8, Some(Use::Any)),
     (1026, Some(Formula::Symbol), 8, Some(Use::Defined)),

@@ -27,7 +27,7 @@ const PAGE: u64 = 128;
 const MINUS_4: u64 = u64::MAX - 3;
 
 // The bytes of the word and of those after it before they are written.
-const OLD: [u8; 16] = [0x77; 16];
+pub const OLD: [u8; 16] = [0x77; 16];
 
 // Where the two objects are loaded: the second one's thread-local storage is -0x180 from the thread
 // pointer.
@@ -45,7 +45,7 @@ pub const PLACES: &[LoadedAt] = &[
 ];
 
 // Sets the size of the loaded segment in memory.
-fn set_memory(file: &mut [u8], class: u8, order: Order) {
+pub fn set_memory(file: &mut [u8], class: u8, order: Order) {
     let place = if class == 1 {
         program_32::MEM_SIZE
     } else {
@@ -91,7 +91,7 @@ fn first<T>(items: &[T], count: usize) -> &[T] {
 
 // Relocates the second of two objects of one file, whose bytes are those of its span, and returns the
 // 16 bytes from the word on.
-fn relocate_second<E: LinkedSymbol>(
+pub fn relocate_second<E: LinkedSymbol>(
     rt: &impl Abort,
     bytes: &[u8; SIZE],
     when: Binding,

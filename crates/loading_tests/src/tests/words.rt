@@ -72,6 +72,8 @@ fn each_type_writes_its_value(rt: HostRuntime) {
 // object, 4 is absolute, and 5 is an indirect function.
 const ERRORS: &[(u64, u64, u64, LoadError)] = &[
     (62, 9, 1, LoadError::WordType),
+    (183, 256, 0, LoadError::WordType),
+    (183, 259, 1, LoadError::WordType),
     (62, 33, 2, LoadError::NoSize),
     (62, 32, 2, LoadError::NoSize),
     (3, 38, 2, LoadError::NoSize),

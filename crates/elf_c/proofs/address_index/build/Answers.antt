@@ -7,4 +7,4 @@ returns-clause-built g c =
     let symbols = c.args.symbols.now in
     let claim_of = claim_of_symbols g.E.Entry.fields symbols c.args.within in
     let size = c.size-size in
-    λ small. built_index claim_of (range_of_symbols g.E.Entry.fields symbols) (symbol_count symbols) size.result.sized size.result.open c.build.new.words c.build.new.numbers size.ensures.sized size.ensures.open c.in_ok-build.ensures.built
+    λ small. built_index claim_of (range_of_symbols g.E.Entry.fields symbols) (symbol_count symbols) size.result.sized size.result.open c.build_sized.new.words c.build_sized.new.numbers size.ensures.sized size.ensures.open c.in_ok-build_sized.ensures.built

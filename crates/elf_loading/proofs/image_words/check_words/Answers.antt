@@ -1,26 +1,44 @@
-use Rattle.std.proofs.Common.{rules, Ok, Err, refl, ◌∙◌}
-use Rattle.elf_loading.proofs.ImageChecks.{none_checked, one_checked, one_stops}
+use Rattle.std.proofs.Common.{rules, ◌∷◌, refl, sym, ap, ◌∙◌}
+use Rattle.elf_linking.specs.References.{file_machine}
+use Rattle.elf_linking.specs.RelocationTypes.{relative_of}
+use Rattle.elf_loading.specs.WordsLeft.{relocations_left}
+use Rattle.elf_loading.proofs.ImageChecks.{all_checked, has_word_of, none_checked, one_checked, one_stops}
 use Rattle.elf_loading.proofs.image_words.check_words.Goals as goal
 
-pub loop-item-init : goal.loop-item-init
-loop-item-init g c = record { len = refl; so_far = none_checked g.E.Entry.fields _ _ _ _ c.args.words _ _ (search rules) c.requires.clear }
+pub loop-relocation-init : goal.loop-relocation-init
+loop-relocation-init g c = record {
+  len = refl;
+  so_far = none_checked g.E.Entry.fields _ _ _ _ c.args.words _ _ refl c.requires.clear;
+  last = tt;
+  holder = tt;
+}
+
+pub check_next-requires-clause-relative : goal.check_next-requires-clause-relative
+check_next-requires-clause-relative g c = c.relative_row-relative.ensures
+    ∙ sym (ap (λ file. relative_of (file_machine file)) (c.in-Some.ensures.same.1 ∙ c.loop-relocation.invariant.so_far.same.1))
+
+pub loop-relocation-preserved : goal.loop-relocation-preserved
+loop-relocation-preserved g c =
+    let later = c.next_relocation.new.self in
+    let so_far = c.loop-relocation.invariant.so_far in
+    let one = c.in-Ok.ensures.item in
+    let has = has_word_of g.E.Entry.fields c.loop-relocation.words later one.item c.in-Some.ensures.same one.has_word in
+    let (after, ok, marked) = one.checked so_far.before so_far.marked in record {
+      len = c.in-Ok.ensures.len ∙ c.loop-relocation.invariant.len;
+      so_far = one_checked g.E.Entry.fields _ _ _ _ c.args.words c.loop-relocation.words later c.loop-relocation.marks one.item so_far
+          (c.in-Some.ensures.first ∙ ap (λ x. x ∷ relocations_left later) (sym one.relocation_is)) c.in-Some.ensures.same has c.check_next.new.marks after ok marked;
+      last = c.in-Ok.ensures.last;
+      holder = c.in-Ok.ensures.holder;
+    }
 
 pub returns-in-Err : goal.returns-in-Err
 returns-in-Err g c =
-    let (first, same, has) = c.in-Some.ensures.steps in
-    one_stops g.E.Entry.fields _ _ _ _ c.args.words c.loop-item.item-iterator c.next.new.self c.loop-item.marks c.in-Some.item c.loop-item.invariant.so_far first same has (Err c.in-Err.error) c.in-Err.error c.in-Err.is refl
+    let later = c.next_relocation.new.self in
+    let so_far = c.loop-relocation.invariant.so_far in
+    let one = c.in-Err.ensures.item in
+    let has = has_word_of g.E.Entry.fields c.loop-relocation.words later one.item c.in-Some.ensures.same one.has_word in
+    one_stops g.E.Entry.fields _ _ _ _ c.args.words c.loop-relocation.words later c.loop-relocation.marks one.item so_far
+    (c.in-Some.ensures.first ∙ ap (λ x. x ∷ relocations_left later) (sym one.relocation_is)) c.in-Some.ensures.same has c.in-Err.error (one.checked so_far.before so_far.marked)
 
-pub loop-item-preserved : goal.loop-item-preserved
-loop-item-preserved g c =
-    let (first, same, has) = c.in-Some.ensures.steps in
-    let so_far = c.loop-item.invariant.so_far in
-    let (after, ok, marked) = c.in-Ok-check_word.ensures.exact so_far.before so_far.marked in record {
-      len = c.check_word.ensures.len ∙ c.loop-item.invariant.len;
-      so_far = one_checked g.E.Entry.fields _ _ _ _ c.args.words c.loop-item.item-iterator c.next.new.self c.loop-item.marks c.in-Some.item so_far first same has _ c.in-Ok.word after c.in-Ok.is ok marked;
-    }
-
-pub returns-in-Err-check_word : goal.returns-in-Err-check_word
-returns-in-Err-check_word g c =
-    let (first, same, has) = c.in-Some.ensures.steps in
-    let so_far = c.loop-item.invariant.so_far in
-    one_stops g.E.Entry.fields _ _ _ _ c.args.words c.loop-item.item-iterator c.next.new.self c.loop-item.marks c.in-Some.item so_far first same has (Ok c.in-Ok.word) c.in-Err-check_word.error c.in-Ok.is (c.in-Err-check_word.ensures.exact so_far.before so_far.marked)
+pub returns : goal.returns
+returns g c = all_checked g.E.Entry.fields _ _ _ _ c.args.words c.loop-relocation.words c.loop-relocation.marks (search rules) c.loop-relocation.invariant.so_far

@@ -1,7 +1,7 @@
 use Rattle.std.proofs.Common.{ap, subst, ◌≡◌, ◌∙◌}
 use Rattle.std.specs.Prelude.{⊤}
 use Rattle.elfload.specs.Starts.{AreValues, IsArrayError, numbered}
-use Rattle.elfload.specs.declared.starts.Slots.{Slots}
+use Rattle.elfload.specs.declared.arrays.Slots.{Slots}
 use Rattle.elfload.proofs.StartParts.{memory_only}
 use Rattle.elfload.proofs.starts.read_array.Goals as goal
 use Rattle.program_ends.specs.Stops.{IsStop}

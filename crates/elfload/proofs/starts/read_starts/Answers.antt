@@ -4,7 +4,7 @@ use Rattle.std.specs.List.{AllZip}
 use Rattle.std.proofs.lemmas.List.{take_all, take_more}
 use Rattle.std.proofs.lemmas.Option.{slice_get-get_or}
 use Rattle.elfload.specs.Starts.{AreStartsOf, IsGroup}
-use Rattle.elfload.specs.declared.starts.Part.TheVariants.{Preinit}
+use Rattle.elfload.specs.declared.steps.Part.TheVariants.{Preinit}
 use Rattle.elfload.proofs.starts.read_starts.Goals as goal
 use Rattle.program_ends.proofs.Ends.{stop_so}
 use Rattle.elfload.proofs.WordLines.{flat_map_more}

@@ -1,10 +1,10 @@
 use Rattle.std.proofs.Common.{Bor, List, ℕ, [], ◌∷◌, ap, codes, option_map, refl, subst}
 use Rattle.std.proofs.lemmas.Result.{on_ok_weaker}
 use Rattle.std.specs.Io.KnownBytes.{Appends}
-use Rattle.elfsize.specs.Json.{change_record, less, name_or_null, number_or_null, text_or_null}
-use Rattle.elfsize.proofs.Alike.{line_so, member_so}
+use Rattle.elfsize.specs.Json.{change_record, less}
 use Rattle.elfsize.proofs.records.write_change.Goals as goal
-use Rattle.program_ends.specs.Json.{json_value, key_end, member, text_value}
+use Rattle.program_ends.proofs.JsonAlike.{line_so, member_so}
+use Rattle.program_ends.specs.Json.{json_value, key_end, member, name_or_null, number_or_null, text_or_null, text_value}
 use Rattle.program_ends.specs.declared.json.Member.{Member}
 use Rattle.program_ends.specs.declared.json.Value.{Value}
 use Rattle.program_ends.specs.declared.json.Value.TheVariants as values

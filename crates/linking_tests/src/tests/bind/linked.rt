@@ -194,6 +194,8 @@ fn check_checked_bindings<E: LinkedSymbol>(
         }
     }
     want(rt, found.next().is_none(), true);
+    // `absent`, which no object gives, is weak
+    want(rt, CheckedScope::new(&objects).unresolved().next().is_none(), true);
     Ok(())
 }
 
@@ -239,7 +241,35 @@ fn goes_on_after_relocations_that_are_not_read(rt: HostRuntime) -> Result<(), Li
     want(&rt, unread, Some(0));
     let next = bindings.next().and_then(|item| item.ok());
     want(&rt, next.map(|binding| binding.from), Some(1));
+    let unread = CheckedScope::new(&checked).unresolved().next();
+    want(&rt, unread.and_then(|item| item.err()), Some(0));
     Ok(())
+}
+
+// Where the references are that the program, with a byte of it changed, doesn't get without its
+// libraries.
+fn check_unresolved(rt: &impl Abort, change: (usize, u8), wanted: &[u64]) -> Result<(), LinkError> {
+    let mut program = *WIDE_CALLER;
+    put(&mut program, change.0, &[change.1]);
+    let program = DynamicObject::<DynEntry64>::read(&open(rt, &program))?;
+    let checked = [CheckedObject::of(program)?];
+    let mut found = CheckedScope::new(&checked).unresolved();
+    for &offset in wanted {
+        let item = found.next().and_then(|item| item.ok());
+        let item = item.map(|item| (item.from, item.reference.offset));
+        want(rt, item, Some((0, offset)));
+    }
+    want(rt, found.next().is_none(), true);
+    Ok(())
+}
+
+// `ld.so` says of the program alone that it finds none of the five; at 516 is the binding of symbol 1,
+// which is made weak.
+#[test]
+fn lists_unresolved_references(rt: HostRuntime) -> Result<(), LinkError> {
+    let all = [0x401608, 0x4015e8, 0x4015f0, 0x4015f8, 0x401600];
+    check_unresolved(&rt, (516, 0x12), &all)?;
+    check_unresolved(&rt, (516, 0x22), &[0x401608, 0x4015f0, 0x4015f8, 0x401600])
 }
 
 #[test]
@@ -380,7 +410,7 @@ fn tells_what_is_of_the_second_file(rt: HostRuntime) {
 const TYPES: &[(u8, [u8; 2], bool)] = rows! {
     62, [0, 0], false; 62, [8, 0], false; 62, [38, 0], false; 62, [37, 0], true; 62, [1, 0], true;
     62, [0, 1], true; 62, [3, 4], true; 3, [0, 0], false; 3, [8, 0], false; 3, [42, 0], true;
-    3, [38, 0], true; 183, [0, 0], false; 183, [0, 1], false; 183, [3, 4], false; 183, [8, 4], true;
+    3, [38, 0], true; 183, [0, 0], false; 183, [0, 1], true; 183, [3, 4], false; 183, [8, 4], true;
     183, [8, 0], true; 8, [0, 0], true; 8, [8, 0], true;
 };
 
@@ -391,7 +421,8 @@ fn reference_count<E: LinkedSymbol>(rt: &impl Abort, file: &[u8]) -> Result<usiz
 }
 
 // The type of the relocation of `kept` in the first library is at byte 780 in class 32, in one byte,
-// and at 1096 in class 64.
+// and at 1096 in class 64. In class 32 it is in the table Rel, which isn't read for x86-64 and AArch64:
+// the two jump slots alone are references then.
 #[test]
 fn names_a_symbol_by_its_type(rt: HostRuntime) {
     for &(machine, kind, named) in TYPES {
@@ -406,6 +437,11 @@ fn names_a_symbol_by_its_type(rt: HostRuntime) {
             put(&mut first, 18, &[machine]);
             put(&mut first, 780, &[kind[0]]);
             let found = reference_count::<DynEntry32>(&rt, &first);
+            let count = if machine == 62 || machine == 183 {
+                2
+            } else {
+                count
+            };
             want_at(&rt, (machine, kind), found, Ok(count));
         }
     }

@@ -4,7 +4,20 @@ use crate::tests::words::{MINUS_4, Row};
 use elf_loading::{Origin, Value};
 
 pub const AARCH64: &[Row] = &[
-    (183, 256, 1, 4, (0, Value::Unchanged)),
+    (183, 0, 1, 4, (0, Value::Unchanged)),
+    (
+        183,
+        258,
+        1,
+        0x10,
+        (
+            8,
+            Value::Sum {
+                origin: Origin::Base(0),
+                offset: 0x510,
+            },
+        ),
+    ),
     (
         183,
         1027,

@@ -1,8 +1,0 @@
-use Rattle.std.proofs.Common.{◌<◌, ℕ}
-use Rattle.std.specs.Prelude.{IfSome, slice_get}
-use Rattle.elfload.specs.Files.{AreDynamic}
-use Rattle.elfload.proofs.files.all_dynamic.Given as goal
-
--- the files so far have dynamic segments
-abbrev pub invariant-loop-input : goal.invariant-loop-input
-invariant-loop-input l = (i : ℕ) → i < l.input-index → IfSome (slice_get l.inputs i) (λ input. AreDynamic input.bytes.items)

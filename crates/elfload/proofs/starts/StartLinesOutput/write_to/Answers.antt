@@ -1,5 +1,0 @@
-use Rattle.std.proofs.Common.{refl}
-use Rattle.elfload.proofs.starts.StartLinesOutput.write_to.Goals as goal
-
-pub returns-in-Ok : goal.returns-in-Ok
-returns-in-Ok g c = (_, refl, c.in-Ok.ensures)

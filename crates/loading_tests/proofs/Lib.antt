@@ -1,0 +1,3 @@
+pub mod ImageLayouts
+pub mod NumbersRead
+pub mod SlotWords
