@@ -1,9 +1,10 @@
 -- The load that has a word, and the span of a plan, which has all loads.
 use Rattle.std.proofs.Common.{◌≡◌, ℕ, zero, suc, ◌+◌, ◌-◌, ◌*◌, ◌<◌, ◌≤◌, not, Bool, true, false, List, [], ◌∷◌, length, slice_index_or, Option, Some, None, if◌then◌else◌, min, max, refl, sym, ap, ◌∙◌, subst, arith}
 use Rattle.std.proofs.lemmas.Bool.{and_parts, and_right, le-ltb, leb-true, lt-leb, ltb-false, not-true, or_parts}
-use Rattle.std.proofs.lemmas.List.Folds.{find_at}
+use Rattle.std.proofs.lemmas.List.{take-append-drop}
+use Rattle.std.proofs.lemmas.List.Folds.{find_at, list_any-append}
 use Rattle.std.proofs.lemmas.Option.{get_or_from_slice_get, same_Some, slice_get_within}
-use Rattle.std.specs.Prelude.{IfSome, nat_le, option_map, slice_get}
+use Rattle.std.specs.Prelude.{IfSome, drop, nat_le, option_map, slice_get, take}
 use Rattle.std.specs.List.{Contains, find, list_any, position_or_len}
 use Rattle.elf_loading.specs.Types.{Segment, TableLocation, Word}
 use Rattle.elf_loading.specs.ImageWords.{IsKnown, holds_word, is_held, touch_one, touches, touches_at}
@@ -148,11 +149,12 @@ touch_none word load (table ∷ tables) holder free =
     let (first, rest) = or_parts (touches_at load.address load.mem_size table.start table.size) (touch_one load.address load.mem_size tables) free in
     rw (touch_within load.address load.mem_size word.address word.width table.start table.size holder.begins holder.ends first, touch_none word load tables holder rest) refl
 
--- so they are looked at only if the load of a word is not free
+-- so the last alone is looked at if the load of a word is free
 pub free_load : (plan : LoadPlan) (tables : List TableLocation) (word : Word) (holder : Holder) → IsKnown (plan_loads plan) tables holder → find (holds_word word) (plan_loads plan) ≡ Some holder.load
-    → holder.is_free ≡ true → list_any (touches word) tables ≡ false
+    → holder.is_free ≡ true → list_any (touches word) tables ≡ list_any (touches word) (drop 8 tables)
 free_load plan tables word holder known found free =
-    touch_none word holder.load tables (found_holder word (plan_loads plan) holder.load found) (not-true (touch_one holder.load.address holder.load.mem_size tables) (sym known.1 ∙ free))
+    let none = touch_none word holder.load (take 8 tables) (found_holder word (plan_loads plan) holder.load found) (not-true (touch_one holder.load.address holder.load.mem_size (take 8 tables)) (sym known.1 ∙ free)) in
+    ap (list_any (touches word)) (sym (take-append-drop 8 tables)) ∙ list_any-append (touches word) (take 8 tables) (drop 8 tables) ∙ rw none refl
 
 -- a load that was looked for
 pub holder_is : (word : Word) (loads : List Segment) (holder : Option Holder) (one : Holder) → option_map (λ some. some.load) holder ≡ find (holds_word word) loads → holder ≡ Some one

@@ -1,5 +1,5 @@
 -- Whether the words of relocations can be written (this project's own list, by what glibc 2.36 needs).
-use Rattle.std.specs.Prelude.{◌≡◌, ℕ, zero, suc, ◌+◌, ◌*◌, ◌/◌, ◌%◌, ◌<◌, ◌≤◌, ◌==◌, ◌&&◌, ◌||◌, not, nat_le, nat_lt, is_none, min, max, slice_get, slice_index, Bool, true, false, List, [], ◌∷◌, ◌++◌, All, map, length, Option, None, Some, Result, Ok, Err, IfOk, MatchOption, MatchResult, if◌then◌else◌}
+use Rattle.std.specs.Prelude.{◌≡◌, ℕ, zero, suc, ◌+◌, ◌*◌, ◌/◌, ◌%◌, ◌<◌, ◌≤◌, ◌==◌, ◌&&◌, ◌||◌, not, nat_le, nat_lt, is_none, min, max, take, slice_get, slice_index, Bool, true, false, List, [], ◌∷◌, ◌++◌, All, map, length, Option, None, Some, Result, Ok, Err, IfOk, MatchOption, MatchResult, if◌then◌else◌}
 use Rattle.std.specs.Borrow.{Bor}
 use Rattle.std.specs.Int.{bit_at}
 use Rattle.std.specs.List.{Contains, find, list_any}
@@ -113,10 +113,11 @@ pub record AreMarksOf (start : ℕ) (words : List Word) (marks : List ℕ) : Typ
 abbrev pub touch_one : ℕ → ℕ → List TableLocation → Bool
 touch_one address many tables = list_any (λ table. touches_at address many table.start table.size) tables
 
--- a load that had a word is one of these loads, and it is free if no table has a byte of its memory
+-- a load that had a word is one of these loads, and it is free if no table before the dynamic segment, which is the
+-- ninth, has a byte of its memory
 abbrev pub IsKnown : List Segment → List TableLocation → Holder → Type 0
 IsKnown loads tables holder = Contains loads holder.load
-    × (holder.is_free ≡ not (touch_one holder.load.address holder.load.mem_size tables))
+    × (holder.is_free ≡ not (touch_one holder.load.address holder.load.mem_size (take 8 tables)))
 
 -- there is a load, and its memory has all bytes of a word
 abbrev pub is_held : Word → Option Holder → Bool

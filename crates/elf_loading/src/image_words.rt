@@ -41,11 +41,15 @@ struct Room<'b, 'a> {
     tables: [TableLocation; 9],
 }
 
+// How many tables are before the dynamic segment, the last of all. In most files that one alone is in
+// a load that is written to.
+const READ_ONLY: usize = 8;
+
 // A load that has a word, and what is known of it.
 #[derive(Clone, Copy)]
 struct Holder {
     load: Segment,
-    // Whether its memory has no byte of a table.
+    // Whether its memory has no byte of a table before the dynamic segment.
     is_free: bool,
 }
 
@@ -111,7 +115,7 @@ fn new_holder(room: &Room<'_, '_>, word: &Word) -> Option<Holder>
     match holder_of(word, room.plan) {
         Some(load) => Some(Holder {
             load,
-            is_free: !touches_one(load.address, load.mem_size, &room.tables),
+            is_free: !touches_one(load.address, load.mem_size, &room.tables[..READ_ONLY]),
         }),
         None => None,
     }
@@ -155,7 +159,7 @@ fn is_in_table(room: &Room<'_, '_>, holder: &Holder, word: &Word) -> bool
     ensures { result ≡ list_any (touches word.now) room.now.tables }
 {
     if holder.is_free {
-        return false;
+        return touches_one(word.address, word.width, &room.tables[READ_ONLY..]);
     }
     touches_one(word.address, word.width, &room.tables)
 }

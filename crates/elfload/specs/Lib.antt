@@ -8,6 +8,7 @@ pub mod Plans
 pub mod Records
 pub mod Starts
 pub mod Statuses
+pub mod Symbols
 pub mod Texts
 pub mod Types
 pub mod Verdicts

@@ -17,10 +17,11 @@
 ghost use Rattle.std.specs.Prelude.{◌≡◌, ◌≢◌, ◌<◌, ◌≤◌, ◌⊎◌, IfErr, IfOk, IsFalse, IsTrue, Result, max};
 ghost use Rattle.elfload.specs.Ends.{IsBegun, IsEnd, IsFault, IsWordsEnd};
 ghost use Rattle.elfload.specs.Files.{AreAllStatic, AreLoaded};
-ghost use Rattle.elfload.specs.Found.{IsFoundGood, IsStartGood};
+ghost use Rattle.elfload.specs.Found.{AreTogetherGood, IsFoundGood, IsStartGood};
 ghost use Rattle.elfload.specs.Images.{AreImagesGood};
 ghost use Rattle.elfload.specs.Plans.{IsInputLoaded, IsInputPlan, IsInputError};
 ghost use Rattle.elfload.specs.Statuses.{ArePlanEnds, IsRunStatus};
+ghost use Rattle.elfload.specs.Symbols.{AreSymbolsFound, is_now};
 ghost use Rattle.elfload.specs.declared.plans.AnyError.{AnyError};
 ghost use Rattle.program_ends.specs.Appended.{AppendsSome};
 ghost use Rattle.program_ends.specs.Ends.{quiet_status_of};
@@ -33,6 +34,7 @@ use crate::paths::run_on_arguments;
 use crate::plans::{AnyError, Plan};
 use crate::printing::print_words;
 use crate::steps::{Step, early_starts, start_steps};
+use crate::symbols::say_unresolved;
 use elf_base::bytes::Record;
 use elf_loading::Binding;
 use linking_programs::Input;
@@ -58,6 +60,7 @@ mod records;
 mod start_lines;
 mod starts;
 mod steps;
+mod symbols;
 mod verdicts;
 mod words;
 
@@ -136,9 +139,10 @@ pub fn run<W: Write, E: Write>(
 /// libraries and versions are missing; returns the exit status.
 ///
 /// The status is that of `run` for the files of the program and its libraries, in the order in which names
-/// are looked up. It is 1 if that is 0 and a library or a version is missing, and if there is no memory for
-/// the list of the files. By the contract it is 0 only if each name that these files ask for, other than by an
-/// auxiliary entry, found an object, and if what `run` says of the status 0 is so.
+/// are looked up. It is 1 if that is 0 and a library or a version is missing, or, unless jump slots get their
+/// symbols later, a symbol; and if there is no memory for the list of the files. By the contract it is 0 only if each
+/// name that these files ask for, other than by an auxiliary entry, found an object, if what `run` says of the
+/// status 0 is so, and if each reference that isn't weak gets a symbol.
 pub fn run_found<W: Write, E: Write>(
     alloc: Global,
     asked: Options<'_>,
@@ -152,22 +156,80 @@ pub fn run_found<W: Write, E: Write>(
     ensures closed { result ≡ CLOSED → IsTrue out.new.closed }
     ensures complete { result ≡ 0 → IsComplete files.now tree.now.objects.items }
     ensures good { result ≡ 0 → IsFoundGood ⟦<DynEntry32 as Record>⟧ ⟦<DynEntry64 as Record>⟧
-        asked.entry.page files.now tree.now }
+        asked.entry files.now tree.now }
 {
     let missing = say_missing(alloc, NAME, files, tree, &mut *err);
     match listed_inputs(alloc, files, tree) {
-        Some(inputs) => with_missing(missing, run(alloc, asked, &inputs, out, err)),
+        Some(inputs) => run_together(alloc, asked, missing, &inputs, out, err),
         None => say_memory(err),
     }
+}
+
+/// Writes what `run` does of a program and its libraries, of which some may be missing, and returns the exit status.
+///
+/// The status is that of `run`. It is 1 if that is 0 and a library is missing; and, unless jump slots get their
+/// symbols later, if none is missing and a reference that isn't weak gets no symbol, which `err` says of the first.
+pub(crate) fn run_together<W: Write, E: Write>(
+    alloc: Global,
+    asked: Options<'_>,
+    missing: bool,
+    inputs: &[Input<'_>],
+    out: &mut Watched<W>,
+    err: &mut E,
+) -> u8
+    requires { 0 < asked.page }
+    ensures bound { result ≢ CLOSED → result ≤ 1 }
+    ensures closed { result ≡ CLOSED → IsTrue out.new.closed }
+    ensures whole { result ≡ 0 → IsFalse missing }
+    ensures good { result ≡ 0 → AreTogetherGood ⟦<DynEntry32 as Record>⟧ ⟦<DynEntry64 as Record>⟧
+        asked.entry inputs.now }
+{
+    let status = run(alloc, asked, inputs, out, &mut *err);
+    let wanted = is_now(asked.when) && has_dynamic(inputs);
+    with_symbols(alloc, status, missing, wanted, inputs, err)
+}
+
+// Whether jump slots get their symbols before the program runs.
+fn is_now(when: Binding) -> bool
+    ensures { result ≡ is_now when }
+{
+    match when {
+        Binding::Now => true,
+        Binding::Lazy => false,
+    }
+}
+
+// The status of files that had this one, of which some may be missing: 1 if it was 0 and one is, or, where that is
+// asked for, a symbol.
+fn with_symbols<E: Write>(
+    alloc: Global,
+    status: u8,
+    missing: bool,
+    wanted: bool,
+    inputs: &[Input<'_>],
+    err: &mut E,
+) -> u8
+    ensures kept { result ≡ 0 → status ≡ 0 }
+    ensures whole { result ≡ 0 → IsFalse missing }
+    ensures found { result ≡ 0 → IsTrue wanted
+        → AreSymbolsFound ⟦<DynEntry32 as Record>⟧ ⟦<DynEntry64 as Record>⟧ inputs.now }
+    ensures bound { (status ≢ CLOSED → status ≤ 1) → result ≢ CLOSED → result ≤ 1 }
+    ensures closed { result ≡ CLOSED → status ≡ CLOSED }
+{
+    if status != 0 || missing || !wanted {
+        return with_missing(missing, status);
+    }
+    say_unresolved(alloc, inputs, err)
 }
 
 /// Writes which functions run when a program starts, whose libraries were found, to `out`, and says to `err` which
 /// libraries and versions are missing; returns the exit status.
 ///
 /// The functions are those of the files of the program and its libraries, after the checks of `run_words` with pages of
-/// a size. The status is that of `run_words`; it is 1 if that is 0 and a library or a version is missing, and if there is no memory for
-/// the lists of the files and of the steps. By the contract it is 0 only if each name that these files ask for, other than
-/// by an auxiliary entry, found an object, and if these checks pass.
+/// a size. The status is that of `run_words`; it is 1 if that is 0 and a library, a version or a symbol is missing, and if
+/// there is no memory for the lists of the files and of the steps. By the contract it is 0 only if each name that these
+/// files ask for, other than by an auxiliary entry, found an object, if these checks pass, and if each reference that isn't
+/// weak gets a symbol.
 pub fn run_start<W: Write, E: Write>(
     alloc: Global,
     form: Form,
@@ -186,10 +248,10 @@ pub fn run_start<W: Write, E: Write>(
 {
     let missing = say_missing(alloc, NAME, files, tree, &mut *err);
     match listed_inputs(alloc, files, tree) {
-        Some(inputs) => with_missing(
-            missing,
-            run_steps(alloc, form, page, &inputs, tree, out, err),
-        ),
+        Some(inputs) => {
+            let status = run_steps(alloc, form, page, &inputs, tree, out, &mut *err);
+            with_symbols(alloc, status, missing, true, &inputs, err)
+        }
         None => say_memory(err),
     }
 }

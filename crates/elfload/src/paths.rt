@@ -5,7 +5,7 @@ ghost use Rattle.std.specs.Prelude.{◌<◌};
 use crate::arguments::{asked, asked_of_loader, asked_of_start};
 use crate::plans::AnyError;
 use crate::verdicts::run_verdicts;
-use crate::{HELP, NAME, Options, USAGE, run, run_found, run_start};
+use crate::{HELP, NAME, Options, USAGE, run, run_found, run_start, run_together};
 use elf_loading::Loader;
 use linking_programs::read_inputs;
 use program_ends::json::{Form, form_asked};
@@ -82,7 +82,7 @@ fn run_start_on<W: Write, E: Write>(
     }
 }
 
-// Writes what is asked of the files at some paths, or which can't be read.
+// Writes what is asked of a file by itself, or of a program and its libraries, at these paths, or which can't be read.
 fn run_on_files<W: Write, E: Write>(
     rt: &HostRuntime,
     asked: Options<'_>,
@@ -93,7 +93,8 @@ fn run_on_files<W: Write, E: Write>(
     requires { 0 < asked.page }
 {
     match read_inputs::<_, AnyError>(rt, paths) {
-        Ok(inputs) => run(rt.alloc(), asked, &inputs, out, err),
+        Ok(inputs) if paths.len() == 1 => run(rt.alloc(), asked, &inputs, out, err),
+        Ok(inputs) => run_together(rt.alloc(), asked, false, &inputs, out, err),
         Err(fault) => say(NAME, &fault, err),
     }
 }

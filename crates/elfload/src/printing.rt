@@ -60,7 +60,7 @@ fn ended<W: Drop>(
 }
 
 // What the program says where the words aren't written to their end.
-fn words_fault_of(stop: Stop<Failed<'_, LoadError>>) -> Fault<'_, AnyError>
+pub(crate) fn words_fault_of(stop: Stop<Failed<'_, LoadError>>) -> Fault<'_, AnyError>
     ensures { result ≡ words_fault_of stop.entry }
 {
     match stop {
@@ -182,7 +182,7 @@ fn write_steps<'a, E: LinkedSymbol, W: Write + Drop>(
 }
 
 // Why files are not read, as an error of a loader.
-fn load_stop(stop: Stop<Failed<'_, LinkError>>) -> Stop<Failed<'_, LoadError>>
+pub(crate) fn load_stop(stop: Stop<Failed<'_, LinkError>>) -> Stop<Failed<'_, LoadError>>
     ensures { result ≡ load_stop stop.entry }
 {
     match stop {

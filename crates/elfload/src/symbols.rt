@@ -1,0 +1,118 @@
+//! Whether each reference gets a symbol, unless it is weak.
+
+ghost use Rattle.std.specs.Prelude.{◌≡◌, ◌≤◌, IfOk, length, map};
+ghost use Rattle.elf_linking.specs.Exports.{object_parts};
+ghost use Rattle.elfload.specs.Symbols.{AreInputsBound, AreSymbolsFound};
+
+use crate::NAME;
+use crate::printing::{load_stop, words_fault_of};
+use elf_base::bytes::Record;
+use elf_linking::checked::{CheckedBinding, CheckedScope};
+use elf_linking::view::LinkedSymbol;
+use elf_linking::{CheckedObject, DynamicObject, LinkError};
+use linking_programs::{Failed, Input, failure_at, is_first_narrow, read_objects};
+use program_ends::{Stop, say, write_name};
+use std::alloc::Global;
+use std::io;
+use std::io::Write;
+use xmas_elf::symbol_table::{DynEntry32, DynEntry64};
+
+// 0 if each reference of the files that isn't weak gets a symbol; otherwise 1, and `err` says of the first
+// that doesn't which file has it and for which symbol, or why the files can't be read.
+pub(crate) fn say_unresolved<W: Write>(alloc: Global, inputs: &[Input<'_>], err: &mut W) -> u8
+    ensures bound { result ≤ 1 }
+    ensures found { result ≡ 0
+        → AreSymbolsFound ⟦<DynEntry32 as Record>⟧ ⟦<DynEntry64 as Record>⟧ inputs.now }
+{
+    if is_first_narrow(inputs) {
+        say_first::<DynEntry32, _>(alloc, inputs, err)
+    } else {
+        say_first::<DynEntry64, _>(alloc, inputs, err)
+    }
+}
+
+// The same for files of a class.
+fn say_first<E: LinkedSymbol, W: Write>(alloc: Global, inputs: &[Input<'_>], err: &mut W) -> u8
+    ensures bound { result ≤ 1 }
+    ensures found { result ≡ 0
+        → AreInputsBound {E = E} E.Record E.fields E.CLASS E.SIZE inputs.now }
+{
+    let objects = match read_objects::<E>(alloc, inputs) {
+        Ok(objects) => objects,
+        Err(stop) => return say(NAME, &words_fault_of(load_stop(stop)), err),
+    };
+    let checked = match checked_objects(alloc, inputs, &objects) {
+        Ok(checked) => checked,
+        Err(stop) => return say(NAME, &words_fault_of(load_stop(stop)), err),
+    };
+    match CheckedScope::new(&checked).unresolved().next() {
+        Some(item) => say_symbol(inputs, &objects, item, err),
+        None => 0,
+    }
+}
+
+// The objects, which have passed their checks once.
+fn checked_objects<'s, 'a, E: LinkedSymbol>(
+    alloc: Global,
+    inputs: &'s [Input<'_>],
+    objects: &[DynamicObject<'a, E>],
+) -> Result<Vec<CheckedObject<'a, E>>, Stop<Failed<'s, LinkError>>>
+    requires { length objects.now ≡ length inputs.now }
+    ensures { IfOk result (λ checked. checked.items ≡ map (object_parts E.fields) objects.now) }
+{
+    let mut checked = Vec::new(alloc);
+    for index in 0..objects.len() {
+        match CheckedObject::of(objects[index]) {
+            Ok(object) => {
+                if checked.push(object).is_err() {
+                    return Err(Stop::Memory);
+                }
+            }
+            Err(error) => return Err(failure_at(inputs, index, error)),
+        }
+    }
+    Ok(checked)
+}
+
+// Says which symbol a reference doesn't get, in the words of `ld.so`.
+fn say_symbol<E: LinkedSymbol, W: Write>(
+    inputs: &[Input<'_>],
+    objects: &[DynamicObject<'_, E>],
+    item: Result<CheckedBinding<E>, usize>,
+    err: &mut W,
+) -> u8
+    ensures { result ≡ 1 }
+{
+    let (from, name) = match item {
+        Ok(binding) => {
+            let index = binding.reference.symbol;
+            (binding.from, name_at(objects, binding.from, index))
+        }
+        Err(from) => (from, None),
+    };
+    let path = match inputs.get(from) {
+        Some(input) => input.path,
+        None => "?",
+    };
+    let _ = write_symbol(path, name.unwrap_or(b"?"), err);
+    1
+}
+
+// The name of the symbol at an index of the object at an index, if it can be read.
+fn name_at<'a, E: LinkedSymbol>(
+    objects: &[DynamicObject<'a, E>],
+    from: usize,
+    index: u32,
+) -> Option<&'a [u8]> {
+    match objects.get(from)?.name_bytes(index) {
+        Ok(name) => Some(name),
+        Err(_) => None,
+    }
+}
+
+// Writes that a file has no definition of a symbol of this name.
+fn write_symbol<W: Write>(path: &str, name: &[u8], err: &mut W) -> io::Result<()> {
+    write!(err, "{NAME}: {path}: undefined symbol: ")?;
+    write_name(name, err)?;
+    err.write_all(b"\n")
+}
