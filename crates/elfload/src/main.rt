@@ -185,8 +185,10 @@ pub(crate) fn run_together<W: Write, E: Write>(
         asked.entry inputs.now }
 {
     let status = run(alloc, asked, inputs, out, &mut *err);
-    let wanted = is_now(asked.when) && has_dynamic(inputs);
-    with_symbols(alloc, status, missing, wanted, inputs, err)
+    if !has_dynamic(inputs) {
+        return with_missing(missing, status);
+    }
+    with_symbols(alloc, status, missing, is_now(asked.when), inputs, err)
 }
 
 // Whether jump slots get their symbols before the program runs.

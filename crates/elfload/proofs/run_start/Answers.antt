@@ -1,26 +1,30 @@
-use Rattle.std.proofs.Common.{◌≡◌, ℕ, List, subst}
+use Rattle.std.proofs.Common.{rules, ◌≡◌, ℕ, List, refl, subst}
 use Rattle.elfload.specs.Images.{AreImagesGood}
+use Rattle.elfload.specs.Symbols.{AreSymbolsFound}
 use Rattle.elfload.proofs.run_start.Goals as goal
 use Rattle.linking_programs.specs.declared.Input.{Input}
 
--- the checks of the same inputs
+-- the checks of the same inputs, and their symbols
 same_good : (narrow_record wide_record : _) (page : ℕ) (one other : List Input) → one ≡ other → AreImagesGood narrow_record wide_record page one → AreImagesGood narrow_record wide_record page other
 same_good narrow_record wide_record page one other same is = subst (λ (inputs : List Input). AreImagesGood narrow_record wide_record page inputs) same is
 
+same_found : (narrow_record wide_record : _) (one other : List Input) → one ≡ other → AreSymbolsFound narrow_record wide_record one → AreSymbolsFound narrow_record wide_record other
+same_found narrow_record wide_record one other same is = subst (λ (inputs : List Input). AreSymbolsFound narrow_record wide_record inputs) same is
+
 pub returns-in-Some-clause-bound : goal.returns-in-Some-clause-bound
-returns-in-Some-clause-bound g c = c.with_missing.ensures.bound c.run_steps.ensures.bound
+returns-in-Some-clause-bound g c = c.with_symbols.ensures.bound c.run_steps-status.ensures.bound
 
 pub returns-in-Some-clause-closed : goal.returns-in-Some-clause-closed
-returns-in-Some-clause-closed g c = λ is. c.run_steps.ensures.closed (c.with_missing.ensures.closed is)
+returns-in-Some-clause-closed g c = λ is. c.run_steps-status.ensures.closed (c.with_symbols.ensures.closed is)
 
 pub returns-in-Some-clause-complete : goal.returns-in-Some-clause-complete
-returns-in-Some-clause-complete g c = λ zero. c.say_missing-missing.ensures (c.with_missing.ensures.whole zero)
+returns-in-Some-clause-complete g c = λ zero. c.say_missing-missing.ensures (c.with_symbols.ensures.whole zero)
 
 pub returns-in-Some-clause-good : goal.returns-in-Some-clause-good
 returns-in-Some-clause-good g c = λ zero.
-    let kept : c.run_steps.result ≡ 0 = c.with_missing.ensures.kept zero in
     record {
       inputs = c.in-Some.inputs.items;
       inputs_are = c.in-Some.ensures;
-      checked = same_good _ _ c.args.page _ _ c.deref.ensures.value (c.run_steps.ensures.checked kept);
+      checked = same_good _ _ c.args.page _ _ c.deref.ensures.value (c.run_steps-status.ensures.checked (c.with_symbols.ensures.kept zero));
+      found = same_found _ _ _ _ c.deref-2.ensures.value (c.with_symbols.ensures.found zero refl);
     }
