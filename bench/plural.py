@@ -38,7 +38,7 @@ COSTS, FIRST, LAST = HERE.parent / "docs/COSTS.md", "<!-- plural -->\n", "<!-- /
 # The most segments of a plan, whose table has a page.
 MOST_SEGMENTS = 72
 PT_LOAD, PT_DYNAMIC = 1, 2
-SHT_RELA, SHT_DYNAMIC, SHT_RELR = 4, 6, 19
+SHT_RELA, SHT_DYNAMIC, SHT_NOTE, SHT_RELR = 4, 6, 7, 19
 TAGS = {"NEEDED": 1, "HASH": 4, "STRTAB": 5, "SYMTAB": 6, "RELA": 7, "RELASZ": 8, "RELAENT": 9, "STRSZ": 10, "SYMENT": 11, "RELRSZ": 35,
         "RELR": 36, "RELRENT": 37, "VERSYM": 0x6FFFFFF0, "VERDEF": 0x6FFFFFFC, "VERDEFNUM": 0x6FFFFFFD, "VERNEED": 0x6FFFFFFE, "VERNEEDNUM": 0x6FFFFFFF}
 R_X86_64_GLOB_DAT, R_X86_64_RELATIVE = 6, 8
@@ -101,11 +101,12 @@ def sectioned(count: int) -> bytes:
 
 
 def tables_of(count: int) -> bytes:
-    """An object file with a section of so many relocations, one of packed ones, and one of dynamic entries."""
+    """An object file with a section of so many relocations, one of packed ones, one of dynamic entries, and one of notes."""
     relocations = b"".join(struct.pack("<QQq", 8 * it, R_X86_64_RELATIVE, it) for it in range(count))
     packed = b"".join(struct.pack("<Q", 16 * it) for it in range(count))
     entries = struct.pack("<QQ", TAGS["STRSZ"], 1) * (count - 1) + bytes(16)
-    return damage.elf_file([(b".rela", SHT_RELA, relocations, 0, 24), (b".relr", SHT_RELR, packed, 0, 8), (b".dynamic", SHT_DYNAMIC, entries, 0, 16)])
+    notes = struct.pack("<III4s", 4, 0, 1, b"GNU\0") * count
+    return damage.elf_file([(b".rela", SHT_RELA, relocations, 0, 24), (b".relr", SHT_RELR, packed, 0, 8), (b".dynamic", SHT_DYNAMIC, entries, 0, 16), (b".note", SHT_NOTE, notes, 0, 0)])
 
 
 def mapped(count: int) -> bytes:
@@ -165,6 +166,7 @@ CALLS = {
     "relocations of a section": (tables_of, "relocations", lambda it: records_of(it.section(".rela").relocations())),
     "packed relocations of a section": (tables_of, "packed_relocations", lambda it: records_of(it.section(".relr").packed_relocations())),
     "dynamic entries of a section": (tables_of, "dynamics", lambda it: records_of(it.dynamic())),
+    "notes, a call for each": (tables_of, "note", lambda it: records_of(it.notes())),
     "dynamic entries": (shared, "dynamic_entries", lambda it: records_of(it.dynamic())),
     "needed libraries": (shared, "dynamic_texts", lambda it: records_of(it.needed)),
     "relocations": (shared, "dynamic_relocations", lambda it: records_of(it.relocations())),

@@ -1334,7 +1334,8 @@ XMAS_ELF_NODISCARD uint32_t xmas_elf_size_changes(xmas_elf_size_part_t *olds, si
  * `directory`. Ask from index 0 on; XMAS_ELF_NO_RECORD means that there are no more. It writes the bytes of the path
  * to the front of `text`, as many as fit, without a zero byte at the end, and the number of all to `size` of `out`. A
  * candidate that is there passes `xmas_elf_check_debug`, or is another file's. A build id or a link that can't be
- * read gives no path. Each call searches the sections of the file anew. Errors: XMAS_ELF_NO_RECORD. */
+ * read gives no path. Each call searches the sections of the file anew, and without the section .note.gnu.build-id
+ * the notes of all segments: in a file made to be slow the time is segments times notes. Errors: XMAS_ELF_NO_RECORD. */
 XMAS_ELF_NODISCARD uint32_t xmas_elf_debug_path(const uint8_t *input, size_t input_size,
     const xmas_elf_header_t *header, const uint8_t *path, size_t path_size, const uint8_t *directory,
     size_t directory_size, uint64_t index, uint8_t *text, size_t text_size, xmas_elf_debug_candidate_t *out)
@@ -1342,7 +1343,8 @@ XMAS_ELF_NODISCARD uint32_t xmas_elf_debug_path(const uint8_t *input, size_t inp
 
 /* Whether `debug`, whose header `xmas_elf_open` read, is the debug file of the file. `how` is that of the path where
  * it was found: one found by the build id (0) has the same build id; any other has the CRC that the link says, of all
- * its bytes. Errors, in the order of the tests: XMAS_ELF_NO_BUILD_ID, XMAS_ELF_OTHER_BUILD_ID,
+ * its bytes. Without the section .note.gnu.build-id the notes of all segments are read: in a file made to be slow the
+ * time is segments times notes. Errors, in the order of the tests: XMAS_ELF_NO_BUILD_ID, XMAS_ELF_OTHER_BUILD_ID,
  * XMAS_ELF_OTHER_CHECKSUM. */
 XMAS_ELF_NODISCARD uint32_t xmas_elf_check_debug(const uint8_t *input, size_t input_size,
     const xmas_elf_header_t *header, uint32_t how, const uint8_t *debug, size_t debug_size,
@@ -1411,10 +1413,10 @@ XMAS_ELF_NODISCARD uint32_t xmas_elf_check_image(const xmas_elf_load_object_t *o
  * call takes up to 64 objects; for more it returns XMAS_ELF_MANY_OBJECTS. It reads all files before it tests `of`, so
  * XMAS_ELF_LINK_OBJECT_INDEX comes before errors of the files only where there is no object. A relocation that names
  * a symbol takes a look-up in each file up to the one that has it, as `xmas_elf_find_symbol` does after its count,
- * and each word a pass over program headers: in files made to be slow the time is relocations times what these take.
- * It needs about 200 KiB of stack. Errors, in the order of the tests: those of the objects, those of a load plan,
- * XMAS_ELF_LOAD_IMAGE_SIZE, those of a relocation, XMAS_ELF_LOAD_UNRESOLVED, XMAS_ELF_LOAD_WORD_ADDRESS,
- * XMAS_ELF_LOAD_COPY_SOURCE. */
+ * and each word a pass over program headers; with `lazy` 1 a jump slot takes passes over the dynamic entries too: in
+ * files made to be slow the time is relocations times what these take. It needs about 200 KiB of stack. Errors, in
+ * the order of the tests: those of the objects, those of a load plan, XMAS_ELF_LOAD_IMAGE_SIZE,
+ * those of a relocation, XMAS_ELF_LOAD_UNRESOLVED, XMAS_ELF_LOAD_WORD_ADDRESS, XMAS_ELF_LOAD_COPY_SOURCE. */
 XMAS_ELF_NODISCARD uint32_t xmas_elf_relocate(const xmas_elf_load_object_t *objects, size_t objects_count,
     uint64_t of, uint32_t lazy, uint64_t page, uint64_t limit, uint8_t *image, size_t image_size, uint64_t *count,
     uint64_t *failed) XMAS_ELF_NOEXCEPT;
@@ -1431,10 +1433,10 @@ XMAS_ELF_NODISCARD uint32_t xmas_elf_relocate(const xmas_elf_load_object_t *obje
  * of words the last object with one counts: then the objects after it are relocated, and its words before the first
  * that can't be written are written. Otherwise `images` is unchanged. A relocation that names a symbol takes a
  * look-up in each file up to the one that has it, as `xmas_elf_find_symbol` does after its count, and each word a
- * pass over program headers: in files made to be slow the time is relocations times what these take. It needs about
- * 200 KiB of stack. Errors, in the order of the tests: those of the objects, those of a load plan,
- * XMAS_ELF_LOAD_IMAGE_SIZE, those of a relocation, XMAS_ELF_LOAD_UNRESOLVED, XMAS_ELF_LOAD_WORD_ADDRESS,
- * XMAS_ELF_LOAD_COPY_SOURCE. */
+ * pass over program headers; with `lazy` 1 a jump slot takes passes over the dynamic entries too: in files made to be
+ * slow the time is relocations times what these take. It needs about 200 KiB of stack. Errors, in the order of the
+ * tests: those of the objects, those of a load plan, XMAS_ELF_LOAD_IMAGE_SIZE, those of a relocation,
+ * XMAS_ELF_LOAD_UNRESOLVED, XMAS_ELF_LOAD_WORD_ADDRESS, XMAS_ELF_LOAD_COPY_SOURCE. */
 XMAS_ELF_NODISCARD uint32_t xmas_elf_relocate_all(const xmas_elf_load_object_t *objects, size_t objects_count,
     uint32_t lazy, uint64_t page, uint64_t limit, uint8_t *images, size_t images_size, uint64_t *left,
     uint64_t *failed) XMAS_ELF_NOEXCEPT;

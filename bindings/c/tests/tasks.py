@@ -5,7 +5,7 @@
 
 FOLDER has the programs, as tools/exports/bindings.sh builds them; N files of the system are compared, 300 where no number is given, and
 a library of class 32 with a build id: which symbols a file has (readelf), which names a backtrace has (addr2line), how large functions
-are (nm), and how files are hardened (checksec, if it is installed). Of fifty copies of a program, and of that library, of which parts
+are (nm), how files are hardened (checksec, if it is installed), and whether one loads, which C and Rust say. Of fifty copies of a program, and of that library, of which parts
 are missing each program ends with a message and a status, or prints all that it prints of the whole. Sizes are those of the copy: they
 sum to its size.
 """
@@ -49,7 +49,8 @@ ASKED = (
     (f"{EXAMPLES}/hardening", (LIBC, "FILE")),
 )
 # Those that look for the libraries of a program.
-OF_PROGRAMS = (("search", ("FILE",)), ("loads_c", ("FILE", LIBC, LINKER)))
+LOADS = ("loads_c", f"{EXAMPLES}/loads")
+OF_PROGRAMS = (("search", ("FILE",)), *((it, ("FILE", LIBC, LINKER)) for it in LOADS))
 
 
 def readelf_symbols(path):
@@ -136,12 +137,20 @@ def compare_hardening(folder, path, tally):
             tally.fault(f"{path}: {name}: the crate says {own}, checksec {value}")
 
 
+def compare_loads(folder, path, tally):
+    """Whether a file loads with the C library and the linker alone, or why not, is the same in both languages."""
+    in_c, in_rust = (run([f"{folder}/{it}", path, LIBC, LINKER]).output for it in LOADS)
+    if not in_c or in_c != in_rust:
+        tally.differ(path, "loads", in_rust, in_c)
+
+
 def compare(folder, path):
     tally = Tally("the programs")
     tally["files"] += 1
     compare_symbols(folder, path, tally)
     compare_names(folder, path, tally)
     compare_sizes(folder, path, tally)
+    compare_loads(folder, path, tally)
     if shutil.which("checksec"):
         compare_hardening(folder, path, tally)
     return tally

@@ -700,7 +700,8 @@ pub(crate) fn size_changes(olds: &mut [SizePart<'_>], news: &mut [SizePart<'_>],
 /// folder under `directory`. Ask from index 0 on; `NoRecord` means that there are no more. It writes the bytes of the
 /// path to the front of `text`, as many as fit, without a zero byte at the end, and the number of all to `size` of
 /// `out`. A candidate that is there passes `check_debug`, or is another file's. A build id or a link that can't be
-/// read gives no path. Each call searches the sections of the file anew. Errors: `NoRecord`.
+/// read gives no path. Each call searches the sections of the file anew, and without the section .note.gnu.build-id
+/// the notes of all segments: in a file made to be slow the time is segments times notes. Errors: `NoRecord`.
 pub(crate) fn debug_path(input: &[u8], header: &Header, path: &[u8], directory: &[u8], index: u64,
     text: &mut [u8]) -> Result<DebugCandidate, Error> {
     let mut out = DebugCandidate::default();
@@ -712,7 +713,8 @@ pub(crate) fn debug_path(input: &[u8], header: &Header, path: &[u8], directory: 
 
 /// Whether `debug`, whose header `open` read, is the debug file of the file. `how` is that of the path where it was
 /// found: one found by the build id (0) has the same build id; any other has the CRC that the link says, of all its
-/// bytes. Errors, in the order of the tests: `NoBuildId`, `OtherBuildId`, `OtherChecksum`.
+/// bytes. Without the section .note.gnu.build-id the notes of all segments are read: in a file made to be slow the
+/// time is segments times notes. Errors, in the order of the tests: `NoBuildId`, `OtherBuildId`, `OtherChecksum`.
 pub(crate) fn check_debug(input: &[u8], header: &Header, how: u32, debug: &[u8],
     debug_header: &Header) -> Result<(), Error> {
     // SAFETY: see the head of this file.
@@ -818,17 +820,17 @@ pub(crate) fn check_image(objects: &[LoadObject<'_>], of: u64, page: u64, limit:
 /// (`ManyObjects`), and where `image` is not of the size of the span (`LoadImageSize`). A call takes up to 64
 /// objects; for more it returns `ManyObjects`. It reads all files before it tests `of`, so `LinkObjectIndex` comes
 /// before errors of the files only where there is no object. A relocation that names a symbol takes a look-up in each
-/// file up to the one that has it, as `find_symbol` does after its count, and each word a pass over program headers:
-/// in files made to be slow the time is relocations times what these take. It needs about 200 KiB of stack. Errors,
-/// in the order of the tests: `LinkObjectIndex`, `ManyObjects`, `ShortPart1`, `NoMagic`, `InvalidClass`,
-/// `ShortHeaders`, `LinkNoDynamic`, `LinkAddress`, `DataRange`, `NotMultiple`, `LinkNoEntry`, `ShortData`,
-/// `LinkShortTable`, `LinkBloomCount`, `LinkChainIndex`, `LinkChainData`, `LinkSymbolIndex`, `LinkUnknownClass`,
-/// `LinkNotMultiple`, `LinkRelocationKind`, `SymbolIndex`, `HashData`, `ChainIndex`, `ChainSum`, `HashCycle`,
-/// `LinkShortVersion`, `LinkVersionCount`, `TextStart`, `TextEnd`, `TextUtf8`, `LoadType`, `LoadEntrySize`,
-/// `LoadCount`, `LoadTable`, `LoadFileSize`, `LoadEmpty`, `LoadMisaligned`, `LoadAlignment`, `LoadRange`, `LoadData`,
-/// `LoadOverlap`, `LoadZeros`, `LoadNoLoad`, `LoadHeaders`, `LoadInterpreter`, `LoadRelro`, `LoadTls`, `LoadEntry`,
-/// `LoadImageSize`, `LoadWordType`, `LoadNoSize`, `LoadCopyKind`, `LoadCallSymbol`, `LoadUnresolved`,
-/// `LoadWordAddress`, `LoadCopySource`.
+/// file up to the one that has it, as `find_symbol` does after its count, and each word a pass over program headers;
+/// with `lazy` 1 a jump slot takes passes over the dynamic entries too: in files made to be slow the time is
+/// relocations times what these take. It needs about 200 KiB of stack. Errors, in the order of the tests:
+/// `LinkObjectIndex`, `ManyObjects`, `ShortPart1`, `NoMagic`, `InvalidClass`, `ShortHeaders`, `LinkNoDynamic`,
+/// `LinkAddress`, `DataRange`, `NotMultiple`, `LinkNoEntry`, `ShortData`, `LinkShortTable`, `LinkBloomCount`,
+/// `LinkChainIndex`, `LinkChainData`, `LinkSymbolIndex`, `LinkUnknownClass`, `LinkNotMultiple`, `LinkRelocationKind`,
+/// `SymbolIndex`, `HashData`, `ChainIndex`, `ChainSum`, `HashCycle`, `LinkShortVersion`, `LinkVersionCount`,
+/// `TextStart`, `TextEnd`, `TextUtf8`, `LoadType`, `LoadEntrySize`, `LoadCount`, `LoadTable`, `LoadFileSize`,
+/// `LoadEmpty`, `LoadMisaligned`, `LoadAlignment`, `LoadRange`, `LoadData`, `LoadOverlap`, `LoadZeros`, `LoadNoLoad`,
+/// `LoadHeaders`, `LoadInterpreter`, `LoadRelro`, `LoadTls`, `LoadEntry`, `LoadImageSize`, `LoadWordType`,
+/// `LoadNoSize`, `LoadCopyKind`, `LoadCallSymbol`, `LoadUnresolved`, `LoadWordAddress`, `LoadCopySource`.
 pub(crate) fn relocate(objects: &[LoadObject<'_>], of: u64, lazy: u32, page: u64, limit: u64, image: &mut [u8],
     failed: &mut u64) -> Result<u64, Error> {
     let mut count = u64::default();
@@ -849,16 +851,17 @@ pub(crate) fn relocate(objects: &[LoadObject<'_>], of: u64, lazy: u32, page: u64
 /// not of the size of all images (`LoadImageSize`). Of errors of words the last object with one counts: then the
 /// objects after it are relocated, and its words before the first that can't be written are written. Otherwise
 /// `images` is unchanged. A relocation that names a symbol takes a look-up in each file up to the one that has it, as
-/// `find_symbol` does after its count, and each word a pass over program headers: in files made to be slow the time
-/// is relocations times what these take. It needs about 200 KiB of stack. Errors, in the order of the tests:
-/// `LinkObjectIndex`, `ManyObjects`, `ShortPart1`, `NoMagic`, `InvalidClass`, `ShortHeaders`, `LinkNoDynamic`,
-/// `LinkAddress`, `DataRange`, `NotMultiple`, `LinkNoEntry`, `ShortData`, `LinkShortTable`, `LinkBloomCount`,
-/// `LinkChainIndex`, `LinkChainData`, `LinkSymbolIndex`, `LinkUnknownClass`, `LinkNotMultiple`, `LinkRelocationKind`,
-/// `SymbolIndex`, `HashData`, `ChainIndex`, `ChainSum`, `HashCycle`, `LinkShortVersion`, `LinkVersionCount`,
-/// `TextStart`, `TextEnd`, `TextUtf8`, `LoadType`, `LoadEntrySize`, `LoadCount`, `LoadTable`, `LoadFileSize`,
-/// `LoadEmpty`, `LoadMisaligned`, `LoadAlignment`, `LoadRange`, `LoadData`, `LoadOverlap`, `LoadZeros`, `LoadNoLoad`,
-/// `LoadHeaders`, `LoadInterpreter`, `LoadRelro`, `LoadTls`, `LoadEntry`, `LoadImageSize`, `LoadWordType`,
-/// `LoadNoSize`, `LoadCopyKind`, `LoadCallSymbol`, `LoadUnresolved`, `LoadWordAddress`, `LoadCopySource`.
+/// `find_symbol` does after its count, and each word a pass over program headers; with `lazy` 1 a jump slot takes
+/// passes over the dynamic entries too: in files made to be slow the time is relocations times what these take. It
+/// needs about 200 KiB of stack. Errors, in the order of the tests: `LinkObjectIndex`, `ManyObjects`, `ShortPart1`,
+/// `NoMagic`, `InvalidClass`, `ShortHeaders`, `LinkNoDynamic`, `LinkAddress`, `DataRange`, `NotMultiple`,
+/// `LinkNoEntry`, `ShortData`, `LinkShortTable`, `LinkBloomCount`, `LinkChainIndex`, `LinkChainData`,
+/// `LinkSymbolIndex`, `LinkUnknownClass`, `LinkNotMultiple`, `LinkRelocationKind`, `SymbolIndex`, `HashData`,
+/// `ChainIndex`, `ChainSum`, `HashCycle`, `LinkShortVersion`, `LinkVersionCount`, `TextStart`, `TextEnd`, `TextUtf8`,
+/// `LoadType`, `LoadEntrySize`, `LoadCount`, `LoadTable`, `LoadFileSize`, `LoadEmpty`, `LoadMisaligned`,
+/// `LoadAlignment`, `LoadRange`, `LoadData`, `LoadOverlap`, `LoadZeros`, `LoadNoLoad`, `LoadHeaders`,
+/// `LoadInterpreter`, `LoadRelro`, `LoadTls`, `LoadEntry`, `LoadImageSize`, `LoadWordType`, `LoadNoSize`,
+/// `LoadCopyKind`, `LoadCallSymbol`, `LoadUnresolved`, `LoadWordAddress`, `LoadCopySource`.
 pub(crate) fn relocate_all(objects: &[LoadObject<'_>], lazy: u32, page: u64, limit: u64, images: &mut [u8],
     failed: &mut u64) -> Result<u64, Error> {
     let mut left = u64::default();

@@ -7,7 +7,7 @@ use std::env;
 use std::fs::File;
 use std::io::{BufWriter, Read, Write};
 use xmas_elf::ElfFile;
-use xmas_elf::sections::SectionData;
+use xmas_elf::sections::{SectionData, ShType};
 use xmas_elf::symbol_table::{Entry, SymbolTable};
 
 fn main(rt: HostRuntime) -> anyhow::Result<()> {
@@ -17,12 +17,16 @@ fn main(rt: HostRuntime) -> anyhow::Result<()> {
     let file = ElfFile::new(&input)?;
     let mut out = BufWriter::new(rt.alloc(), rt.stdout())?;
     writeln!(out, "{} sections", file.section_count())?;
-    for section in file.section_iter() {
+    for index in 0..file.section_count() {
+        let section = file.section_header_at(index)?;
         let name = file.get_shstr_bytes(section.name()).unwrap_or(b"?");
         write!(out, "{:6} ", section.size())?;
         out.write_all(name)?;
         writeln!(out)?;
-        if let Ok(SectionData::SymbolTable64(symbols)) = section.get_data(&file) {
+        if section.get_type() != Ok(ShType::SymTab) {
+            continue;
+        }
+        if let SectionData::SymbolTable64(symbols) = section.get_data(&file)? {
             let names = SymbolTable::new(symbols, &file);
             for symbol in symbols {
                 let name = names.name_bytes_of(&symbol).unwrap_or(b"?");
