@@ -31,20 +31,26 @@ inside elfsize /bin/ls > "$room/sizes"
 inside elfload /bin/ls > "$room/plan"
 grep -q "section .text" "$room/sizes" && grep -q "^glibc" "$room/plan"
 
-# In C and C++ with the installed header and library, and what the root's pkg-config says of them.
+# The examples, and the first program of each page: in C and C++ with the installed header and library, and what the root's pkg-config says
+# of them; in Rust with the installed crate; in Python with the installed wheel.
+shown() { awk -v mark="^\`\`\`$2\$" '$0 ~ mark { on = 1; next } on && /^```$/ { exit } on' "$dist/$1/README.md"; }
 unset XMAS_ELF_ARCHIVE CARGO_TARGET_DIR
 read -ra flags <<< "$(inside pkg-config --cflags --libs xmas_elf)"
 folders=(-I"$root/usr/include" -L"$root/usr/lib/x86_64-linux-gnu")
-gcc -std=c11 "${folders[@]}" "$dist/examples/symbols.c" "${flags[@]}" -o "$root/tmp/symbols_c"
-g++ -std=c++17 "${folders[@]}" "$dist/examples/symbols.cpp" "${flags[@]}" -o "$root/tmp/symbols_cpp"
-# In Rust with the installed crate.
-cargo new --quiet --vcs none "$room/symbols_rs"
-cp "$dist/examples/symbols.rs" "$room/symbols_rs/src/main.rs"
-cargo add --quiet --offline --manifest-path "$room/symbols_rs/Cargo.toml" --path "$root/usr/share/xmas-elf/rust"
-cargo build --quiet --offline --manifest-path "$room/symbols_rs/Cargo.toml"
-cp "$room/symbols_rs/target/debug/symbols_rs" "$root/tmp/"
-# In Python with the installed wheel.
+for it in c cpp; do shown c $it > "$room/page.$it"; done
+for program in "$dist/examples/symbols" "$room/page"; do
+    gcc -std=c11 "${folders[@]}" "$program.c" "${flags[@]}" -o "$root/tmp/${program##*/}_c"
+    g++ -std=c++17 "${folders[@]}" "$program.cpp" "${flags[@]}" -o "$root/tmp/${program##*/}_cpp"
+done
+cargo new --quiet --vcs none "$room/rust"
+mkdir "$room/rust/src/bin"
+cp "$dist/examples/symbols.rs" "$room/rust/src/bin/symbols_rs.rs"
+shown rust rust | sed 's|"/proc/self/exe"|"/bin/ls"|' > "$room/rust/src/bin/page_rs.rs"
+cargo add --quiet --offline --manifest-path "$room/rust/Cargo.toml" --path "$root/usr/share/xmas-elf/rust"
+cargo build --quiet --offline --manifest-path "$room/rust/Cargo.toml"
+cp "$room"/rust/target/debug/{symbols,page}_rs "$root/tmp/"
 cp "$dist/examples/symbols.py" "$root/tmp/"
+shown python python > "$root/tmp/page.py"
 inside python3 -m venv /tmp/room
 inside sh -c '/tmp/room/bin/pip install --quiet --no-index /usr/share/xmas-elf/*.whl'
 
@@ -53,4 +59,9 @@ inside /tmp/symbols_cpp /bin/ls | cmp - "$room/c"
 inside /tmp/symbols_rs /bin/ls | cmp - "$room/c"
 inside /tmp/room/bin/python /tmp/symbols.py /bin/ls | cmp - "$room/c"
 [ -s "$room/c" ] || { echo "no symbols of ls" >&2; exit 1; }
+for it in /tmp/page_c "/tmp/page_cpp /bin/ls" /tmp/page_rs "/tmp/room/bin/python /tmp/page.py"; do
+    # shellcheck disable=SC2086
+    inside $it < "$root/bin/ls" | cat > "$room/page"
+    [ -s "$room/page" ] || { echo "$it prints nothing" >&2; exit 1; }
+done
 echo "package: $(wc -l < "$room/c") symbols of ls from C, C++, Rust and Python in a root without a compiler"
