@@ -31,8 +31,7 @@ inside elfsize /bin/ls > "$room/sizes"
 inside elfload /bin/ls > "$room/plan"
 grep -q "section .text" "$room/sizes" && grep -q "^glibc" "$room/plan"
 
-# The examples, and the first program of each page: in C and C++ with the installed header and library, and what the root's pkg-config says
-# of them; in Rust with the installed crate; in Python with the installed wheel.
+# The examples, and the first program of each page, with the installed header, library, crate and wheel, and what pkg-config says there.
 shown() { awk -v mark="^\`\`\`$2\$" '$0 ~ mark { on = 1; next } on && /^```$/ { exit } on' "$dist/$1/README.md"; }
 unset XMAS_ELF_ARCHIVE CARGO_TARGET_DIR
 read -ra flags <<< "$(inside pkg-config --cflags --libs xmas_elf)"
@@ -42,26 +41,20 @@ for program in "$dist/examples/symbols" "$room/page"; do
     gcc -std=c11 "${folders[@]}" "$program.c" "${flags[@]}" -o "$root/tmp/${program##*/}_c"
     g++ -std=c++17 "${folders[@]}" "$program.cpp" "${flags[@]}" -o "$root/tmp/${program##*/}_cpp"
 done
-cargo new --quiet --vcs none "$room/rust"
-mkdir "$room/rust/src/bin"
+cargo new --quiet --vcs none "$room/rust" && mkdir "$room/rust/src/bin"
 cp "$dist/examples/symbols.rs" "$room/rust/src/bin/symbols_rs.rs"
 shown rust rust | sed 's|"/proc/self/exe"|"/bin/ls"|' > "$room/rust/src/bin/page_rs.rs"
 cargo add --quiet --offline --manifest-path "$room/rust/Cargo.toml" --path "$root/usr/share/xmas-elf/rust"
 cargo build --quiet --offline --manifest-path "$room/rust/Cargo.toml"
-cp "$room"/rust/target/debug/{symbols,page}_rs "$root/tmp/"
-cp "$dist/examples/symbols.py" "$root/tmp/"
+cp "$room"/rust/target/debug/{symbols,page}_rs "$dist/examples/symbols.py" "$root/tmp/"
 shown python python > "$root/tmp/page.py"
 inside python3 -m venv /tmp/room
 inside sh -c '/tmp/room/bin/pip install --quiet --no-index /usr/share/xmas-elf/*.whl'
 
 inside /tmp/symbols_c /bin/ls > "$room/c"
-inside /tmp/symbols_cpp /bin/ls | cmp - "$room/c"
-inside /tmp/symbols_rs /bin/ls | cmp - "$room/c"
-inside /tmp/room/bin/python /tmp/symbols.py /bin/ls | cmp - "$room/c"
+for it in symbols_cpp symbols_rs "room/bin/python /tmp/symbols.py"; do inside sh -c "/tmp/$it /bin/ls" | cmp - "$room/c"; done
 [ -s "$room/c" ] || { echo "no symbols of ls" >&2; exit 1; }
 for it in /tmp/page_c "/tmp/page_cpp /bin/ls" /tmp/page_rs "/tmp/room/bin/python /tmp/page.py"; do
-    # shellcheck disable=SC2086
-    inside $it < "$root/bin/ls" | cat > "$room/page"
-    [ -s "$room/page" ] || { echo "$it prints nothing" >&2; exit 1; }
+    inside sh -c "$it" < "$root/bin/ls" > "$room/page" && [ -s "$room/page" ] || { echo "$it prints nothing" >&2; exit 1; }
 done
 echo "package: $(wc -l < "$room/c") symbols of ls from C, C++, Rust and Python in a root without a compiler"
