@@ -195,7 +195,11 @@ fn check_checked_bindings<E: LinkedSymbol>(
     }
     want(rt, found.next().is_none(), true);
     // `absent`, which no object gives, is weak
-    want(rt, CheckedScope::new(&objects).unresolved().next().is_none(), true);
+    want(
+        rt,
+        CheckedScope::new(&objects).unresolved().next().is_none(),
+        true,
+    );
     Ok(())
 }
 
