@@ -150,7 +150,6 @@ fn find_holder(room: &Room<'_, '_>, word: &Word, holder: &mut Option<Holder>)
 }
 
 // Whether a word in the memory of a load and a table have a byte in common.
-#[tactic(auto, using(crate::proofs::ImageLoads::free_load))]
 #[inline(always)]
 fn is_in_table(room: &Room<'_, '_>, holder: &Holder, word: &Word) -> bool
     requires known { IsKnown (plan_loads room.now.plan.now) room.now.tables holder.now }
