@@ -1,5 +1,6 @@
 -- Items of a list at an index, and the items before and behind it.
-use Rattle.std.proofs.Common.{◌≡◌, ℕ, zero, suc, ◌+◌, ◌<◌, ◌++◌, Bool, List, [], ◌∷◌, true, false, length, drop, take, Some, None, refl, ap, ◌∙◌, sym, arith, add-one, subst}
+use Rattle.std.proofs.Common.{◌≡◌, ℕ, zero, suc, ◌+◌, ◌<◌, ◌≤◌, ◌++◌, Bool, List, [], ◌∷◌, true, false, length, drop, take, Some, None, refl, ap, ◌∙◌, sym, arith, add-one, subst}
+use Rattle.std.proofs.lemmas.List.{length-drop, take_all}
 use Rattle.std.specs.List.{list_any}
 use Rattle.std.specs.Prelude.{◌||◌, slice_get}
 
@@ -29,6 +30,23 @@ drop_some xs i x is = subst (λ n. drop i xs ≡ x ∷ drop n xs) (sym (add-one 
 pub take_some : {X : Type 0} (xs : List X) (i : ℕ) (x : X) → slice_get xs i ≡ Some x → take (i + 1) xs ≡ take i xs ++ x ∷ []
 take_some xs i x is = subst (λ n. take n xs ≡ take i xs ++ x ∷ []) (sym (add-one i)) (some_before xs i x is)
 
+-- the item in front of those behind an index, and those behind it
+pub front_is : {X : Type 0} (xs : List X) (i : ℕ) (x : X) (rest : List X) → drop i xs ≡ x ∷ rest → slice_get xs i ≡ Some x
+front_is [] zero x rest is = cc
+front_is [] (suc i) x rest is = cc
+front_is (y ∷ xs) zero x rest is = cc
+front_is (y ∷ xs) (suc i) x rest is = front_is xs i x rest is
+
+pub behind_is : {X : Type 0} (xs : List X) (i : ℕ) (x : X) (rest : List X) → drop i xs ≡ x ∷ rest → drop (i + 1) xs ≡ rest
+behind_is xs i x rest is = let same : x ∷ drop (i + 1) xs ≡ x ∷ rest = sym (drop_some xs i x (front_is xs i x rest is)) ∙ is in cc
+
+-- none is behind an index, so all are before it
+pub none_past : {X : Type 0} (xs : List X) (i n : ℕ) → drop i xs ≡ [] → i ≤ n → take n xs ≡ take i xs
+none_past xs i n is above =
+    let count : length (drop i xs) ≡ 0 = ap length is in
+    let whole : length xs ≤ i = omega (arith, length-drop i xs, count) in
+    take_all n xs (omega (arith, whole, above)) ∙ sym (take_all i xs whole)
+
 -- whether some item of a list passes a test
 pub any_pushed : {X : Type 0} (test : X → Bool) (xs : List X) (x : X) → list_any test xs ≡ false → test x ≡ false → list_any test (xs ++ x ∷ []) ≡ false
 any_pushed test [] x none fails = rw fails refl
@@ -50,15 +68,6 @@ any_at test (y ∷ xs) (suc i) (suc n) x is below hit = by_first (test y) (any_a
 
 pub any_more : {X : Type 0} (test : X → Bool) (xs : List X) (i : ℕ) (x : X) → slice_get xs i ≡ Some x → list_any test (take i xs) ≡ false → test x ≡ false → list_any test (take (i + 1) xs) ≡ false
 any_more test xs i x is none fails = ap (list_any test) (take_some xs i x is) ∙ any_pushed test (take i xs) x none fails
-
-past_same : {X : Type 0} (xs : List X) (i : ℕ) → slice_get xs i ≡ None → take (suc i) xs ≡ take i xs
-past_same [] zero is = refl
-past_same [] (suc i) is = refl
-past_same (x ∷ xs) zero is = cc
-past_same (x ∷ xs) (suc i) is = ap (λ zs. x ∷ zs) (past_same xs i is)
-
-pub any_past : {X : Type 0} (test : X → Bool) (xs : List X) (i : ℕ) → slice_get xs i ≡ None → list_any test (take i xs) ≡ false → list_any test (take (i + 1) xs) ≡ false
-any_past test xs i is none = ap (list_any test) (subst (λ n. take n xs ≡ take i xs) (sym (add-one i)) (past_same xs i is)) ∙ none
 
 -- the same of the items from an index on
 pub any_behind : {X : Type 0} (test : X → Bool) (xs : List X) (i : ℕ) (x : X) → slice_get xs i ≡ Some x → test x ≡ false → list_any test (drop i xs) ≡ list_any test (drop (i + 1) xs)

@@ -7,8 +7,8 @@ use Rattle.std.specs.List.{list_any}
 use Rattle.std.specs.Prelude.{codes, slice_get}
 use Rattle.elf_search.specs.Elements.{elements_of}
 use Rattle.elf_search.specs.Candidates.{AskedParts, AskerParts, all_candidates, asked_parts, asker_parts, candidate_at, first_how, first_rpath, has_run_path, has_slash, is_under, left_from, later_lists, list_of, lists_behind, lists_of, next_how, r_path_lists, rest_of_elements, rest_of_list}
-use Rattle.elf_search.specs.Lists.{CandidateParts, ListParts, are_same, candidate_in, candidates_among, candidates_behind, candidates_of, elements_in, is_kept, is_repeated, repeats_at}
-use Rattle.elf_search.proofs.ListItems.{any_at, any_behind, any_here, any_more, any_past, drop_last, drop_none, drop_some, take_some}
+use Rattle.elf_search.specs.Lists.{CandidateParts, ListParts, are_same, candidate_in, candidates_among, candidates_behind, candidates_of, elements_in, is_kept, is_repeated}
+use Rattle.elf_search.proofs.ListItems.{any_at, any_behind, any_here, any_more, drop_last, drop_none, drop_some, front_is, none_past, take_some}
 use Rattle.elf_search.specs.declared.candidates.Asker.{Asker}
 use Rattle.elf_search.specs.declared.candidates.Candidates.{Candidates}
 use Rattle.elf_search.specs.declared.candidates.Place.{Place}
@@ -64,19 +64,15 @@ step_end list place is = ap (λ elements. rest_of_elements list (take place.elem
 
 -- Of elements before an index that name the same directory.
 
-pub repeated_hit : (list : ListParts) (index above : ℕ) (element : List ℕ) → repeats_at list index element ≡ true → index < above → is_repeated list (take above (elements_in list)) element ≡ true
-repeated_hit list index above element hit below = by_found (slice_get (elements_in list) index) refl hit
-  where
-    by_found : (found : Option (List ℕ)) → slice_get (elements_in list) index ≡ found → unwrap_or (option_map (λ earlier. are_same list earlier element) found) false ≡ true → is_repeated list (take above (elements_in list)) element ≡ true
-    by_found None is hit = cc
-    by_found (Some earlier) is hit = any_at (λ earlier. are_same list earlier element) (elements_in list) index above earlier is below hit
+module _ (list : ListParts) (place : ℕ) (element : List ℕ) where
+  pub repeated_hit : (index : ℕ) (earlier : List ℕ) (rest : List (List ℕ)) → drop place (elements_in list) ≡ earlier ∷ rest → place < index → are_same list earlier element ≡ true → is_repeated list (take index (elements_in list)) element ≡ true
+  repeated_hit index earlier rest is below hit = any_at (λ earlier. are_same list earlier element) (elements_in list) place index earlier (front_is (elements_in list) place earlier rest is) below hit
 
-pub repeated_more : (list : ListParts) (index : ℕ) (element : List ℕ) → repeats_at list index element ≡ false → is_repeated list (take index (elements_in list)) element ≡ false → is_repeated list (take (index + 1) (elements_in list)) element ≡ false
-repeated_more list index element miss none = by_found (slice_get (elements_in list) index) refl miss
-  where
-    by_found : (found : Option (List ℕ)) → slice_get (elements_in list) index ≡ found → unwrap_or (option_map (λ earlier. are_same list earlier element) found) false ≡ false → is_repeated list (take (index + 1) (elements_in list)) element ≡ false
-    by_found None is miss = any_past (λ earlier. are_same list earlier element) (elements_in list) index is none
-    by_found (Some earlier) is miss = any_more (λ earlier. are_same list earlier element) (elements_in list) index earlier is none miss
+  pub repeated_more : (earlier : List ℕ) (rest : List (List ℕ)) → drop place (elements_in list) ≡ earlier ∷ rest → are_same list earlier element ≡ false → is_repeated list (take place (elements_in list)) element ≡ false → is_repeated list (take (place + 1) (elements_in list)) element ≡ false
+  repeated_more earlier rest is miss none = any_more (λ earlier. are_same list earlier element) (elements_in list) place earlier (front_is (elements_in list) place earlier rest is) none miss
+
+  pub repeated_end : (index : ℕ) → drop place (elements_in list) ≡ [] → place ≤ index → is_repeated list (take place (elements_in list)) element ≡ false → is_repeated list (take index (elements_in list)) element ≡ false
+  repeated_end index is above none = ap (λ before. is_repeated list before element) (none_past (elements_in list) place index is above) ∙ none
 
 -- Of items at an index.
 

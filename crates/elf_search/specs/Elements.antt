@@ -1,6 +1,7 @@
 -- The elements of a list of directories (`ld.so`'s manual page, LD_LIBRARY_PATH and DT_RUNPATH: colons, and semicolons of the
 -- environment; that an empty list has no element, as in glibc 2.36).
-use Rattle.std.specs.Prelude.{ℕ, suc, ◌==◌, nat_eq, Bool, List, [], ◌∷◌, length, if◌then◌else◌}
+use Rattle.std.specs.Borrow.{Bor}
+use Rattle.std.specs.Prelude.{ℕ, suc, ◌==◌, nat_eq, Bool, List, [], ◌∷◌, length, Option, None, Some, if◌then◌else◌}
 use Rattle.std.specs.List.{list_any}
 
 -- a byte ends an element
@@ -22,6 +23,11 @@ abbrev pub pieces_of : List ℕ → List ℕ → List (List ℕ)
 pieces_of separators [] = [] ∷ []
 pieces_of separators (byte ∷ text) =
     if is_end separators byte then [] ∷ pieces_of separators text else in_front byte (pieces_of separators text)
+
+-- those of what is left of a text, if something is
+abbrev pub pieces_left : List ℕ → Option (Bor (List ℕ)) → List (List ℕ)
+pieces_left separators None = []
+pieces_left separators (Some text) = pieces_of separators text.now
 
 -- the elements of a list: none of an empty one, otherwise its pieces
 abbrev pub elements_of : List ℕ → List ℕ → List (List ℕ)

@@ -1,6 +1,6 @@
 -- The lists of directories in which a name is looked for, and what their elements give (`ld.so`'s manual page; which elements
 -- drop out, as in glibc 2.36).
-use Rattle.std.specs.Prelude.{ℕ, ◌&&◌, ◌||◌, not, false, nat_eq, Bool, List, [], ◌∷◌, ◌++◌, map, option_map, slice_get, unwrap_or, if◌then◌else◌}
+use Rattle.std.specs.Prelude.{ℕ, ◌&&◌, ◌||◌, not, nat_eq, Bool, List, [], ◌∷◌, ◌++◌, map, if◌then◌else◌}
 use Rattle.std.specs.Cmp.Lexicographic.{pointwise}
 use Rattle.std.specs.List.{list_any}
 use Rattle.elf_search.specs.Elements.{elements_of}
@@ -53,10 +53,6 @@ are_same list earlier element = has_directory_in list earlier
 -- one of the earlier elements names the same directory
 abbrev pub is_repeated : ListParts → List (List ℕ) → List ℕ → Bool
 is_repeated list before element = list_any (λ earlier. are_same list earlier element) before
-
--- the element at an index, if there is one, names the same directory
-abbrev pub repeats_at : ListParts → ℕ → List ℕ → Bool
-repeats_at list index element = unwrap_or (option_map (λ earlier. are_same list earlier element) (slice_get (elements_in list) index)) false
 
 -- an element gives candidates: it names a directory, and none of the earlier elements names the same
 abbrev pub is_kept : ListParts → List (List ℕ) → List ℕ → Bool

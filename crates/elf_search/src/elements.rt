@@ -1,7 +1,8 @@
 //! The elements of a list of directories.
 
-ghost use Rattle.std.specs.Prelude.{◌≡◌, ◌+◌, ◌<◌, ◌≤◌, IfSome, false, length, option_map, slice_get, true};
-ghost use Rattle.elf_search.specs.Elements.{elements_of, first_end, is_end, pieces_of};
+ghost use Rattle.std.specs.Prelude.{◌≡◌, ◌+◌, ◌<◌, ◌≤◌, ◌∷◌, IfSome, false, length, option_map, slice_get};
+ghost use Rattle.std.specs.Prelude.{true};
+ghost use Rattle.elf_search.specs.Elements.{elements_of, first_end, is_end, pieces_left, pieces_of};
 
 // An element of a list of directories.
 #[derive(Clone, Copy, Debug)]
@@ -34,6 +35,20 @@ fn first_end(separators: &[u8], text: &[u8]) -> usize
         rest = others;
     }
     count
+}
+
+// The first piece of a text, and the text behind the byte that ends it, if one does.
+#[tactic(auto, using(crate::proofs::ElementSteps::one_piece, crate::proofs::ElementSteps::more_pieces))]
+pub(crate) fn split_piece<'s>(text: &'s [u8], separators: &[u8]) -> (&'s [u8], Option<&'s [u8]>)
+    ensures { pieces_of separators.now text.now
+        ≡ result.0.now ∷ pieces_left separators.now result.1 }
+{
+    let end = first_end(separators, text);
+    let piece = text.split_at(end).0;
+    if end == text.len() {
+        return (piece, None);
+    }
+    (piece, Some(text.split_at(end + 1).1))
 }
 
 // The piece at an index of a text.

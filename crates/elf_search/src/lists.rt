@@ -2,11 +2,12 @@
 
 ghost use Rattle.std.specs.Prelude.{◌≡◌, ◌+◌, ◌<◌, ◌^◌, IfSome, option_map, slice_get, take};
 ghost use Rattle.elf_search.specs.Lists.{are_same, candidate_in, candidate_parts, candidate_path};
+ghost use Rattle.elf_search.specs.Elements.{pieces_left};
 ghost use Rattle.elf_search.specs.Lists.{directory_in, elements_in, has_directory_in, is_kept};
-ghost use Rattle.elf_search.specs.Lists.{is_repeated, list_parts, repeats_at};
+ghost use Rattle.elf_search.specs.Lists.{is_repeated, list_parts};
 ghost use Rattle.elf_search.specs.Paths.{directory_left, path_left};
 
-use crate::elements::element_at;
+use crate::elements::split_piece;
 use crate::paths::{DirectoryBytes, PathBytes, has_directory, is_same};
 use crate::tokens::TokenValues;
 
@@ -67,26 +68,31 @@ impl<'s> SearchList<'s> {
         self.has_directory(first) && is_same(self.directory(first), self.directory(second))
     }
 
-    // Whether the element at an index, if there is one, names the same directory as this one.
-    fn repeats_at(&self, index: usize, element: &'s [u8]) -> bool
-        ensures { result ≡ repeats_at (list_parts self.now) index element.now }
+    // The text of the elements, if there is one.
+    fn elements(&self) -> Option<&'s [u8]>
+        ensures { pieces_left self.now.separators.now result ≡ elements_in (list_parts self.now) }
     {
-        match element_at(self.text, self.separators, index) {
-            Some(earlier) => self.are_same(earlier.bytes, element),
-            None => false,
+        if self.text.is_empty() {
+            return None;
         }
+        Some(self.text)
     }
 
-    // Whether an element before an index names the same directory as this one.
-    #[tactic(auto, using(crate::proofs::ListSteps::repeated_hit, crate::proofs::ListSteps::repeated_more))]
+    // Whether an element before an index names the same directory as this one: one pass over the list.
     fn is_repeated(&self, index: usize, element: &'s [u8]) -> bool
         ensures { result ≡ is_repeated (list_parts self.now)
             (take index (elements_in (list_parts self.now))) element.now }
     {
-        for place in 0..index {
-            if self.repeats_at(place, element) {
+        let mut rest = self.elements();
+        for _place in 0..index {
+            let Some(text) = rest else {
+                return false;
+            };
+            let (earlier, others) = split_piece(text, self.separators);
+            if self.are_same(earlier, element) {
                 return true;
             }
+            rest = others;
         }
         false
     }

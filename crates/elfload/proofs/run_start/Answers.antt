@@ -1,4 +1,4 @@
-use Rattle.std.proofs.Common.{rules, ◌≡◌, ℕ, List, refl, subst}
+use Rattle.std.proofs.Common.{◌≡◌, ℕ, List, refl, subst}
 use Rattle.elfload.specs.Images.{AreImagesGood}
 use Rattle.elfload.specs.Symbols.{AreSymbolsFound}
 use Rattle.elfload.proofs.run_start.Goals as goal
@@ -26,5 +26,5 @@ returns-in-Some-clause-good g c = λ zero.
       inputs = c.in-Some.inputs.items;
       inputs_are = c.in-Some.ensures;
       checked = same_good _ _ c.args.page _ _ c.deref.ensures.value (c.run_steps-status.ensures.checked (c.with_symbols.ensures.kept zero));
-      found = same_found _ _ _ _ c.deref-2.ensures.value (c.with_symbols.ensures.found zero refl);
+      found = same_found _ _ _ _ c.deref-in-Some.ensures.value (c.with_symbols.ensures.found zero refl);
     }
