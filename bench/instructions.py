@@ -4,9 +4,9 @@
     bench/instructions.py            fails where an item of a pass takes 3 % more or less than stored
     bench/instructions.py --write    stores the counts
 
-The passes are those of bindings/c/speed.c, through the exports for C, and the one over sections that the built `elfnm`
-makes by an iterator. The files are made here. valgrind's callgrind counts what the library's code executes, which is the
-same in each run of the same library. A pass that takes less fails too, as a later loss would hide in the gain: store it.
+The passes are those of bindings/c/speed.c, through the exports for C, and that of the built `elfnm` over
+sections. The files are made here. valgrind's callgrind counts what the library's code executes, which is the same in each run
+of the same library. A pass that takes less fails too, as a later loss would hide in the gain: store it.
 Counts that another kit's code gave are printed and fail nothing.
 
 Run it once `tools/exports/bindings.sh` and `rt ci` have built both. XMAS_ELF_ARCHIVE: another folder that holds libelf_c.a.
@@ -29,7 +29,7 @@ STORED = ROOT / "bench" / "instructions.toml"
 SPEED = ROOT / "bindings" / "c" / "speed.c"
 ARCHIVE = Path(os.environ.get("XMAS_ELF_ARCHIVE") or ROOT / "crates" / "elf_c" / "out").resolve() / "libelf_c.a"
 ELFNM = ROOT / "crates" / "elfnm" / "out" / "elfnm"
-BY_ITERATOR = "sections with their data, by an iterator, and their lines (elfnm)"
+OF_SECTIONS = "section headers with their names, and their lines (elfnm)"
 
 # How much a count may differ from the stored one.
 SHARE = 0.03
@@ -140,7 +140,7 @@ def counts(room: Path) -> dict:
     for parts in (PARTS + 1, MORE_PARTS + 1):
         (room / "sections").write_bytes(made(parts))
         own.append(own_count(watched(room, ELFNM, "sections")[1], ELFNM))
-    return {**found, BY_ITERATOR: (MORE_PARTS - PARTS, own[1] - own[0])}
+    return {**found, OF_SECTIONS: (MORE_PARTS - PARTS, own[1] - own[0])}
 
 
 def kit() -> str:
