@@ -1,8 +1,8 @@
 //! A reader of ELF files that lie in a byte slice, over the proved static library `elf_c`.
 //!
 //! Every slice and text is a part of the input. No call panics or fails otherwise, whatever the bytes are, and none but
-//! `symbol_map`, `pieces`, `symbol_pieces`, `section_symbols` and `debug_paths` of [`ElfFile`] and [`Section`], [`size_changes`] and
-//! [`size_diff`] allocate. Every result of the archive is proved;
+//! `symbol_map`, `pieces`, `symbol_pieces`, `section_symbols`, `debug_paths` and `fortified` of [`ElfFile`] and [`Section`],
+//! [`size_changes`] and [`size_diff`] allocate. Every result of the archive is proved;
 //! this crate, which slices the input at the ranges that the archive returns, is tested.
 //!
 //! Numbers of headers, symbols and entries are fields, with the names of the standard in [`constants`]; `get_type` and
