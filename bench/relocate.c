@@ -44,10 +44,10 @@ static void read_file(size_t index, const char *path)
 
 static uint64_t relocate(void)
 {
-    uint64_t left, failed = 0;
+    uint64_t left, failed = 0, relocation;
     memcpy(images, planned, whole);
     uint64_t began = __rdtsc();
-    uint32_t status = xmas_elf_relocate_all(loads, count, 0, 4096, 0, images, whole, &left, &failed);
+    uint32_t status = xmas_elf_relocate_all(loads, count, 0, 4096, 0, images, whole, &left, &failed, &relocation);
     uint64_t ended = __rdtsc();
     check(status, failed);
     return ended - began;
@@ -56,16 +56,16 @@ static uint64_t relocate(void)
 /* Images of another size are an error after all files are read, and before words are written. */
 static uint64_t read_all(void)
 {
-    uint64_t left, failed, began = __rdtsc();
-    if (xmas_elf_relocate_all(loads, count, 0, 4096, 0, images, whole - 1, &left, &failed) != XMAS_ELF_LOAD_IMAGE_SIZE) exit(1);
+    uint64_t left, failed, relocation, began = __rdtsc();
+    if (xmas_elf_relocate_all(loads, count, 0, 4096, 0, images, whole - 1, &left, &failed, &relocation) != XMAS_ELF_LOAD_IMAGE_SIZE) exit(1);
     return __rdtsc() - began;
 }
 
 static uint64_t check_all(void)
 {
-    uint64_t failed = 0, began = __rdtsc();
+    uint64_t failed = 0, relocation, began = __rdtsc();
     for (size_t i = 0; i < count; i++) {
-        uint32_t status = xmas_elf_check_image(loads, count, i, 4096, 0, marks, sizes[i] / 8 + 1, &failed);
+        uint32_t status = xmas_elf_check_image(loads, count, i, 4096, 0, marks, sizes[i] / 8 + 1, &failed, &relocation);
         check(status, failed);
     }
     return __rdtsc() - began;

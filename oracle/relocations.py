@@ -3,6 +3,8 @@
 
     oracle/relocations.py     prints what `dlopen` and a call do with each library, and fails where it isn't what is written here
     oracle/relocations.py --elfload crates/elfload/out/elfload     wants its status to be 1 for those that `check_image` has an error for
+    oracle/relocations.py --elfload PATH --random 4000 --seed 1    tries so many changed copies of libraries: fails where a status is 0, and
+                                                                   glibc doesn't load the file, for a cause that no page lists
 
 Libraries of gcc are changed in one entry of the dynamic segment, in one relocation, or in a symbol. Programs write what their jump slots
 are before they are called, which `elfload --lazy` is to say too. It needs x86-64 and glibc; without that of 386 it leaves programs out.
@@ -16,6 +18,8 @@ import struct
 import subprocess
 import sys
 import tempfile
+
+import changes
 
 SOURCE = """int table[4] = {1, 2, 3}, *places[3] = {table, table + 1, table + 2};
 extern int atoi(const char *); const char *volatile text = "7";
@@ -296,7 +300,12 @@ def built(folder: pathlib.Path) -> None:
 def main() -> int:
     parser = argparse.ArgumentParser(description=__doc__, formatter_class=argparse.RawDescriptionHelpFormatter)
     parser.add_argument("--elfload", default="")
-    elfload = parser.parse_args().elfload
+    parser.add_argument("--random", type=int, default=0, metavar="COUNT")
+    parser.add_argument("--seed", type=int, default=1)
+    asked = parser.parse_args()
+    elfload = asked.elfload
+    if asked.random:
+        return 1 if changes.tried(os.path.abspath(elfload), Library, asked.random, asked.seed, LIBRARIES) else 0
     faults = 0
     with tempfile.TemporaryDirectory() as folder:
         room = pathlib.Path(folder)

@@ -241,17 +241,20 @@ static uint32_t any_load_image(const struct asked *a, union output *out)
 static uint32_t any_check_image(const struct asked *a, union output *out)
 {
     uint64_t failed;
-    return xmas_elf_check_image(&(xmas_elf_load_object_t){.file = a->bytes, .file_size = a->size}, 1, (uint64_t)a->index, (uint64_t)a->index, (uint64_t)a->index, out[0].of_u8, 3, &failed);
+    uint64_t relocation;
+    return xmas_elf_check_image(&(xmas_elf_load_object_t){.file = a->bytes, .file_size = a->size}, 1, (uint64_t)a->index, (uint64_t)a->index, (uint64_t)a->index, out[0].of_u8, 3, &failed, &relocation);
 }
 static uint32_t any_relocate(const struct asked *a, union output *out)
 {
     uint64_t failed;
-    return xmas_elf_relocate(&(xmas_elf_load_object_t){.file = a->bytes, .file_size = a->size}, 1, (uint64_t)a->index, (uint32_t)a->index, (uint64_t)a->index, (uint64_t)a->index, out[0].of_u8, 3, &out[1].of_u64[0], &failed);
+    uint64_t relocation;
+    return xmas_elf_relocate(&(xmas_elf_load_object_t){.file = a->bytes, .file_size = a->size}, 1, (uint64_t)a->index, (uint32_t)a->index, (uint64_t)a->index, (uint64_t)a->index, out[0].of_u8, 3, &out[1].of_u64[0], &failed, &relocation);
 }
 static uint32_t any_relocate_all(const struct asked *a, union output *out)
 {
     uint64_t failed;
-    return xmas_elf_relocate_all(&(xmas_elf_load_object_t){.file = a->bytes, .file_size = a->size}, 1, (uint32_t)a->index, (uint64_t)a->index, (uint64_t)a->index, out[0].of_u8, 3, &out[1].of_u64[0], &failed);
+    uint64_t relocation;
+    return xmas_elf_relocate_all(&(xmas_elf_load_object_t){.file = a->bytes, .file_size = a->size}, 1, (uint32_t)a->index, (uint64_t)a->index, (uint64_t)a->index, out[0].of_u8, 3, &out[1].of_u64[0], &failed, &relocation);
 }
 static uint32_t any_message(const struct asked *a, union output *out)
 {

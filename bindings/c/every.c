@@ -301,14 +301,14 @@ static int tells(uint32_t status, uint64_t failed) { return failed == (status ==
 #define CUT_OFF(asked) (xmas_elf_load_object_t[]){{.file = (asked)->bytes, .file_size = (asked)->size}, {.file = (asked)->bytes, .file_size = 3}}, 2
 CALL(check_image)
 {
-    uint64_t failed = 7, none = 7, second = 7;
+    uint64_t failed = 7, none = 7, second = 7, relocation = 7;
     (void)out;
     if (a->index == 0 && a->size > 0) {
-        if (xmas_elf_check_image(OBJECT_OF(a), 0, 0, 0, marks, 1, &none) != XMAS_ELF_LOAD_FEW_MARKS || none != 7) return 999;
-        if (xmas_elf_check_image(CUT_OFF(a), 0, 0, 0, marks, 1, &second) != XMAS_ELF_SHORT_PART_1 || second != 1) return 998;
+        if (xmas_elf_check_image(OBJECT_OF(a), 0, 0, 0, marks, 1, &none, &relocation) != XMAS_ELF_LOAD_FEW_MARKS || none != 7) return 999;
+        if (xmas_elf_check_image(CUT_OFF(a), 0, 0, 0, marks, 1, &second, &relocation) != XMAS_ELF_SHORT_PART_1 || second != 1) return 998;
     }
-    uint32_t status = xmas_elf_check_image(OBJECT_OF(a), a->index, 0, 0, marks, LARGEST / 8 + 1, &failed);
-    return tells(status, failed) ? status : 997;
+    uint32_t status = xmas_elf_check_image(OBJECT_OF(a), a->index, 0, 0, marks, LARGEST / 8 + 1, &failed, &relocation);
+    return tells(status, failed) && relocation == 7 ? status : 997;
 }
 CALL(relocate) /* without its library the program has a symbol that nothing has */
 {
@@ -316,13 +316,13 @@ CALL(relocate) /* without its library the program has a symbol that nothing has 
     uint32_t status = xmas_elf_load_plan(FILE_OF(a), 0, 0, &plan);
     size_t size = status == XMAS_ELF_OK ? (size_t)(plan.span.end - plan.span.start) : 0;
     if (status == XMAS_ELF_OK && xmas_elf_load_image(FILE_OF(a), 0, 0, 0, image, size) != XMAS_ELF_OK) return 999;
-    uint64_t failed = 7, none = 7, second = 7;
+    uint64_t failed = 7, none = 7, second = 7, relocation = UINT64_MAX;
     if (a->index == 0 && a->size > 0) {
-        if (xmas_elf_relocate(OBJECT_OF(a), 0, 0, 0, 0, image, size + 1, &out->count, &none) != XMAS_ELF_LOAD_IMAGE_SIZE || none != 7) return 998;
-        if (xmas_elf_relocate(CUT_OFF(a), 0, 0, 0, 0, image, size, &out->count, &second) != XMAS_ELF_SHORT_PART_1 || second != 1) return 997;
+        if (xmas_elf_relocate(OBJECT_OF(a), 0, 0, 0, 0, image, size + 1, &out->count, &none, &relocation) != XMAS_ELF_LOAD_IMAGE_SIZE || none != 7) return 998;
+        if (xmas_elf_relocate(CUT_OFF(a), 0, 0, 0, 0, image, size, &out->count, &second, &relocation) != XMAS_ELF_SHORT_PART_1 || second != 1) return 997;
     }
-    status = xmas_elf_relocate(OBJECT_OF(a), a->index, 0, 0, 0, image, size, &out->count, &failed);
-    if (!tells(status, failed)) return 996;
+    status = xmas_elf_relocate(OBJECT_OF(a), a->index, 0, 0, 0, image, size, &out->count, &failed, &relocation);
+    if (!tells(status, failed) || (relocation != UINT64_MAX) != (status == XMAS_ELF_LOAD_UNRESOLVED)) return 996;
     return status == XMAS_ELF_LOAD_UNRESOLVED ? XMAS_ELF_OK : status;
 }
 CALL(relocate_all) /* the same, by one call for all */
@@ -330,12 +330,12 @@ CALL(relocate_all) /* the same, by one call for all */
     xmas_elf_load_plan_t plan;
     uint32_t status = xmas_elf_load_plan(FILE_OF(a), a->index, 0, &plan);
     size_t size = status == XMAS_ELF_OK ? (size_t)(plan.span.end - plan.span.start) : 0;
-    uint64_t failed = 7, none = 7;
+    uint64_t failed = 7, none = 7, relocation = UINT64_MAX;
     if (status == XMAS_ELF_OK && xmas_elf_load_image(FILE_OF(a), a->index, 0, 0, image, size) != XMAS_ELF_OK) return 999;
-    if (xmas_elf_relocate_all(OBJECT_OF(a), 0, a->index, 0, image, size + 1, &out->count, &none) == XMAS_ELF_OK) return 998;
-    if (xmas_elf_relocate_all(NULL, 0, 0, a->index, 0, NULL, 0, &out->count, &none) != XMAS_ELF_LINK_OBJECT_INDEX) return 997;
-    status = xmas_elf_relocate_all(OBJECT_OF(a), 0, a->index, 0, image, size, &out->count, &failed);
-    if (status != XMAS_ELF_OK && failed != 0) return 996;
+    if (xmas_elf_relocate_all(OBJECT_OF(a), 0, a->index, 0, image, size + 1, &out->count, &none, &relocation) == XMAS_ELF_OK) return 998;
+    if (xmas_elf_relocate_all(NULL, 0, 0, a->index, 0, NULL, 0, &out->count, &none, &relocation) != XMAS_ELF_LINK_OBJECT_INDEX) return 997;
+    status = xmas_elf_relocate_all(OBJECT_OF(a), 0, a->index, 0, image, size, &out->count, &failed, &relocation);
+    if ((status != XMAS_ELF_OK && failed != 0) || (relocation != UINT64_MAX) != (status == XMAS_ELF_LOAD_UNRESOLVED)) return 996;
     return status == XMAS_ELF_LOAD_UNRESOLVED ? XMAS_ELF_OK : status;
 }
 CALL_MANY(needed_names, needed_names, a->index)

@@ -101,11 +101,11 @@ static void relocate(size_t index)
     struct object *object = &objects[index];
     size_t marks_size = object->size / 8 + 1;
     uint8_t *marks = given(object->path, malloc(marks_size));
-    uint64_t left, failed = index; /* the object that has the error, this one or another */
-    uint32_t status = xmas_elf_check_image(loads, count, index, PAGE, 0, marks, marks_size, &failed);
+    uint64_t left, failed = index, relocation; /* the object that has the error, this one or another */
+    uint32_t status = xmas_elf_check_image(loads, count, index, PAGE, 0, marks, marks_size, &failed, &relocation);
     check(objects[failed].path, status);
     free(marks);
-    status = xmas_elf_relocate(loads, count, index, 0, PAGE, 0, object->memory, object->size, &left, &failed);
+    status = xmas_elf_relocate(loads, count, index, 0, PAGE, 0, object->memory, object->size, &left, &failed, &relocation);
     check(objects[failed].path, status);
     if (left != 0) stop(object->path, "words without a number: indirect functions or thread-local storage");
     /* From now on its bytes can be copied into the program. */

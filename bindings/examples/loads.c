@@ -112,8 +112,8 @@ static void check_words(size_t index)
 {
     size_t size = span(index) / 8 + 1;
     uint8_t *marks = given(files[index].path, malloc(size));
-    uint64_t failed = index;
-    uint32_t status = xmas_elf_check_image(loads, count, index, 0, 0, marks, size, &failed);
+    uint64_t failed = index, relocation;
+    uint32_t status = xmas_elf_check_image(loads, count, index, 0, 0, marks, size, &failed, &relocation);
     check((size_t)failed, status);
     free(marks);
 }
@@ -158,13 +158,13 @@ static _Noreturn void no_symbol(size_t index, uint32_t status)
 /* Each symbol that a file asks for is in a file: the words of all are written to memory that nobody runs. */
 static void check_symbols(void)
 {
-    uint64_t left, failed = 0;
+    uint64_t left, failed = 0, relocation;
     size_t size = 0;
     for (size_t i = 0; i < count; i++) size += span(i);
     uint8_t *images = given(files[0].path, malloc(size)), *image = images;
     for (size_t i = 0; i < count; image += span(i++))
         check(i, xmas_elf_load_image(loads[i].file, loads[i].file_size, &files[i].header, 0, 0, i > 0, image, span(i)));
-    uint32_t status = xmas_elf_relocate_all(loads, count, 0, 0, 0, images, size, &left, &failed);
+    uint32_t status = xmas_elf_relocate_all(loads, count, 0, 0, 0, images, size, &left, &failed, &relocation);
     if (status == XMAS_ELF_LOAD_UNRESOLVED) no_symbol((size_t)failed, status);
     check((size_t)failed, status);
     free(images);

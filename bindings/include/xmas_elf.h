@@ -1387,17 +1387,19 @@ XMAS_ELF_NODISCARD uint32_t xmas_elf_load_image(const uint8_t *input, size_t inp
  * bytes, divided by 8, and one more. What it holds before and after has no meaning. If a call is not OK, `failed` is
  * the index of the object with the error: that of the first file that can't be read or has no plan, else `of`. It is
  * unchanged where none has it: with no object or none at `of` (XMAS_ELF_LINK_OBJECT_INDEX), with more than 64
- * (XMAS_ELF_MANY_OBJECTS), and where `marks` is too short (XMAS_ELF_LOAD_FEW_MARKS). A call takes up to 64 objects;
- * for more it returns XMAS_ELF_MANY_OBJECTS. It reads all files before it tests `of`, so XMAS_ELF_LINK_OBJECT_INDEX
- * comes before errors of the files only where there is no object. A relocation that names a symbol takes a look-up in
- * each file up to the one that has it, as `xmas_elf_find_symbol` does after its count, and each word a pass over
- * program headers: in files made to be slow the time is relocations times what these take. Errors, in the order of
- * the tests: those of the objects, those of a load plan, those of tables of relocations, XMAS_ELF_LOAD_FEW_MARKS,
- * those of a relocation, XMAS_ELF_LOAD_WORD_ADDRESS, XMAS_ELF_LOAD_READ_ONLY, XMAS_ELF_LOAD_WORDS_OVERLAP,
- * XMAS_ELF_LOAD_WORD_IN_TABLE. */
+ * (XMAS_ELF_MANY_OBJECTS), and where `marks` is too short (XMAS_ELF_LOAD_FEW_MARKS). `relocation` is the index of the
+ * relocation of this object that has the error, in the order in which words are written (the packed ones of DT_RELR,
+ * then those of DT_RELA, of DT_REL and of DT_JMPREL), and unchanged where the error is not that of one relocation. A
+ * call takes up to 64 objects; for more it returns XMAS_ELF_MANY_OBJECTS. It reads all files before it tests `of`, so
+ * XMAS_ELF_LINK_OBJECT_INDEX comes before errors of the files only where there is no object. A relocation that names
+ * a symbol takes a look-up in each file up to the one that has it, as `xmas_elf_find_symbol` does after its count,
+ * and each word a pass over program headers: in files made to be slow the time is relocations times what these take.
+ * Errors, in the order of the tests: those of the objects, those of a load plan, those of tables of relocations,
+ * XMAS_ELF_LOAD_FEW_MARKS, those of a relocation, XMAS_ELF_LOAD_WORD_ADDRESS, XMAS_ELF_LOAD_READ_ONLY,
+ * XMAS_ELF_LOAD_WORDS_OVERLAP, XMAS_ELF_LOAD_WORD_IN_TABLE. */
 XMAS_ELF_NODISCARD uint32_t xmas_elf_check_image(const xmas_elf_load_object_t *objects, size_t objects_count,
-    uint64_t of, uint64_t page, uint64_t limit, uint8_t *marks, size_t marks_size, uint64_t *failed)
-    XMAS_ELF_NOEXCEPT;
+    uint64_t of, uint64_t page, uint64_t limit, uint8_t *marks, size_t marks_size, uint64_t *failed,
+    uint64_t *relocation) XMAS_ELF_NOEXCEPT;
 
 /* Writes the words of the object at index `of` to `image`, which holds what `xmas_elf_load_image` writes. `page` and
  * `limit` are those of `xmas_elf_load_plan`, which each file must pass. `count` is the number of words without a
@@ -1409,17 +1411,20 @@ XMAS_ELF_NODISCARD uint32_t xmas_elf_check_image(const xmas_elf_load_object_t *o
  * it, else that of the file. If a call is not OK, the words before the first that can't be written are written, and
  * `failed` is the index of the object with the error: that of the first file that can't be read or has no plan, else
  * `of`. It is unchanged where none has it: with no object or none at `of` (XMAS_ELF_LINK_OBJECT_INDEX), with more
- * than 64 (XMAS_ELF_MANY_OBJECTS), and where `image` is not of the size of the span (XMAS_ELF_LOAD_IMAGE_SIZE). A
- * call takes up to 64 objects; for more it returns XMAS_ELF_MANY_OBJECTS. It reads all files before it tests `of`, so
- * XMAS_ELF_LINK_OBJECT_INDEX comes before errors of the files only where there is no object. A relocation that names
- * a symbol takes a look-up in each file up to the one that has it, as `xmas_elf_find_symbol` does after its count,
- * and each word a pass over program headers; with `lazy` 1 a jump slot takes passes over the dynamic entries too: in
- * files made to be slow the time is relocations times what these take. It needs about 200 KiB of stack. Errors, in
- * the order of the tests: those of the objects, those of a load plan, XMAS_ELF_LOAD_IMAGE_SIZE,
- * those of a relocation, XMAS_ELF_LOAD_UNRESOLVED, XMAS_ELF_LOAD_WORD_ADDRESS, XMAS_ELF_LOAD_COPY_SOURCE. */
+ * than 64 (XMAS_ELF_MANY_OBJECTS), and where `image` is not of the size of the span (XMAS_ELF_LOAD_IMAGE_SIZE).
+ * `relocation` is the index of the relocation of this object that has the error, in the order in which words are
+ * written (the packed ones of DT_RELR, then those of DT_RELA, of DT_REL and of DT_JMPREL), and unchanged where the
+ * error is not that of one relocation. A call takes up to 64 objects; for more it returns XMAS_ELF_MANY_OBJECTS. It
+ * reads all files before it tests `of`, so XMAS_ELF_LINK_OBJECT_INDEX comes before errors of the files only where
+ * there is no object. A relocation that names a symbol takes a look-up in each file up to the one that has it, as
+ * `xmas_elf_find_symbol` does after its count, and each word a pass over program headers; with `lazy` 1 a jump slot
+ * takes passes over the dynamic entries too: in files made to be slow the time is relocations times what these take.
+ * It needs about 200 KiB of stack. Errors, in the order of the tests: those of the objects, those of a load plan,
+ * XMAS_ELF_LOAD_IMAGE_SIZE, those of a relocation, XMAS_ELF_LOAD_UNRESOLVED, XMAS_ELF_LOAD_WORD_ADDRESS,
+ * XMAS_ELF_LOAD_COPY_SOURCE. */
 XMAS_ELF_NODISCARD uint32_t xmas_elf_relocate(const xmas_elf_load_object_t *objects, size_t objects_count,
     uint64_t of, uint32_t lazy, uint64_t page, uint64_t limit, uint8_t *image, size_t image_size, uint64_t *count,
-    uint64_t *failed) XMAS_ELF_NOEXCEPT;
+    uint64_t *failed, uint64_t *relocation) XMAS_ELF_NOEXCEPT;
 
 /* Writes the words of all objects to their images, those of the last object first, as the dynamic linker does. Each
  * file is read once, so it takes less time than a call of `xmas_elf_relocate` for each object. `images` are what
@@ -1429,17 +1434,19 @@ XMAS_ELF_NODISCARD uint32_t xmas_elf_relocate(const xmas_elf_load_object_t *obje
  * of words without a number of all objects. If `xmas_elf_check_image` is OK for an object, each byte of its image is
  * then that of the one word over it, else that of the file. If a call is not OK, `failed` is the index of the object
  * with the error; it is unchanged where none has it: with no object (XMAS_ELF_LINK_OBJECT_INDEX), with more than 64
- * (XMAS_ELF_MANY_OBJECTS), and where `images` is not of the size of all images (XMAS_ELF_LOAD_IMAGE_SIZE). Of errors
- * of words the last object with one counts: then the objects after it are relocated, and its words before the first
- * that can't be written are written. Otherwise `images` is unchanged. A relocation that names a symbol takes a
- * look-up in each file up to the one that has it, as `xmas_elf_find_symbol` does after its count, and each word a
- * pass over program headers; with `lazy` 1 a jump slot takes passes over the dynamic entries too: in files made to be
- * slow the time is relocations times what these take. It needs about 200 KiB of stack. Errors, in the order of the
- * tests: those of the objects, those of a load plan, XMAS_ELF_LOAD_IMAGE_SIZE, those of a relocation,
- * XMAS_ELF_LOAD_UNRESOLVED, XMAS_ELF_LOAD_WORD_ADDRESS, XMAS_ELF_LOAD_COPY_SOURCE. */
+ * (XMAS_ELF_MANY_OBJECTS), and where `images` is not of the size of all images (XMAS_ELF_LOAD_IMAGE_SIZE).
+ * `relocation` is the index of the relocation of this object that has the error, in the order in which words are
+ * written (the packed ones of DT_RELR, then those of DT_RELA, of DT_REL and of DT_JMPREL), and unchanged where the
+ * error is not that of one relocation. Of errors of words the last object with one counts: then the objects after it
+ * are relocated, and its words before the first that can't be written are written. Otherwise `images` is unchanged. A
+ * relocation that names a symbol takes a look-up in each file up to the one that has it, as `xmas_elf_find_symbol`
+ * does after its count, and each word a pass over program headers; with `lazy` 1 a jump slot takes passes over the
+ * dynamic entries too: in files made to be slow the time is relocations times what these take. It needs about 200 KiB
+ * of stack. Errors, in the order of the tests: those of the objects, those of a load plan, XMAS_ELF_LOAD_IMAGE_SIZE,
+ * those of a relocation, XMAS_ELF_LOAD_UNRESOLVED, XMAS_ELF_LOAD_WORD_ADDRESS, XMAS_ELF_LOAD_COPY_SOURCE. */
 XMAS_ELF_NODISCARD uint32_t xmas_elf_relocate_all(const xmas_elf_load_object_t *objects, size_t objects_count,
     uint32_t lazy, uint64_t page, uint64_t limit, uint8_t *images, size_t images_size, uint64_t *left,
-    uint64_t *failed) XMAS_ELF_NOEXCEPT;
+    uint64_t *failed, uint64_t *relocation) XMAS_ELF_NOEXCEPT;
 
 /* Writes the text of a status to the front of `out`, as much as fits, and returns the size of the whole text in
  * bytes. The text is ASCII without a zero byte at its end. A status that is no error, such as 0, has an empty text. */

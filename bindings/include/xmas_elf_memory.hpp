@@ -277,20 +277,29 @@ inline xmas_elf_load_object_t load_object(const file &of, std::uint64_t base)
 /// What can't be read or written of one of several objects.
 class object_error : public error {
 public:
-    object_error(std::uint32_t status, std::optional<std::size_t> of) : error(status), of_(of) {}
+    object_error(std::uint32_t status, std::optional<std::size_t> of, std::optional<std::uint64_t> relocation)
+        : error(status), of_(of), relocation_(relocation) {}
     /// The index of the object, if one has the error.
     std::optional<std::size_t> of() const noexcept { return of_; }
+    /// The index of its relocation, if one has the error, in the order in which words are written.
+    std::optional<std::uint64_t> relocation() const noexcept { return relocation_; }
 
 private:
     std::optional<std::size_t> of_;
+    std::optional<std::uint64_t> relocation_;
 };
 
-/// Throws an `object_error` if a status is one, with the index that the call told, if it told that of an object.
-inline void check_objects(std::uint32_t status, std::uint64_t failed, std::size_t count)
-{
-    if (status == XMAS_ELF_OK) return;
-    throw object_error(status, failed < count ? std::optional<std::size_t>(static_cast<std::size_t>(failed)) : std::nullopt);
-}
+/// The indices of the object and of the relocation that a call tells, if it has an error; before that those of none.
+struct told_indices {
+    std::uint64_t object = UINT64_MAX, relocation = UINT64_MAX;
+    /// Throws an `object_error` if a status is one.
+    void check(std::uint32_t status) const
+    {
+        if (status == XMAS_ELF_OK) return;
+        throw object_error(status, object != UINT64_MAX ? std::optional<std::size_t>(static_cast<std::size_t>(object)) : std::nullopt,
+                           relocation != UINT64_MAX ? std::optional<std::uint64_t>(relocation) : std::nullopt);
+    }
+};
 
 /// Throws an `object_error` if the words of the object at index `of` can't be written before the program runs; `size` is that of its
 /// image.
@@ -298,9 +307,8 @@ inline void check_image(const std::vector<xmas_elf_load_object_t> &objects, std:
                         std::uint64_t page = 0, std::uint64_t limit = 0)
 {
     std::vector<std::uint8_t> marks(size / 8 + 1);
-    std::uint64_t failed = objects.size();
-    const std::uint32_t status = xmas_elf_check_image(objects.data(), objects.size(), of, page, limit, marks.data(), marks.size(), &failed);
-    check_objects(status, failed, objects.size());
+    told_indices told;
+    told.check(xmas_elf_check_image(objects.data(), objects.size(), of, page, limit, marks.data(), marks.size(), &told.object, &told.relocation));
 }
 
 /// Writes the words of the object at index `of` to its image, which `load_image` gave, and returns how many have no number: what
@@ -308,9 +316,9 @@ inline void check_image(const std::vector<xmas_elf_load_object_t> &objects, std:
 inline std::uint64_t relocate(const std::vector<xmas_elf_load_object_t> &objects, std::size_t of, std::vector<std::uint8_t> &image,
                               bool lazy = false, std::uint64_t page = 0, std::uint64_t limit = 0)
 {
-    std::uint64_t count = 0, failed = objects.size();
-    const std::uint32_t status = xmas_elf_relocate(objects.data(), objects.size(), of, lazy ? 1 : 0, page, limit, image.data(), image.size(), &count, &failed);
-    check_objects(status, failed, objects.size());
+    std::uint64_t count = 0;
+    told_indices told;
+    told.check(xmas_elf_relocate(objects.data(), objects.size(), of, lazy ? 1 : 0, page, limit, image.data(), image.size(), &count, &told.object, &told.relocation));
     return count;
 }
 
@@ -319,9 +327,9 @@ inline std::uint64_t relocate(const std::vector<xmas_elf_load_object_t> &objects
 inline std::uint64_t relocate_all(const std::vector<xmas_elf_load_object_t> &objects, std::vector<std::uint8_t> &images,
                                   bool lazy = false, std::uint64_t page = 0, std::uint64_t limit = 0)
 {
-    std::uint64_t left = 0, failed = objects.size();
-    const std::uint32_t status = xmas_elf_relocate_all(objects.data(), objects.size(), lazy ? 1 : 0, page, limit, images.data(), images.size(), &left, &failed);
-    check_objects(status, failed, objects.size());
+    std::uint64_t left = 0;
+    told_indices told;
+    told.check(xmas_elf_relocate_all(objects.data(), objects.size(), lazy ? 1 : 0, page, limit, images.data(), images.size(), &left, &told.object, &told.relocation));
     return left;
 }
 

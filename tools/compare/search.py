@@ -40,7 +40,8 @@ Tree = namedtuple("Tree", "paths missing messages starts error tried")
 def linker_said(command: list, **variables: str):
     """What ld.so says of a program; None where it crashes or has nothing to list."""
     done = run(command, LD_TRACE_LOADED_OBJECTS="1", LD_DEBUG="libs", **variables)
-    tried = re.findall(r"^ *\d+:\t  trying file=(.*)$", done.errors, re.M)
+    # elftree opens no path that is empty, as one of a cache may be, or no UTF-8.
+    tried = re.findall(r"^ *\d+:\t  trying file=([^\udc80-\udcff\n]+)$", done.errors, re.M)
     said = re.findall(r"^(?! *\d+:\t)[^:\n]*: (.*)$", done.errors, re.M)
     prefix = "error while loading shared libraries: "
     error = next((it.removeprefix(prefix) for it in said if it.startswith(prefix)), None)
@@ -61,8 +62,9 @@ def elftree_said(elftree: str, path: str, linker: str, *options: str) -> Tree:
     asked = [bytes.fromhex(it.replace("\\x", "")).decode("utf-8", "surrogateescape") for it in found]
     lines = done.output.splitlines()
     named = {it[1] for line in lines if (it := re.match(r" +(.*/.*) => .*", line))}
-    # After the program elftree asks for its linker.
-    tried = tried_of(asked[asked.index(linker) + 1 :], named) if linker in asked else None
+    # After the program elftree asks for its linker. No name with a slash is searched, and after a file that can't be opened comes its folder.
+    asked = ["", *asked[asked.index(linker) + 1 :]] if linker in asked else []
+    tried = [it for before, it in zip(asked, asked[1:]) if it not in named and not re.search("//[^/]*$", it) and it != os.path.dirname(before)]
     if done.status == 1 and not lines:
         return Tree([], [], [], [], done.errors.rstrip("\n").removeprefix("elftree: "), tried)
     found = sorted((int(it[2]), it[1]) for line in lines if (it := re.match(r" +.* => (.*) \([\w, -]+\) #(\d+)$", line)))
@@ -72,17 +74,15 @@ def elftree_said(elftree: str, path: str, linker: str, *options: str) -> Tree:
     return Tree([it for _, it in found], sorted(missing), messages, starts, None, tried)
 
 
-def tried_of(asked: list, named: set) -> list:
-    """Those of the files that elftree asks for that ld.so tries too: no names with a slash, no folder of a file that it can't open, and
-    of a folder that isn't there the first file alone."""
-    tried, gone, before = [], set(), ""
+def tried_of(asked: list) -> list:
+    """Of files that are asked for, those in folders that are there, and the first in each other folder."""
+    tried, gone = [], set()
     for path in asked:
         folder = os.path.dirname(path)
-        if path not in named and not re.search("//[^/]*$", path) and path != before and folder not in gone:
+        if folder not in gone:
             tried.append(path)
         if folder.startswith("/") and not os.path.isdir(folder):
             gone.add(folder)
-        before = folder
     return tried
 
 
@@ -93,8 +93,8 @@ def plain(value):
 
 def compare(what: str, wanted: Tree, says: Tree, tally: Tally, *names: str) -> None:
     for name in names:
-        a, b = plain(getattr(says, name)), plain(getattr(wanted, name))
-        if a == b or name == "tried" and a is None:
+        a, b = (plain(tried_of(it) if name == "tried" and it else it) for it in (getattr(says, name), getattr(wanted, name)))
+        if a == b or name == "tried" and not STRACE:
             continue
         lists = isinstance(a, list) and isinstance(b, list)
         at = first_differing(a, b) if lists else 0

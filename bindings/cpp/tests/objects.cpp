@@ -6,7 +6,7 @@
 
 template <class Call> bool is_of_second(Call call)
 {
-    try { call(); } catch (const xmas_elf::object_error &error) { return error.status() == XMAS_ELF_SHORT_PART_1 && error.of() == 1u; }
+    try { call(); } catch (const xmas_elf::object_error &error) { return error.status() == XMAS_ELF_SHORT_PART_1 && error.of() == 1u && !error.relocation(); }
     return false;
 }
 

@@ -515,6 +515,13 @@ def program_and_library(folder):
     return program, library, objects
 
 
+def first_relocation(path, names):
+    """The index of the first relocation that readelf prints for one of these symbols."""
+    printed = subprocess.run(["readelf", "--wide", "--relocs", path], check=True, capture_output=True, text=True).stdout
+    rows = [line.split() for line in printed.splitlines() if re.match("[0-9a-f]{16} ", line)]
+    return next(index for index, row in enumerate(rows) if len(row) > 4 and row[4].partition("@")[0] in names)
+
+
 def test_words_of_a_program_and_its_library(tmp_path):
     """The library's function is called by the program, which has a copy of its number."""
     program, library, objects = program_and_library(tmp_path)
@@ -531,11 +538,12 @@ def test_words_of_a_program_and_its_library(tmp_path):
     assert images[0][value(program, "number")] == 7
     with pytest.raises(ElfError) as raised:
         relocate(objects, 2, images[0])
-    assert (raised.value.status, raised.value.of) == (Status.LINK_OBJECT_INDEX, None)
+    assert (raised.value.status, raised.value.of, raised.value.relocation) == (Status.LINK_OBJECT_INDEX, None, None)
     # Without the library the program's symbols are in no object.
     with pytest.raises(ElfError, match="^Symbol is in no object: (number|twice)$") as raised:
         relocate(objects[:1], 0, images[0])
     assert (raised.value.status, raised.value.of) == (Status.LOAD_UNRESOLVED, 0) and raised.value.about in ("number", "twice")
+    assert raised.value.relocation == first_relocation(tmp_path / "a", ("number", "twice"))
 
 
 def test_words_of_all_objects_in_one_call(tmp_path):
@@ -558,6 +566,7 @@ def test_words_of_all_objects_in_one_call(tmp_path):
     with pytest.raises(ElfError, match="^Symbol is in no object: none$") as raised:
         relocate_all([*objects, LoadObject(ElfFile.load_from_path(tmp_path / "libnone.so"))])
     assert (raised.value.status, raised.value.of) == (Status.LOAD_UNRESOLVED, 2)
+    assert raised.value.relocation == first_relocation(tmp_path / "libnone.so", ("none",))
     for wrong, status in (([], Status.LINK_OBJECT_INDEX), ([objects[0]] + [objects[1]] * 64, Status.MANY_OBJECTS)):
         with pytest.raises(ElfError) as raised:
             relocate_all(wrong)
@@ -587,7 +596,7 @@ def test_errors_of_words_have_the_index_of_their_object(tmp_path):
     ):
         with pytest.raises(ElfError) as raised:
             call()
-        assert (raised.value.status, raised.value.of) == (status, of)
+        assert (raised.value.status, raised.value.of, raised.value.relocation) == (status, of, None)
 
 
 def test_a_missing_symbol_is_named_with_its_version(tmp_path):

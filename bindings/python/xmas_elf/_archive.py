@@ -37,9 +37,13 @@ class ElfError(Exception):
     of: Optional[int]
     """The index of the file that it is about, where several are read; or None."""
 
-    def __init__(self, status: int, about: Optional[str] = None, of: Optional[int] = None) -> None:
+    relocation: Optional[int]
+    """The index of the relocation of this file that has the error, in the order in which words are written: those of DT_RELR, then those
+    of DT_RELA, of DT_REL and of DT_JMPREL; or None."""
+
+    def __init__(self, status: int, about: Optional[str] = None, of: Optional[int] = None, relocation: Optional[int] = None) -> None:
         super().__init__(status)
-        self.about, self.of = about, of
+        self.about, self.of, self.relocation = about, of, relocation
         try:
             self.status = Status(status)
         except ValueError:

@@ -17,6 +17,9 @@ from .constants import EM_386, EM_X86_64, PT_DYNAMIC, STB_LOCAL, STB_WEAK
 # The most objects that a call of the archive takes.
 MOST_OBJECTS = 64
 
+# The index of none.
+NONE = 2**64 - 1
+
 
 class LoadObject(NamedTuple):
     """An object of a process. Objects are in the order in which they are loaded, the program first."""
@@ -36,6 +39,22 @@ _document(
     thread=declared.LoadObjectRecord.thread.__doc__ or "",
     image=declared.LoadObjectRecord.image.__doc__ or "",
 )
+
+
+class _Told:
+    """The indices of the object and of the relocation that a call tells if it has an error; before that those of none."""
+
+    def __init__(self) -> None:
+        self.object, self.relocation = c_uint64(NONE), c_uint64(NONE)
+        self.arguments = byref(self.object), byref(self.relocation)
+
+    def check(self, status: int, objects: Sequence[LoadObject]) -> None:
+        """Raises if a call has an error, with the index of the object that has it, if one has, and that of the relocation."""
+        if not status:
+            return
+        of, relocation = (None if it.value == NONE else it.value for it in (self.object, self.relocation))
+        about = _unresolved(objects, of) if status == Status.LOAD_UNRESOLVED and of is not None else None
+        raise ElfError(status, about, of, relocation)
 
 
 class _Packed:
@@ -59,10 +78,12 @@ def load_image_of(file: Any, by: int, page: int, limit: int) -> bytearray:
 
 def check_image(objects: Sequence[LoadObject], of: int, page: int = 0, limit: int = 0) -> None:
     """Raises if the words of the object at index `of` can't be written before the program runs. The error has the index of its
-    object in `of`: this one, or the first whose file can't be read or has no `load_plan`."""
-    packed, failed = _Packed(objects), c_uint64(len(objects))
+    object in `of`: this one, or the first whose file can't be read or has no `load_plan`, and in `relocation` the index of its
+    relocation, if one has the error."""
+    packed, told = _Packed(objects), _Told()
     marks = bytearray(_size(objects, of, page, limit) // 8 + 1)
-    _check(library.xmas_elf_check_image(*packed.arguments, of, page, limit, address_of(view_of(marks)), len(marks), byref(failed)), objects, failed)
+    status = library.xmas_elf_check_image(*packed.arguments, of, page, limit, address_of(view_of(marks)), len(marks), *told.arguments)
+    told.check(status, objects)
 
 
 def relocate(objects: Sequence[LoadObject], of: int, image: bytearray, lazy: bool = False, page: int = 0, limit: int = 0) -> int:
@@ -70,21 +91,12 @@ def relocate(objects: Sequence[LoadObject], of: int, image: bytearray, lazy: boo
     number: what functions return, and descriptors of thread-local storage. The error has the index of its object in `of`: this one,
     or the first whose file can't be read or has no `load_plan`; LOAD_UNRESOLVED has the name of the first symbol that is in no
     object."""
-    packed, count, failed = _Packed(objects), c_uint64(), c_uint64(len(objects))
+    packed, count, told = _Packed(objects), c_uint64(), _Told()
     status = library.xmas_elf_relocate(
-        *packed.arguments, of, int(lazy), page, limit, address_of(view_of(image)), len(image), byref(count), byref(failed)
+        *packed.arguments, of, int(lazy), page, limit, address_of(view_of(image)), len(image), byref(count), *told.arguments
     )
-    _check(status, objects, failed)
+    told.check(status, objects)
     return count.value
-
-
-def _check(status: int, objects: Sequence[LoadObject], failed: c_uint64) -> None:
-    """Raises if a call has an error, with the index of the object that has it, if one has."""
-    if not status:
-        return
-    of = failed.value if failed.value < len(objects) else None
-    about = _unresolved(objects, of) if status == Status.LOAD_UNRESOLVED and of is not None else None
-    raise ElfError(status, about, of)
 
 
 def _size(objects: Sequence[LoadObject], of: int, page: int, limit: int) -> int:
@@ -116,11 +128,11 @@ def relocate_all(objects: Sequence[LoadObject], lazy: bool = False, page: int = 
     name of the first symbol that is in no object."""
     images = _images(objects, page, limit)
     memory: Any = images[0].obj if images else bytearray()
-    packed, left, failed = _Packed(objects), c_uint64(), c_uint64(len(objects))
+    packed, left, told = _Packed(objects), c_uint64(), _Told()
     status = library.xmas_elf_relocate_all(
-        *packed.arguments, int(lazy), page, limit, address_of(view_of(memory)), len(memory), byref(left), byref(failed)
+        *packed.arguments, int(lazy), page, limit, address_of(view_of(memory)), len(memory), byref(left), *told.arguments
     )
-    _check(status, objects, failed)
+    told.check(status, objects)
     return Relocated(images, left.value)
 
 

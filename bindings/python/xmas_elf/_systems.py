@@ -49,11 +49,19 @@ def system_of(file_class: int, machine: int) -> System:
 
 class Processor(NamedTuple):
     """What the processor has for which there are libraries of their own: its level of x86-64, 0 where libraries for processors aren't
-    looked for; whether the platform is haswell; and whether it has the part of AVX-512 for which glibc has a subdirectory."""
+    looked for; whether the platform is haswell; whether it has the part of AVX-512 for which glibc has a subdirectory; and whether its
+    programs are those of 32-bit x86."""
 
     level: int = 0
     is_haswell: bool = False
     has_avx512: bool = False
+    is_386: bool = False
+
+    def for_programs(self, file_class: int, machine: int) -> "Processor":
+        """What programs of a class and a machine have of it. Of one of 32-bit x86 the platform is `i686`, and no level counts."""
+        if (file_class, machine) == (1, 3):
+            return Processor(min(self.level, 1), is_386=True)
+        return self if (file_class, machine) == (2, 62) else Processor()
 
     @property
     def platform(self) -> bytes:
@@ -69,7 +77,7 @@ class Processor(NamedTuple):
 
     @property
     def platform_bit(self) -> int:
-        return 1 << 50 if self.is_haswell else 0
+        return 1 << 50 if self.is_haswell else 1 << 49 if self.is_386 and self.level else 0
 
     @property
     def names(self) -> List[bytes]:
@@ -81,7 +89,8 @@ class Processor(NamedTuple):
         """All subdirectories in which a library is looked for, in order; the last is empty."""
         if not self.level:
             return [b""]
-        words = [b"tls/", b"haswell/" if self.is_haswell else b"x86_64/", *[b"avx512_1/"] * self.has_avx512, b"x86_64/"]
+        own = [b"i686/", b"sse2/"] if self.is_386 else [b"haswell/" if self.is_haswell else b"x86_64/", *[b"avx512_1/"] * self.has_avx512, b"x86_64/"]
+        words = [b"tls/", *own]
         places = range(len(words))
         sets = range((1 << len(words)) - 1, -1, -1)
         old = [b"".join(words[it] for it in places if chosen >> (len(words) - 1 - it) & 1) for chosen in sets]

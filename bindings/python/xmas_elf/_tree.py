@@ -143,6 +143,9 @@ class Tree:
         self._library_path, self._cache_path, self._no_cache = os.fsencode(library_path), cache, no_cache
         self._files: Dict[Tuple[int, int], ElfFile] = {}
         self._loaded: List[TreeObject] = []
+        # In the order in which names are looked up. The interpreter stays behind the program, unless such an entry moves it.
+        self._listed: List[TreeObject] = []
+        self._is_moved = False
         self._order = search.Order()
         self._asked: List[Tuple[int, int]] = []
         self._lost: List[Tuple[int, bytes]] = []
@@ -174,8 +177,8 @@ class Tree:
         head = content[:20].ljust(20, b"\0")
         self._class, self._machine = 1 if head[4] == 1 else 2, int.from_bytes(head[18:20], "little")
         self._system = system_of(self._class, self._machine)
-        is_own = not self._root.path and (self._class, self._machine) == (2, 62)
-        self._processor = own_processor() if is_own else Processor()
+        own = Processor() if self._root.path else own_processor()
+        self._processor = own.for_programs(self._class, self._machine)
         self._directory = "" if self._root.path or os.getcwd() == "/" else os.getcwd()
         self._set_cache()
         try:
@@ -200,6 +203,7 @@ class Tree:
 
     def _begin(self, program: TreeObject) -> None:
         self._loaded.append(program)
+        self._listed.append(program)
         self._told(program.path, search.fits, bytes(program.file.input[:_HEAD]), len(program.file.input), self._class, self._machine)
         self._told(program.path, program._read, self._values(program))
         self._order.add(kind for _, kind, _ in program._entries)
@@ -258,11 +262,12 @@ class Tree:
         if is_known:
             try:
                 found = self._find(number, name)
+                if found is None:
+                    self._lost.append((len(self._loaded), name))
             except ElfError:
                 if kind != AUXILIARY:
                     raise
-            if found is None:
-                self._lost.append((len(self._loaded), name))
+                self._loaded[number]._entries[entry] = name, kind, False
         if found is None:
             self._order.found[number][entry] = MISSING
             return
@@ -270,16 +275,28 @@ class Tree:
             found.name, found.asked_by, found._kind, found._entry = os.fsdecode(name), self._loaded[number], kind, (number, entry)
             self._loaded.append(found)
             self._order.add(kind for _, kind, _ in found._entries)
+        self._list(found, self._loaded[number], kind)
         if name not in found._names:
             found._names.append(name)
         self._order.found[number][entry] = self._loaded.index(found)
 
+    def _list(self, found: TreeObject, asker: TreeObject, kind: int) -> None:
+        """Puts an object that an entry found into the list: at its end, or before the one that asks by an auxiliary or a filter entry."""
+        listed = self._listed
+        if found not in listed and kind == NEEDED:
+            listed.append(found)
+        elif kind != NEEDED and found not in listed[: listed.index(asker) + 1]:
+            if found in listed:
+                listed.remove(found)
+            listed.insert(listed.index(asker), found)
+            self._is_moved = self._is_moved or found is self._interpreter
+
     def _find(self, number: int, name: bytes) -> Optional[TreeObject]:
         """What an object gets for a name: one that is known by it, or what the search finds."""
-        program, *others = self._loaded
+        program, others = self._loaded[0], [it for it in self._listed if it is not self._loaded[0]]
         if not name or program._soname == name:
             return program
-        if self._interpreter is not None and self._interpreter._has_name(name):
+        if self._interpreter is not None and not self._is_moved and self._interpreter._has_name(name):
             return self._interpreter
         for it in others:
             if it._has_name(name):
@@ -376,18 +393,19 @@ class Tree:
             objects = [self._loaded[number] if number < len(self._loaded) else None for number in found]
             it.needs = [(os.fsdecode(name), one) for (name, _, _), one in zip(it._entries, objects)]
         for number, entry in self._asked:
-            if self._order.found[number][entry] == MISSING:
-                name, kind, _ = self._loaded[number]._entries[entry]
+            name, kind, is_known = self._loaded[number]._entries[entry]
+            if self._order.found[number][entry] == MISSING and is_known:
                 self.missing.append(MissingName(os.fsdecode(name), self._loaded[number].path, kind == AUXILIARY))
 
     def _providers(self) -> Dict[bytes, Optional[TreeObject]]:
         """The first object with each name, by which needs of versions call it; None for a name that is missing."""
         found: Dict[bytes, Optional[TreeObject]] = {}
-        for number, it in enumerate(self._loaded):
-            for name in (os.fsencode(it.path) if number else b"", *it._names):
+        for place, it in enumerate(self.objects):
+            for name in (b"" if it is self._loaded[0] else os.fsencode(it.path), *it._names):
                 found.setdefault(name, it)
             for count, name in self._lost:
-                if count == number + 1:
+                # It was sought when the object was the last in the list.
+                if it in self._loaded[:count] and not any(one in self._loaded[:count] for one in self.objects[place + 1 :]):
                     found.setdefault(name, None)
         return found
 
@@ -476,11 +494,11 @@ class Tree:
                 continue
             indent = "  " * (len(pending) + 1)
             pending.append((number, entry + 1))
-            name, kind, _ = it._entries[entry]
+            name, kind, is_known = it._entries[entry]
             found = self._order.found[number][entry]
-            if found >= len(self._loaded):
+            if found >= len(self._loaded) and is_known:
                 yield f"{indent}{os.fsdecode(name)} => not found{' (auxiliary)' * (kind == AUXILIARY)}"
-            elif found and self._loaded[found]._entry == (number, entry):
+            elif 0 < found < len(self._loaded) and self._loaded[found]._entry == (number, entry):
                 one = self._loaded[found]
                 yield f"{indent}{os.fsdecode(name)} => {one.path} ({one.how}{_KINDS[kind]}) #{places[id(one)]}"
                 pending.append((found, 0))

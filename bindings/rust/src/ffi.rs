@@ -109,11 +109,11 @@ extern "C" {
     fn xmas_elf_load_image(input: *const u8, input_len: usize, header: *const Header, page: u64, limit: u64,
         loader: u32, image: *mut u8, image_len: usize) -> u32;
     fn xmas_elf_check_image(objects: *const LoadObject<'_>, objects_len: usize, of: u64, page: u64, limit: u64,
-        marks: *mut u8, marks_len: usize, failed: *mut u64) -> u32;
+        marks: *mut u8, marks_len: usize, failed: *mut u64, relocation: *mut u64) -> u32;
     fn xmas_elf_relocate(objects: *const LoadObject<'_>, objects_len: usize, of: u64, lazy: u32, page: u64,
-        limit: u64, image: *mut u8, image_len: usize, count: *mut u64, failed: *mut u64) -> u32;
+        limit: u64, image: *mut u8, image_len: usize, count: *mut u64, failed: *mut u64, relocation: *mut u64) -> u32;
     fn xmas_elf_relocate_all(objects: *const LoadObject<'_>, objects_len: usize, lazy: u32, page: u64, limit: u64,
-        images: *mut u8, images_len: usize, left: *mut u64, failed: *mut u64) -> u32;
+        images: *mut u8, images_len: usize, left: *mut u64, failed: *mut u64, relocation: *mut u64) -> u32;
     fn xmas_elf_message(status: u32, out: *mut u8, out_len: usize) -> usize;
     fn xmas_elf_needed_names(input: *const u8, input_len: usize, header: *const Header, first: u64,
         out: *mut NeededName, out_len: usize, count: *mut u64) -> u32;
@@ -784,26 +784,29 @@ pub(crate) fn load_image(input: &[u8], header: &Header, page: u64, limit: u64, l
 /// bytes, divided by 8, and one more. What it holds before and after has no meaning. If a call is not OK, `failed` is
 /// the index of the object with the error: that of the first file that can't be read or has no plan, else `of`. It is
 /// unchanged where none has it: with no object or none at `of` (`LinkObjectIndex`), with more than 64
-/// (`ManyObjects`), and where `marks` is too short (`LoadFewMarks`). A call takes up to 64 objects; for more it
-/// returns `ManyObjects`. It reads all files before it tests `of`, so `LinkObjectIndex` comes before errors of the
-/// files only where there is no object. A relocation that names a symbol takes a look-up in each file up to the one
-/// that has it, as `find_symbol` does after its count, and each word a pass over program headers: in files made to be
-/// slow the time is relocations times what these take. Errors, in the order of the tests: `LinkObjectIndex`,
-/// `ManyObjects`, `ShortPart1`, `NoMagic`, `InvalidClass`, `ShortHeaders`, `LinkNoDynamic`, `LinkAddress`,
-/// `DataRange`, `NotMultiple`, `LinkNoEntry`, `ShortData`, `LinkShortTable`, `LinkBloomCount`, `LinkChainIndex`,
-/// `LinkChainData`, `LinkSymbolIndex`, `LinkUnknownClass`, `LinkNotMultiple`, `LinkRelocationKind`, `SymbolIndex`,
-/// `HashData`, `ChainIndex`, `ChainSum`, `HashCycle`, `LinkShortVersion`, `LinkVersionCount`, `TextStart`, `TextEnd`,
-/// `TextUtf8`, `LoadType`, `LoadEntrySize`, `LoadCount`, `LoadTable`, `LoadFileSize`, `LoadEmpty`, `LoadMisaligned`,
-/// `LoadAlignment`, `LoadRange`, `LoadData`, `LoadOverlap`, `LoadZeros`, `LoadNoLoad`, `LoadHeaders`,
-/// `LoadInterpreter`, `LoadRelro`, `LoadTls`, `LoadEntry`, `LoadDynamic`, `LoadNoEntry`, `LoadNoAddends`,
-/// `LoadAddends`, `LoadNoSlots`, `LoadRelocationSize`, `LoadNotMultiple`, `LoadUnreadable`, `LoadFirstPacked`,
-/// `LoadSlotKind`, `LoadMachine`, `LoadRelativeCount`, `LoadSlotType`, `LoadFewMarks`, `LoadWordType`, `LoadNoSize`,
-/// `LoadCopyKind`, `LoadCallSymbol`, `LoadWordAddress`, `LoadReadOnly`, `LoadWordsOverlap`, `LoadWordInTable`.
+/// (`ManyObjects`), and where `marks` is too short (`LoadFewMarks`). `relocation` is the index of the relocation of
+/// this object that has the error, in the order in which words are written (the packed ones of DT_RELR, then those of
+/// DT_RELA, of DT_REL and of DT_JMPREL), and unchanged where the error is not that of one relocation. A call takes up
+/// to 64 objects; for more it returns `ManyObjects`. It reads all files before it tests `of`, so `LinkObjectIndex`
+/// comes before errors of the files only where there is no object. A relocation that names a symbol takes a look-up
+/// in each file up to the one that has it, as `find_symbol` does after its count, and each word a pass over program
+/// headers: in files made to be slow the time is relocations times what these take. Errors, in the order of the
+/// tests: `LinkObjectIndex`, `ManyObjects`, `ShortPart1`, `NoMagic`, `InvalidClass`, `ShortHeaders`, `LinkNoDynamic`,
+/// `LinkAddress`, `DataRange`, `NotMultiple`, `LinkNoEntry`, `ShortData`, `LinkShortTable`, `LinkBloomCount`,
+/// `LinkChainIndex`, `LinkChainData`, `LinkSymbolIndex`, `LinkUnknownClass`, `LinkNotMultiple`, `LinkRelocationKind`,
+/// `SymbolIndex`, `HashData`, `ChainIndex`, `ChainSum`, `HashCycle`, `LinkShortVersion`, `LinkVersionCount`,
+/// `TextStart`, `TextEnd`, `TextUtf8`, `LoadType`, `LoadEntrySize`, `LoadCount`, `LoadTable`, `LoadFileSize`,
+/// `LoadEmpty`, `LoadMisaligned`, `LoadAlignment`, `LoadRange`, `LoadData`, `LoadOverlap`, `LoadZeros`, `LoadNoLoad`,
+/// `LoadHeaders`, `LoadInterpreter`, `LoadRelro`, `LoadTls`, `LoadEntry`, `LoadDynamic`, `LoadNoEntry`,
+/// `LoadNoAddends`, `LoadAddends`, `LoadNoSlots`, `LoadRelocationSize`, `LoadNotMultiple`, `LoadUnreadable`,
+/// `LoadFirstPacked`, `LoadSlotKind`, `LoadMachine`, `LoadRelativeCount`, `LoadSlotType`, `LoadFewMarks`,
+/// `LoadWordType`, `LoadNoSize`, `LoadCopyKind`, `LoadCallSymbol`, `LoadWordAddress`, `LoadReadOnly`,
+/// `LoadWordsOverlap`, `LoadWordInTable`.
 pub(crate) fn check_image(objects: &[LoadObject<'_>], of: u64, page: u64, limit: u64, marks: &mut [u8],
-    failed: &mut u64) -> Result<(), Error> {
+    failed: &mut u64, relocation: &mut u64) -> Result<(), Error> {
     // SAFETY: see the head of this file.
     let status = unsafe { xmas_elf_check_image(objects.as_ptr(), objects.len(), of, page, limit, marks.as_mut_ptr(),
-        marks.len(), failed) };
+        marks.len(), failed, relocation) };
     result_of(status, ())
 }
 
@@ -817,26 +820,29 @@ pub(crate) fn check_image(objects: &[LoadObject<'_>], of: u64, page: u64, limit:
 /// of the file. If a call is not OK, the words before the first that can't be written are written, and `failed` is
 /// the index of the object with the error: that of the first file that can't be read or has no plan, else `of`. It is
 /// unchanged where none has it: with no object or none at `of` (`LinkObjectIndex`), with more than 64
-/// (`ManyObjects`), and where `image` is not of the size of the span (`LoadImageSize`). A call takes up to 64
-/// objects; for more it returns `ManyObjects`. It reads all files before it tests `of`, so `LinkObjectIndex` comes
-/// before errors of the files only where there is no object. A relocation that names a symbol takes a look-up in each
-/// file up to the one that has it, as `find_symbol` does after its count, and each word a pass over program headers;
-/// with `lazy` 1 a jump slot takes passes over the dynamic entries too: in files made to be slow the time is
-/// relocations times what these take. It needs about 200 KiB of stack. Errors, in the order of the tests:
-/// `LinkObjectIndex`, `ManyObjects`, `ShortPart1`, `NoMagic`, `InvalidClass`, `ShortHeaders`, `LinkNoDynamic`,
-/// `LinkAddress`, `DataRange`, `NotMultiple`, `LinkNoEntry`, `ShortData`, `LinkShortTable`, `LinkBloomCount`,
-/// `LinkChainIndex`, `LinkChainData`, `LinkSymbolIndex`, `LinkUnknownClass`, `LinkNotMultiple`, `LinkRelocationKind`,
-/// `SymbolIndex`, `HashData`, `ChainIndex`, `ChainSum`, `HashCycle`, `LinkShortVersion`, `LinkVersionCount`,
-/// `TextStart`, `TextEnd`, `TextUtf8`, `LoadType`, `LoadEntrySize`, `LoadCount`, `LoadTable`, `LoadFileSize`,
-/// `LoadEmpty`, `LoadMisaligned`, `LoadAlignment`, `LoadRange`, `LoadData`, `LoadOverlap`, `LoadZeros`, `LoadNoLoad`,
-/// `LoadHeaders`, `LoadInterpreter`, `LoadRelro`, `LoadTls`, `LoadEntry`, `LoadImageSize`, `LoadWordType`,
-/// `LoadNoSize`, `LoadCopyKind`, `LoadCallSymbol`, `LoadUnresolved`, `LoadWordAddress`, `LoadCopySource`.
+/// (`ManyObjects`), and where `image` is not of the size of the span (`LoadImageSize`). `relocation` is the index of
+/// the relocation of this object that has the error, in the order in which words are written (the packed ones of
+/// DT_RELR, then those of DT_RELA, of DT_REL and of DT_JMPREL), and unchanged where the error is not that of one
+/// relocation. A call takes up to 64 objects; for more it returns `ManyObjects`. It reads all files before it tests
+/// `of`, so `LinkObjectIndex` comes before errors of the files only where there is no object. A relocation that names
+/// a symbol takes a look-up in each file up to the one that has it, as `find_symbol` does after its count, and each
+/// word a pass over program headers; with `lazy` 1 a jump slot takes passes over the dynamic entries too: in files
+/// made to be slow the time is relocations times what these take. It needs about 200 KiB of stack. Errors, in the
+/// order of the tests: `LinkObjectIndex`, `ManyObjects`, `ShortPart1`, `NoMagic`, `InvalidClass`, `ShortHeaders`,
+/// `LinkNoDynamic`, `LinkAddress`, `DataRange`, `NotMultiple`, `LinkNoEntry`, `ShortData`, `LinkShortTable`,
+/// `LinkBloomCount`, `LinkChainIndex`, `LinkChainData`, `LinkSymbolIndex`, `LinkUnknownClass`, `LinkNotMultiple`,
+/// `LinkRelocationKind`, `SymbolIndex`, `HashData`, `ChainIndex`, `ChainSum`, `HashCycle`, `LinkShortVersion`,
+/// `LinkVersionCount`, `TextStart`, `TextEnd`, `TextUtf8`, `LoadType`, `LoadEntrySize`, `LoadCount`, `LoadTable`,
+/// `LoadFileSize`, `LoadEmpty`, `LoadMisaligned`, `LoadAlignment`, `LoadRange`, `LoadData`, `LoadOverlap`,
+/// `LoadZeros`, `LoadNoLoad`, `LoadHeaders`, `LoadInterpreter`, `LoadRelro`, `LoadTls`, `LoadEntry`, `LoadImageSize`,
+/// `LoadWordType`, `LoadNoSize`, `LoadCopyKind`, `LoadCallSymbol`, `LoadUnresolved`, `LoadWordAddress`,
+/// `LoadCopySource`.
 pub(crate) fn relocate(objects: &[LoadObject<'_>], of: u64, lazy: u32, page: u64, limit: u64, image: &mut [u8],
-    failed: &mut u64) -> Result<u64, Error> {
+    failed: &mut u64, relocation: &mut u64) -> Result<u64, Error> {
     let mut count = u64::default();
     // SAFETY: see the head of this file.
     let status = unsafe { xmas_elf_relocate(objects.as_ptr(), objects.len(), of, lazy, page, limit,
-        image.as_mut_ptr(), image.len(), &mut count, failed) };
+        image.as_mut_ptr(), image.len(), &mut count, failed, relocation) };
     result_of(status, count)
 }
 
@@ -848,26 +854,28 @@ pub(crate) fn relocate(objects: &[LoadObject<'_>], of: u64, lazy: u32, page: u64
 /// all objects. If `check_image` is OK for an object, each byte of its image is then that of the one word over it,
 /// else that of the file. If a call is not OK, `failed` is the index of the object with the error; it is unchanged
 /// where none has it: with no object (`LinkObjectIndex`), with more than 64 (`ManyObjects`), and where `images` is
-/// not of the size of all images (`LoadImageSize`). Of errors of words the last object with one counts: then the
-/// objects after it are relocated, and its words before the first that can't be written are written. Otherwise
-/// `images` is unchanged. A relocation that names a symbol takes a look-up in each file up to the one that has it, as
-/// `find_symbol` does after its count, and each word a pass over program headers; with `lazy` 1 a jump slot takes
-/// passes over the dynamic entries too: in files made to be slow the time is relocations times what these take. It
-/// needs about 200 KiB of stack. Errors, in the order of the tests: `LinkObjectIndex`, `ManyObjects`, `ShortPart1`,
-/// `NoMagic`, `InvalidClass`, `ShortHeaders`, `LinkNoDynamic`, `LinkAddress`, `DataRange`, `NotMultiple`,
-/// `LinkNoEntry`, `ShortData`, `LinkShortTable`, `LinkBloomCount`, `LinkChainIndex`, `LinkChainData`,
-/// `LinkSymbolIndex`, `LinkUnknownClass`, `LinkNotMultiple`, `LinkRelocationKind`, `SymbolIndex`, `HashData`,
-/// `ChainIndex`, `ChainSum`, `HashCycle`, `LinkShortVersion`, `LinkVersionCount`, `TextStart`, `TextEnd`, `TextUtf8`,
-/// `LoadType`, `LoadEntrySize`, `LoadCount`, `LoadTable`, `LoadFileSize`, `LoadEmpty`, `LoadMisaligned`,
-/// `LoadAlignment`, `LoadRange`, `LoadData`, `LoadOverlap`, `LoadZeros`, `LoadNoLoad`, `LoadHeaders`,
-/// `LoadInterpreter`, `LoadRelro`, `LoadTls`, `LoadEntry`, `LoadImageSize`, `LoadWordType`, `LoadNoSize`,
-/// `LoadCopyKind`, `LoadCallSymbol`, `LoadUnresolved`, `LoadWordAddress`, `LoadCopySource`.
+/// not of the size of all images (`LoadImageSize`). `relocation` is the index of the relocation of this object that
+/// has the error, in the order in which words are written (the packed ones of DT_RELR, then those of DT_RELA, of
+/// DT_REL and of DT_JMPREL), and unchanged where the error is not that of one relocation. Of errors of words the last
+/// object with one counts: then the objects after it are relocated, and its words before the first that can't be
+/// written are written. Otherwise `images` is unchanged. A relocation that names a symbol takes a look-up in each
+/// file up to the one that has it, as `find_symbol` does after its count, and each word a pass over program headers;
+/// with `lazy` 1 a jump slot takes passes over the dynamic entries too: in files made to be slow the time is
+/// relocations times what these take. It needs about 200 KiB of stack. Errors, in the order of the tests:
+/// `LinkObjectIndex`, `ManyObjects`, `ShortPart1`, `NoMagic`, `InvalidClass`, `ShortHeaders`, `LinkNoDynamic`,
+/// `LinkAddress`, `DataRange`, `NotMultiple`, `LinkNoEntry`, `ShortData`, `LinkShortTable`, `LinkBloomCount`,
+/// `LinkChainIndex`, `LinkChainData`, `LinkSymbolIndex`, `LinkUnknownClass`, `LinkNotMultiple`, `LinkRelocationKind`,
+/// `SymbolIndex`, `HashData`, `ChainIndex`, `ChainSum`, `HashCycle`, `LinkShortVersion`, `LinkVersionCount`,
+/// `TextStart`, `TextEnd`, `TextUtf8`, `LoadType`, `LoadEntrySize`, `LoadCount`, `LoadTable`, `LoadFileSize`,
+/// `LoadEmpty`, `LoadMisaligned`, `LoadAlignment`, `LoadRange`, `LoadData`, `LoadOverlap`, `LoadZeros`, `LoadNoLoad`,
+/// `LoadHeaders`, `LoadInterpreter`, `LoadRelro`, `LoadTls`, `LoadEntry`, `LoadImageSize`, `LoadWordType`,
+/// `LoadNoSize`, `LoadCopyKind`, `LoadCallSymbol`, `LoadUnresolved`, `LoadWordAddress`, `LoadCopySource`.
 pub(crate) fn relocate_all(objects: &[LoadObject<'_>], lazy: u32, page: u64, limit: u64, images: &mut [u8],
-    failed: &mut u64) -> Result<u64, Error> {
+    failed: &mut u64, relocation: &mut u64) -> Result<u64, Error> {
     let mut left = u64::default();
     // SAFETY: see the head of this file.
     let status = unsafe { xmas_elf_relocate_all(objects.as_ptr(), objects.len(), lazy, page, limit,
-        images.as_mut_ptr(), images.len(), &mut left, failed) };
+        images.as_mut_ptr(), images.len(), &mut left, failed, relocation) };
     result_of(status, left)
 }
 

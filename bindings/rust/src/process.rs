@@ -39,7 +39,7 @@ impl<'a> LoadObject<'a> {
 /// page size and limit, of which 0 are those of Linux. `marks` has a bit for each byte of the span of its plan: so many bytes as an
 /// eighth of them, and one more.
 pub fn check_image(objects: &[LoadObject<'_>], of: usize, page: u64, limit: u64, marks: &mut [u8]) -> Result<(), ObjectError> {
-    with_object(objects, |failed| ffi::check_image(objects, of as u64, page, limit, marks, failed))
+    with_object(objects, |failed, relocation| ffi::check_image(objects, of as u64, page, limit, marks, failed, relocation))
 }
 
 /// Writes the words of the object at index `of` to its image, which [`LoadPlan::fill`](crate::LoadPlan::fill) filled. Each file must
@@ -47,7 +47,7 @@ pub fn check_image(objects: &[LoadObject<'_>], of: usize, page: u64, limit: u64,
 /// are left to the caller: results of functions, and descriptors of thread-local storage.
 pub fn relocate(objects: &[LoadObject<'_>], of: usize, when: Binding, page: u64, limit: u64, image: &mut [u8]) -> Result<u64, ObjectError> {
     let lazy = u32::from(when == Binding::Lazy);
-    with_object(objects, |failed| ffi::relocate(objects, of as u64, lazy, page, limit, image, failed))
+    with_object(objects, |failed, relocation| ffi::relocate(objects, of as u64, lazy, page, limit, image, failed, relocation))
 }
 
 /// What can't be read or written of one of several objects.
@@ -57,6 +57,9 @@ pub struct ObjectError {
     pub error: Error,
     /// The index of the object, if one has the error.
     pub object: Option<usize>,
+    /// The index of its relocation, if one has the error, in the order in which words are written: those of DT_RELR, then those of
+    /// DT_RELA, of DT_REL and of DT_JMPREL.
+    pub relocation: Option<u64>,
 }
 
 impl fmt::Display for ObjectError {
@@ -70,12 +73,14 @@ impl fmt::Display for ObjectError {
 
 impl core::error::Error for ObjectError {}
 
-/// What a call for these objects returns, which writes the index of the one with the error to its argument, if one has it.
-fn with_object<T>(objects: &[LoadObject<'_>], call: impl FnOnce(&mut u64) -> Result<T, Error>) -> Result<T, ObjectError> {
-    let mut failed = u64::MAX;
-    call(&mut failed).map_err(|error| {
+/// What a call for these objects returns, which writes the indices of the one with the error, and of its relocation with the error, to
+/// its arguments, if one has it.
+fn with_object<T>(objects: &[LoadObject<'_>], call: impl FnOnce(&mut u64, &mut u64) -> Result<T, Error>) -> Result<T, ObjectError> {
+    let (mut failed, mut told) = (u64::MAX, u64::MAX);
+    call(&mut failed, &mut told).map_err(|error| {
         let object = usize::try_from(failed).ok().filter(|object| *object < objects.len());
-        ObjectError { error, object }
+        let relocation = Some(told).filter(|index| *index != u64::MAX);
+        ObjectError { error, object, relocation }
     })
 }
 
@@ -85,5 +90,5 @@ fn with_object<T>(objects: &[LoadObject<'_>], call: impl FnOnce(&mut u64) -> Res
 /// The result is the number of words without a number, which are left to the caller.
 pub fn relocate_all(objects: &[LoadObject<'_>], when: Binding, page: u64, limit: u64, images: &mut [u8]) -> Result<u64, ObjectError> {
     let lazy = u32::from(when == Binding::Lazy);
-    with_object(objects, |failed| ffi::relocate_all(objects, lazy, page, limit, images, failed))
+    with_object(objects, |failed, relocation| ffi::relocate_all(objects, lazy, page, limit, images, failed, relocation))
 }

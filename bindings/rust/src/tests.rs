@@ -490,7 +490,7 @@ fn words_are_those_of_the_process() {
     let mut image = std::vec![0; (plan.span().end - plan.span().start) as usize];
     assert_eq!(plan.fill(crate::Loader::Linux, &mut image[1..]), Err(Error::LoadImageSize));
     plan.fill(crate::Loader::Linux, &mut image).expect("an image of this size");
-    let few = crate::ObjectError { error: Error::LoadFewMarks, object: None };
+    let few = crate::ObjectError { error: Error::LoadFewMarks, object: None, relocation: None };
     assert_eq!(crate::check_image(&objects, 0, 0, 0, &mut []), Err(few));
     crate::check_image(&objects, 0, 0, 0, &mut std::vec![0; image.len() / 8 + 1]).expect("words that can be written");
     let left = crate::relocate(&objects, 0, crate::Binding::Now, 0, 0, &mut image).expect("all symbols");
@@ -506,16 +506,18 @@ fn words_are_those_of_the_process() {
         images.extend(own);
     }
     let short = images.len() - 1;
-    let misfit = crate::ObjectError { error: Error::LoadImageSize, object: None };
+    let misfit = crate::ObjectError { error: Error::LoadImageSize, object: None, relocation: None };
     assert_eq!(crate::relocate_all(&objects, crate::Binding::Now, 0, 0, &mut images[..short]), Err(misfit));
     crate::relocate_all(&objects, crate::Binding::Now, 0, 0, &mut images).expect("all symbols");
     assert!(images[..sizes[0]] == image[..]);
     let unresolved = crate::relocate_all(&objects[..1], crate::Binding::Now, 0, 0, &mut images[..sizes[0]]);
-    assert_eq!(unresolved, Err(crate::ObjectError { error: Error::LoadUnresolved, object: Some(0) }));
-    assert_eq!(std::format!("{}", unresolved.expect_err("a symbol")), "object 0: Symbol is in no object");
+    let unresolved = unresolved.expect_err("a symbol");
+    assert_eq!((unresolved.error, unresolved.object), (Error::LoadUnresolved, Some(0)));
+    assert!(unresolved.relocation.is_some());
+    assert_eq!(std::format!("{unresolved}"), "object 0: Symbol is in no object");
     let many = std::vec![objects[0]; 65];
     let answer = crate::relocate_all(&many, crate::Binding::Now, 0, 0, &mut []);
-    assert_eq!(answer, Err(crate::ObjectError { error: Error::ManyObjects, object: None }));
+    assert_eq!(answer, Err(crate::ObjectError { error: Error::ManyObjects, object: None, relocation: None }));
     // What is read-only after relocation is as in memory, but for the words without a number and the dynamic segment.
     let relro = plan.relro().expect("a part that is read-only after relocation");
     let (_, dynamic) = section_of_type(&files[0].1, file.header(), SHT_DYNAMIC);
@@ -526,7 +528,7 @@ fn words_are_those_of_the_process() {
     let words = memory.chunks(8).zip(image[relro.start as usize..].chunks(8)).zip((relro.start..).step_by(8));
     let others = words.filter(|((one, other), at)| one != other && !(dynamic.address..dynamic.address + dynamic.size).contains(at));
     assert!(others.count() as u64 <= left);
-    let none = crate::ObjectError { error: Error::LinkObjectIndex, object: None };
+    let none = crate::ObjectError { error: Error::LinkObjectIndex, object: None, relocation: None };
     assert_eq!(crate::relocate(&objects, objects.len(), crate::Binding::Lazy, 0, 0, &mut image), Err(none));
 }
 
@@ -539,19 +541,20 @@ fn errors_have_the_index_of_their_object() {
     let (mut marks, mut image) = (std::vec![0; size / 8 + 1], std::vec![0; size]);
     let whole = crate::LoadObject::new(&own);
     // The words of the object itself: without its libraries it has a symbol that nothing has.
-    let unresolved = crate::ObjectError { error: Error::LoadUnresolved, object: Some(1) };
-    assert_eq!(crate::relocate(&[whole, whole], 1, crate::Binding::Now, 0, 0, &mut image), Err(unresolved));
+    let unresolved = crate::relocate(&[whole, whole], 1, crate::Binding::Now, 0, 0, &mut image).expect_err("a symbol");
+    assert_eq!((unresolved.error, unresolved.object), (Error::LoadUnresolved, Some(1)));
+    assert!(unresolved.relocation.is_some());
     // Another file that can't be read, of whatever object the words are.
-    let short = crate::ObjectError { error: Error::ShortPart1, object: Some(2) };
+    let short = crate::ObjectError { error: Error::ShortPart1, object: Some(2), relocation: None };
     let objects = [whole, whole, crate::LoadObject::new(&own[..3])];
     for of in 0..4 {
         assert_eq!(crate::check_image(&objects, of, 0, 0, &mut marks), Err(short));
         assert_eq!(crate::relocate(&objects, of, crate::Binding::Now, 0, 0, &mut image), Err(short));
     }
     // Another that has no plan: its load segments are past the first addresses.
-    let limited = crate::ObjectError { error: Error::LoadRange, object: Some(0) };
+    let limited = crate::ObjectError { error: Error::LoadRange, object: Some(0), relocation: None };
     assert_eq!(crate::check_image(&[whole], 0, 0, 4096, &mut marks), Err(limited));
-    let misfit = crate::ObjectError { error: Error::LoadImageSize, object: None };
+    let misfit = crate::ObjectError { error: Error::LoadImageSize, object: None, relocation: None };
     assert_eq!(crate::relocate(&[whole], 0, crate::Binding::Now, 0, 0, &mut image[1..]), Err(misfit));
 }
 

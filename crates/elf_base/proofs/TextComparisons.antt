@@ -5,7 +5,7 @@ use Rattle.std.proofs.lemmas.Bool.{eq-eqb, eqb-true}
 use Rattle.std.proofs.lemmas.List.{ext_get_or, get_or-take, length-take-le, take-append-drop}
 use Rattle.std.specs.Str.{IsUtf8}
 use Rattle.memchr.specs.Find.{IsFirstByte, is_byte}
-use Rattle.elf_base.specs.Text.{IsText}
+use Rattle.elf_base.specs.Text.{EndsInZero, IsText}
 use Rattle.elf_base.specs.TextCompared.{FrontCompared, HasZero, SameBelow, DiffersAt, TextCompared}
 use Rattle.elf_base.proofs.Numbers.{rest}
 
@@ -72,28 +72,25 @@ pub answers : (bytes : List ℕ) (start : ℕ) (text : List ℕ) (b : Bool) (cou
 answers bytes start text b count there utf8 none front =
     at_rest bytes start text b count there utf8 none (subst (λ ys. FrontCompared ys text b count) (rest start bytes) front)
 
--- if `text` and a zero byte are at the front of `&bytes[start..]`, the text at `start` is `text`, unless
--- `text` contains a zero byte
-stands_by : (bytes : List ℕ) (start : ℕ) (text : List ℕ) (none : Bool) (zero_at : Option ℕ) → IsUtf8 text → drop start bytes ≡ text ++ (0 ∷ drop (suc (length text)) (drop start bytes)) → IsFirstByte (is_byte 0) text zero_at → is_some zero_at ≡ not none → IsTrue none ↔ IsText bytes start text
-stands_by bytes start text true None utf8 begins first is_none = (
+-- if `wanted` and a zero byte are at the front of `&bytes[start..]`, the bytes up to the first zero byte are
+-- `wanted`, unless `wanted` contains a zero byte
+ends_by : (bytes : List ℕ) (start : ℕ) (wanted : List ℕ) (none : Bool) (zero_at : Option ℕ) → drop start bytes ≡ wanted ++ (0 ∷ drop (suc (length wanted)) (drop start bytes)) → IsFirstByte (is_byte 0) wanted zero_at → is_some zero_at ≡ not none → IsTrue none ↔ EndsInZero bytes start wanted
+ends_by bytes start wanted true None begins first is_none = (
   (λ _. record {
-    utf8 = utf8;
-    ended = record {
-      after = drop (suc (length text)) (drop start bytes);
-      begins = begins;
-      no_zero = λ k below zero. has_no_zero text None first refl (k, below, zero);
-    };
+    after = drop (suc (length wanted)) (drop start bytes);
+    begins = begins;
+    no_zero = λ k below zero. has_no_zero wanted None first refl (k, below, zero);
   }),
   λ _. refl,
 )
-stands_by bytes start text false None utf8 begins first is_none = cc
-stands_by bytes start text true (Some k) utf8 begins first is_none = cc
-stands_by bytes start text false (Some k) utf8 begins first is_none =
-    ((λ none. cc), λ stood. absurd (stood.ended.no_zero k first.0.high (eqb-true (slice_index text k) 0 first.1)))
+ends_by bytes start wanted false None begins first is_none = cc
+ends_by bytes start wanted true (Some k) begins first is_none = cc
+ends_by bytes start wanted false (Some k) begins first is_none =
+    ((λ none. cc), λ ended. absurd (ended.no_zero k first.0.high (eqb-true (slice_index wanted k) 0 first.1)))
 
-pub stands : (bytes : List ℕ) (start : ℕ) (text : List ℕ) (none : Bool) (zero_at : Option ℕ) → start ≤ length bytes → IsUtf8 text → length text < length (take (length bytes - start) (drop start bytes)) → take (length text) (take (length bytes - start) (drop start bytes)) ≡ text → slice_index (take (length bytes - start) (drop start bytes)) (length text) ≡ 0 → IsFirstByte (is_byte 0) text zero_at → is_some zero_at ≡ not none → IsTrue none ↔ IsText bytes start text
-stands bytes start text none zero_at there utf8 long front ends first is_none =
+pub ends : (bytes : List ℕ) (start : ℕ) (wanted : List ℕ) (none : Bool) (zero_at : Option ℕ) → start ≤ length bytes → length wanted < length (take (length bytes - start) (drop start bytes)) → take (length wanted) (take (length bytes - start) (drop start bytes)) ≡ wanted → slice_index (take (length bytes - start) (drop start bytes)) (length wanted) ≡ 0 → IsFirstByte (is_byte 0) wanted zero_at → is_some zero_at ≡ not none → IsTrue none ↔ EndsInZero bytes start wanted
+ends bytes start wanted none zero_at there long front closed first is_none =
     let all : take (length bytes - start) (drop start bytes) ≡ drop start bytes = rest start bytes in
-    let begins : drop start bytes ≡ text ++ (0 ∷ drop (suc (length text)) (drop start bytes)) =
-    zero_behind (drop start bytes) text (subst (λ ys. length text < length ys) all long) (subst (λ ys. take (length text) ys ≡ text) all front) (subst (λ ys. slice_index ys (length text) ≡ 0) all ends) in
-    stands_by bytes start text none zero_at utf8 begins first is_none
+    let begins : drop start bytes ≡ wanted ++ (0 ∷ drop (suc (length wanted)) (drop start bytes)) =
+    zero_behind (drop start bytes) wanted (subst (λ ys. length wanted < length ys) all long) (subst (λ ys. take (length wanted) ys ≡ wanted) all front) (subst (λ ys. slice_index ys (length wanted) ≡ 0) all closed) in
+    ends_by bytes start wanted none zero_at begins first is_none

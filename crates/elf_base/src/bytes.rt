@@ -9,7 +9,9 @@ mod text;
 
 pub use crate::bytes::record::Record;
 pub use crate::bytes::table::{Table, TableIter};
-pub use crate::bytes::text::{bytes_up_to_zero, is_found_at, text_at, text_is, text_range};
+pub use crate::bytes::text::{
+    bytes_up_to_zero, has_bytes_at, is_found_at, text_at, text_is, text_range,
+};
 use byteorder::{BigEndian, ByteOrder, LittleEndian};
 
 /// The byte order of numbers (gABI, "ELF Header", EI_DATA).

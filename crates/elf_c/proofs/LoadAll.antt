@@ -9,7 +9,8 @@ use Rattle.elf_linking.specs.declared.object.DynamicObject.{DynamicObject}
 use Rattle.elf_loading.specs.OneWord.{HasErrorLeft, IsByOneWordIn}
 use Rattle.elf_loading.specs.Plan.{plan_size}
 use Rattle.elf_loading.specs.Relocate.{IsRelocationIn}
-use Rattle.elf_loading.specs.declared.error.LoadError.{LoadError}
+use Rattle.elf_loading.specs.WordErrors.{IsRelocationErrorIn, error_alone}
+use Rattle.elf_loading.specs.declared.word_error.WordError.{WordError}
 use Rattle.elf_loading.specs.declared.plan.LoadPlan.{LoadPlan}
 use Rattle.elf_loading.specs.declared.relocate.Place.{Place}
 use Rattle.elf_loading.specs.declared.words.Binding.{Binding}
@@ -180,13 +181,14 @@ image_rest plans of size begin back rest memory plan below is here whole parts i
 pub image_size : (plans : List LoadPlan) (of size long : ℕ) (plan : LoadPlan) → slice_get plans of ≡ Some plan → size ≡ plan_size plan → long ≡ size → long ≡ size_at plans of
 image_size plans of size long plan below is same = same ∙ is ∙ sym (size_next plans of plan below)
 
-pub image_relocated : {E : Type 0} {r : _} (fields : E → SymbolFields) (objects : Bor (List (DynamicObject E r))) (plans : Bor (List LoadPlan)) (when : Binding) (of : ℕ) (lent : Bor (List Place)) (images : Bor (List (Bor (List ℕ)))) (memory front back image written behind : List ℕ) (answer : Result ℕ LoadError) (all : List (Bor (List ℕ)))
+pub image_relocated : {E : Type 0} {r : _} (fields : E → SymbolFields) (objects : Bor (List (DynamicObject E r))) (plans : Bor (List LoadPlan)) (when : Binding) (of : ℕ) (lent : Bor (List Place)) (images : Bor (List (Bor (List ℕ)))) (memory front back image written behind : List ℕ) (answer : Result ℕ WordError) (all : List (Bor (List ℕ)))
     → memory ≡ front ++ back → back ≡ image ++ behind → length front ≡ begin_at plans.now of → length image ≡ size_at plans.now of
-    → IsRelocationIn fields objects plans of when lent images image written answer
-    → IfOk answer (λ count. IsByOneWordIn fields objects plans of when lent images image written)
-    → IfErr answer (HasErrorLeft fields objects.now plans.now of when) → AreShown plans.now of behind all → images.now ≡ all
+    → IsRelocationIn fields objects plans of when lent images image written (error_alone answer)
+    → IfOk (error_alone answer) (λ count. IsByOneWordIn fields objects plans of when lent images image written)
+    → IfErr (error_alone answer) (HasErrorLeft fields objects.now plans.now of when)
+    → IfErr answer (IsRelocationErrorIn fields objects plans of when lent images (length image)) → AreShown plans.now of behind all → images.now ≡ all
     → IsImageRelocated fields objects plans when lent.now of memory (front ++ (written ++ behind)) answer
-image_relocated fields objects plans when of lent images memory front back image written behind answer all whole parts begin size relocation once errors shown same = record {
+image_relocated fields objects plans when of lent images memory front back image written behind answer all whole parts begin size relocation once errors first shown same = record {
   lent = lent;
   places_are = refl;
   images = images;
@@ -202,6 +204,7 @@ image_relocated fields objects plans when of lent images memory front back image
   relocation = relocation;
   once = once;
   errors = errors;
+  first = first;
 }
 
 -- The relocation of all objects.

@@ -8,14 +8,16 @@ use Rattle.elf_linking.specs.declared.object.DynamicObject.{DynamicObject}
 use Rattle.elf_loading.specs.OneWord.{HasErrorLeft, IsByOneWordIn}
 use Rattle.elf_loading.specs.Plan.{plan_size}
 use Rattle.elf_loading.specs.Relocate.{IsRelocationIn}
+use Rattle.elf_loading.specs.WordErrors.{IsRelocationErrorIn, error_alone}
 use Rattle.elf_loading.specs.declared.error.LoadError.{LoadError}
 use Rattle.elf_loading.specs.declared.error.LoadError.TheVariants.{ImageSize}
 use Rattle.elf_loading.specs.declared.plan.LoadPlan.{LoadPlan}
 use Rattle.elf_loading.specs.declared.relocate.Place.{Place}
+use Rattle.elf_loading.specs.declared.word_error.WordError.{WordError}
 use Rattle.elf_loading.specs.declared.words.Binding.{Binding}
 use Rattle.xmas_elf.specs.Symbol.{SymbolFields, dyn_entry_32_fields, dyn_entry_64_fields}
 use Rattle.xmas_elf.specs.Types.{DynEntry32, DynEntry64}
-use Rattle.elf_c.specs.LoadObjects.{AreObjectsOf, ArePlacesOf, ArePlansOf, IsFailedAt, IsUnplannedAt, failed_alone, failed_at, is_first_narrow}
+use Rattle.elf_c.specs.LoadObjects.{AreObjectsOf, ArePlacesOf, ArePlansOf, IsFailedAt, IsUnplannedAt, failed_alone, failed_at, failed_in, is_first_narrow}
 use Rattle.elf_c.specs.declared.load_objects.Failure.{Failure}
 use Rattle.elf_c.specs.declared.load_objects.LoadObject.{LoadObject}
 use Rattle.elf_c.specs.declared.load_objects.TheConstants.{MOST_OBJECTS}
@@ -57,7 +59,7 @@ pub record AreShown (plans : List LoadPlan) (of : ℕ) (behind : List ℕ) (imag
 
 -- the object at an index is relocated as the library says: its image is changed, and the rest of memory is not. If it is
 -- Ok, the byte at each address that one word has is that of the word
-pub record IsImageRelocated {E : Type 0} {r : _} (fields : E → SymbolFields) (objects : Bor (List (DynamicObject E r))) (plans : Bor (List LoadPlan)) (when : Binding) (places : List Place) (of : ℕ) (before after : List ℕ) (answer : Result ℕ LoadError) : Type 0 where
+pub record IsImageRelocated {E : Type 0} {r : _} (fields : E → SymbolFields) (objects : Bor (List (DynamicObject E r))) (plans : Bor (List LoadPlan)) (when : Binding) (places : List Place) (of : ℕ) (before after : List ℕ) (answer : Result ℕ WordError) : Type 0 where
   pub lent : Bor (List Place)
   pub places_are : lent.now ≡ places
   pub images : Bor (List (Bor (List ℕ)))
@@ -70,9 +72,10 @@ pub record IsImageRelocated {E : Type 0} {r : _} (fields : E → SymbolFields) (
   pub begin_is : length front ≡ begin_at plans.now of
   pub size_is : length image ≡ size_at plans.now of
   pub images_are : AreShown plans.now of behind images.now
-  pub relocation : IsRelocationIn fields objects plans of when lent images image written answer
-  pub once : IfOk answer (λ count. IsByOneWordIn fields objects plans of when lent images image written)
-  pub errors : IfErr answer (HasErrorLeft fields objects.now plans.now of when)
+  pub relocation : IsRelocationIn fields objects plans of when lent images image written (error_alone answer)
+  pub once : IfOk (error_alone answer) (λ count. IsByOneWordIn fields objects plans of when lent images image written)
+  pub errors : IfErr (error_alone answer) (HasErrorLeft fields objects.now plans.now of when)
+  pub first : IfErr answer (IsRelocationErrorIn fields objects plans of when lent images (length image))
 
 -- the objects from an index on are relocated, the last first, and this many of their words have no number
 pub data AreRelocated {E : Type 0} {r : _} (fields : E → SymbolFields) (objects : Bor (List (DynamicObject E r))) (plans : Bor (List LoadPlan)) (when : Binding) (places : List Place) (before : List ℕ) : ℕ → List ℕ → ℕ → Type 0 where
@@ -87,10 +90,9 @@ pub data AreRelocated {E : Type 0} {r : _} (fields : E → SymbolFields) (object
 pub data RelocatesEach {E : Type 0} {r : _} (fields : E → SymbolFields) (objects : Bor (List (DynamicObject E r))) (plans : Bor (List LoadPlan)) (when : Binding) (places : List Place) (before after : List ℕ) (result : Result ℕ Failure) : Type 0 where
   each_relocated : (left : ℕ) → AreRelocated fields objects plans when places before 0 after left → result ≡ Ok left
       → RelocatesEach fields objects plans when places before after result
-  one_failed : (of : ℕ) (middle : List ℕ) (left : ℕ) (error : LoadError) → of < length plans.now
+  one_failed : (of : ℕ) (middle : List ℕ) (left : ℕ) (found : WordError) → of < length plans.now
       → AreRelocated fields objects plans when places before (of + 1) middle left
-      → IsImageRelocated fields objects plans when places of middle after (Err error)
-      → result ≡ Err (failed_at (Load error) of)
+      → IsImageRelocated fields objects plans when places of middle after (Err found) → result ≡ Err (failed_in found of)
       → RelocatesEach fields objects plans when places before after result
 
 -- The result of the call.

@@ -11,11 +11,13 @@ use Rattle.elf_loading.specs.OneWord.{HasErrorLeft, IsByOneWordIn}
 use Rattle.elf_loading.specs.Relocate.{IsRelocationIn}
 use Rattle.elf_loading.specs.Segments.{loads_of}
 use Rattle.elf_loading.specs.Spans.{span_of}
+use Rattle.elf_loading.specs.WordErrors.{IsImageError, IsRelocationErrorIn, error_alone}
 use Rattle.elf_loading.specs.declared.error.LoadError.{LoadError}
 use Rattle.elf_loading.specs.declared.error.LoadError.TheVariants.{ImageSize}
 use Rattle.elf_loading.specs.declared.mapping.Loader.{Loader}
 use Rattle.elf_loading.specs.declared.plan.LoadPlan.{LoadPlan}
 use Rattle.elf_loading.specs.declared.relocate.Place.{Place}
+use Rattle.elf_loading.specs.declared.word_error.WordError.{WordError}
 use Rattle.elf_loading.specs.declared.words.Binding.{Binding}
 use Rattle.xmas_elf.specs.Symbol.{SymbolFields, dyn_entry_32_fields, dyn_entry_64_fields}
 use Rattle.xmas_elf.specs.Types.{DynEntry32, DynEntry64, ElfFile}
@@ -41,9 +43,10 @@ planned_byte file page by i = byte_number file.input.now
 
 -- the result for files of one class
 pub data ChecksAs {E : Type 0} (r : _) (class size : ℕ) (fields : E → SymbolFields) (loads : List LoadObject) (of page limit bits : ℕ) (result : Result (Unit {0}) Failure) : Type 0 where
-  checked : (objects : List (DynamicObject E r)) (plans : List LoadPlan) (answer : Result (Unit {0}) LoadError)
+  checked : (objects : List (DynamicObject E r)) (plans : List LoadPlan) (answer : Result (Unit {0}) WordError)
       → AreObjectsOf class size loads objects → ArePlansOf page limit objects plans
-      → IsImageCheck size fields objects plans of bits answer → result ≡ as_failure answer of
+      → IsImageCheck size fields objects plans of bits (error_alone answer)
+      → IfErr answer (IsImageError size fields objects plans of bits) → result ≡ as_failure answer of
       → ChecksAs r class size fields loads of page limit bits result
   unchecked : (index : ℕ) (error : LinkError) → IsFailedAt {E = E} r class size loads index error
       → result ≡ Err (failed_at (Link error) index)
@@ -71,11 +74,12 @@ pub data Checks (narrow_record wide_record : _) (loads : List LoadObject) (of pa
 -- the result for files of one class. If it is Ok, the byte at each address that one word has is that of the word
 pub data RelocatesAs {E : Type 0} (r : _) (class size : ℕ) (fields : E → SymbolFields) (loads : List LoadObject) (of : ℕ) (when : Binding) (page limit : ℕ) (before after : List ℕ) (result : Result ℕ Failure) : Type 0 where
   relocated : (objects : Bor (List (DynamicObject E r))) (plans : Bor (List LoadPlan)) (places : Bor (List Place))
-      (images : Bor (List (Bor (List ℕ)))) (answer : Result ℕ LoadError) → AreObjectsOf class size loads objects.now
+      (images : Bor (List (Bor (List ℕ)))) (answer : Result ℕ WordError) → AreObjectsOf class size loads objects.now
       → ArePlansOf page limit objects.now plans.now → ArePlacesOf loads places.now → AreImagesOf loads images.now
-      → IsRelocationIn fields objects plans of when places images before after answer
-      → IfOk answer (λ count. IsByOneWordIn fields objects plans of when places images before after)
-      → IfErr answer (HasErrorLeft fields objects.now plans.now of when)
+      → IsRelocationIn fields objects plans of when places images before after (error_alone answer)
+      → IfOk (error_alone answer) (λ count. IsByOneWordIn fields objects plans of when places images before after)
+      → IfErr (error_alone answer) (HasErrorLeft fields objects.now plans.now of when)
+      → IfErr answer (IsRelocationErrorIn fields objects plans of when places images (length before))
       → result ≡ as_failure answer of → RelocatesAs r class size fields loads of when page limit before after result
   unrelocated : (index : ℕ) (error : LinkError) → IsFailedAt {E = E} r class size loads index error
       → result ≡ Err (failed_at (Link error) index) → after ≡ before

@@ -1,5 +1,5 @@
 -- The objects of a process: a program and its libraries, in the order in which they are loaded (this project's own).
-use Rattle.std.specs.Prelude.{◌≡◌, ℕ, ◌==◌, ◌<◌, Bool, false, List, length, slice_get, IsSomeAnd, Option, Some, None, unwrap_or, Result, Ok, Err, if◌then◌else◌}
+use Rattle.std.specs.Prelude.{◌≡◌, ℕ, ◌==◌, ◌<◌, Bool, true, false, List, length, slice_get, IsSomeAnd, Option, Some, None, unwrap_or, Result, Ok, Err, if◌then◌else◌}
 use Rattle.std.specs.Borrow.{Bor}
 use Rattle.elf_base.specs.FileHeader.{file_class, header_of}
 use Rattle.elf_base.specs.declared.error.ElfError.{ElfError}
@@ -13,6 +13,7 @@ use Rattle.elf_loading.specs.declared.error.LoadError.{LoadError}
 use Rattle.elf_loading.specs.declared.error.LoadError.TheVariants as reason
 use Rattle.elf_loading.specs.declared.plan.LoadPlan.{LoadPlan}
 use Rattle.elf_loading.specs.declared.relocate.Place.{Place}
+use Rattle.elf_loading.specs.declared.word_error.WordError.{WordError}
 use Rattle.elf_loading.specs.declared.words.Binding.{Binding}
 use Rattle.elf_loading.specs.declared.words.Binding.TheVariants.{Lazy, Now}
 use Rattle.xmas_elf.specs.Types.{Header}
@@ -137,27 +138,35 @@ when_of lazy = if lazy == 1 then Lazy else Now
 
 -- an error of the object at an index
 abbrev pub failed_at : AnyError → ℕ → Failure
-failed_at error index = record { error = error; object = Some index }
+failed_at error index = record { error = error; object = Some index; relocation = None }
 
 -- an error that is not that of an object
 abbrev pub failed_alone : AnyError → Failure
-failed_alone error = record { error = error; object = None }
+failed_alone error = record { error = error; object = None; relocation = None }
 
--- an error of the check or the relocation of the object at an index. It is that of no object if the index names none, or if the
--- marks or the image are not of the size that is wanted
-abbrev pub failed_words : LoadError → ℕ → Failure
-failed_words (reason.Link ObjectIndex) of = failed_alone (Load (reason.Link ObjectIndex))
-failed_words reason.FewMarks of = failed_alone (Load reason.FewMarks)
-failed_words reason.ImageSize of = failed_alone (Load reason.ImageSize)
-failed_words error of = failed_at (Load error) of
+-- an error of the words of the object at an index, with the relocation that has it
+abbrev pub failed_in : WordError → ℕ → Failure
+failed_in found of = record { error = Load found.error; object = Some of; relocation = found.relocation }
+
+-- an error is that of no object: its index names none, or the marks or the image are not of the size that is wanted
+abbrev pub is_of_call : LoadError → Bool
+is_of_call (reason.Link ObjectIndex) = true
+is_of_call reason.FewMarks = true
+is_of_call reason.ImageSize = true
+is_of_call error = false
+
+-- an error of the check or the relocation of the object at an index
+abbrev pub failed_words : WordError → ℕ → Failure
+failed_words found of = if is_of_call found.error then failed_alone (Load found.error) else failed_in found of
 
 -- the result of the check or the relocation of the object at an index
-abbrev pub as_failure : {A : Type 0} → Result A LoadError → ℕ → Result A Failure
+abbrev pub as_failure : {A : Type 0} → Result A WordError → ℕ → Result A Failure
 as_failure (Ok value) of = Ok value
-as_failure (Err error) of = Err (failed_words error of)
+as_failure (Err found) of = Err (failed_words found of)
 
--- the status and what is stored: the value, or the index of the object with the error
-abbrev pub GivesOrFails : {T : Type 0} → Result T Failure → T → ℕ → ℕ → T → ℕ → Type 0
-GivesOrFails (Ok value) old failed status new failed_new = (status ≡ 0) × (new ≡ value) × (failed_new ≡ failed)
-GivesOrFails (Err why) old failed status new failed_new =
-    (status ≡ failure_number why.error) × (new ≡ old) × (failed_new ≡ unwrap_or why.object failed)
+-- the status and what is stored: the value, or the indices of the object and of the relocation with the error
+abbrev pub GivesOrFails : {T : Type 0} → Result T Failure → T → ℕ → ℕ → ℕ → T → ℕ → ℕ → Type 0
+GivesOrFails (Ok value) old failed relocation status new failed_new relocation_new =
+    (status ≡ 0) × (new ≡ value) × (failed_new ≡ failed) × (relocation_new ≡ relocation)
+GivesOrFails (Err why) old failed relocation status new failed_new relocation_new = (status ≡ failure_number why.error)
+    × (new ≡ old) × (failed_new ≡ unwrap_or why.object failed) × (relocation_new ≡ unwrap_or why.relocation relocation)

@@ -10,8 +10,8 @@ ghost use Rattle.elf_c.specs.LoadPlans.{page_of};
 ghost use Rattle.elf_c.specs.declared.load_objects.Failure.{Failure};
 
 use crate::load_objects::{
-    Failure, LoadObject, MOST_OBJECTS, failed_alone, failed_at, give_or_fail, is_first_narrow,
-    objects_of, places_of, plans_of, when_of,
+    Failure, LoadObject, MOST_OBJECTS, failed_alone, failed_at, failed_in, give_or_fail,
+    is_first_narrow, objects_of, places_of, plans_of, when_of,
 };
 use crate::load_plans::page_of;
 use crate::status::AnyError;
@@ -19,7 +19,7 @@ use elf_base::bytes::Record;
 use elf_linking::LinkError;
 use elf_linking::scope::Scope;
 use elf_linking::view::LinkedSymbol;
-use elf_loading::{Binding, LoadError, LoadPlan, LoadScope, Place};
+use elf_loading::{Binding, LoadError, LoadPlan, LoadScope, Place, WordError};
 use xmas_elf::symbol_table::{DynEntry32, DynEntry64};
 
 // The size of the image of a plan.
@@ -71,7 +71,7 @@ fn relocate_image<E: LinkedSymbol>(
     places: &[Place],
     begin: usize,
     memory: &mut [u8],
-) -> Result<u64, LoadError>
+) -> Result<u64, WordError>
     requires below { of < length (loaded_plans planned.now).now }
     requires fit { length (loaded_plans planned.now).now ≤ MOST_OBJECTS }
     requires begin { begin ≡ begin_at (loaded_plans planned.now).now of }
@@ -85,7 +85,7 @@ fn relocate_image<E: LinkedSymbol>(
     let (_front, rest) = memory.split_at_mut(begin);
     let (image, behind) = rest.split_at_mut(size);
     let images = shown(plans, of, behind);
-    planned.relocate(of, when, places, &images[..plans.len()], image)
+    planned.write_words(of, when, places, &images[..plans.len()], image)
 }
 
 // Writes the words of all objects to their images, those of the last object first.
@@ -109,7 +109,7 @@ fn relocate_each<E: LinkedSymbol>(
         begin -= size_of(&plans[of]);
         match relocate_image(planned, of, when, places, begin, memory) {
             Ok(count) => left = left.saturating_add(count),
-            Err(error) => return Err(failed_at(AnyError::Load(error), of)),
+            Err(found) => return Err(failed_in(found, of)),
         }
     }
     Ok(left)
@@ -177,7 +177,7 @@ fn relocate_all(
 }
 
 /// Writes the words of all objects to their images, those of the last object first: for each the result
-/// of `elf_loading::LoadScope::relocate` for the files and the places of the objects. Each file is read
+/// of `elf_loading::LoadScope::write_words` for the files and the places of the objects. Each file is read
 /// once. The `image` of an object is not read.
 ///
 /// `images` are the bytes that `xmas_elf_load_image` writes for each object, one image after another, in
@@ -189,7 +189,8 @@ fn relocate_all(
 /// `DynamicObject::read_reached`, of the first file that has one; those of `xmas_elf_load_plan`, of the
 /// first file that has one; `ImageSize` if `images` is not as long as all spans; those of the library's
 /// call, of the last object that has one. `left` is then unchanged, and `failed` is the index of the
-/// object, if one has the error. Only with an error of the last kind is `images` changed: the objects
+/// object, if one has the error; `relocation` is the index of its relocation with the error, in the order
+/// of `elf_loading::Words`, and unchanged if none has it. Only with an error of the last kind is `images` changed: the objects
 /// after that one are relocated, and its words before the first that can't be written are written.
 #[unsafe(no_mangle)]
 pub extern "C" fn xmas_elf_relocate_all(
@@ -200,14 +201,16 @@ pub extern "C" fn xmas_elf_relocate_all(
     images: &mut [u8],
     left: &mut u64,
     failed: &mut u64,
+    relocation: &mut u64,
 ) -> u32
     ensures exact { (answer : Result ℕ Failure)
         × RelocatesAll ⟦<DynEntry32 as Record>⟧ ⟦<DynEntry64 as Record>⟧ objects.now (when_of lazy)
         (page_of page) limit images.old images.new answer
-        × GivesOrFails answer left.old failed.old result left.new failed.new }
+        × GivesOrFails answer left.old failed.old relocation.old result left.new failed.new
+        relocation.new }
     ensures len { length images.new ≡ length images.old }
 {
     let when = when_of(lazy);
     let answer = relocate_all(objects, when, page_of(page), limit, images);
-    give_or_fail(answer, left, failed)
+    give_or_fail(answer, left, failed, relocation)
 }

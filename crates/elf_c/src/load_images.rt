@@ -102,7 +102,7 @@ fn check_objects<E: LinkedSymbol>(
     };
     let scope = Scope::new(own);
     let planned = LoadScope::new(scope, &plans.all[..loads.len()]);
-    as_failure(planned.check_image(of, marks), of)
+    as_failure(planned.check_words(of, marks), of)
 }
 
 // Checks that the words of an object can be written.
@@ -131,7 +131,7 @@ fn check(
 }
 
 /// Checks that the words of the object at index `of` can be written before the program runs: the
-/// result of `elf_loading::LoadScope::check_image` for the files of the objects. Their images and
+/// result of `elf_loading::LoadScope::check_words` for the files of the objects. Their images and
 /// numbers are not read.
 ///
 /// `page` and `limit` are as in `xmas_elf_load_plan`. `marks` has a bit for each byte of the span of
@@ -141,7 +141,8 @@ fn check(
 /// `DynamicObject::read_reached`, of the first file that has one; those of `xmas_elf_load_plan`, of the
 /// first file that has one; those of the check. `failed` is then the index of the object, if one has the
 /// error: that of the file, or `of`. It is unchanged if none has it: with `LinkObjectIndex`, `ManyObjects`
-/// and `FewMarks`.
+/// and `FewMarks`. `relocation` is the index of its relocation with the error, in the order of
+/// `elf_loading::Words`; it is unchanged if none has it.
 #[unsafe(no_mangle)]
 pub extern "C" fn xmas_elf_check_image(
     objects: &[LoadObject<'_>],
@@ -150,14 +151,15 @@ pub extern "C" fn xmas_elf_check_image(
     limit: u64,
     marks: &mut [u8],
     failed: &mut u64,
+    relocation: &mut u64,
 ) -> u32
     ensures { (answer : Result (Unit {0}) Failure)
         × Checks ⟦<DynEntry32 as Record>⟧ ⟦<DynEntry64 as Record>⟧ objects.now of (page_of page) limit
         (8 * length marks.old) answer
-        × GivesOrFails answer tt failed.old result tt failed.new }
+        × GivesOrFails answer tt failed.old relocation.old result tt failed.new relocation.new }
 {
     let answer = check(objects, of as usize, page_of(page), limit, marks);
-    give_or_fail(answer, &mut (), failed)
+    give_or_fail(answer, &mut (), failed, relocation)
 }
 
 // Writes the words of an object of one class to its image.
@@ -189,7 +191,7 @@ fn relocate_objects<E: LinkedSymbol>(
     let (places, images) = (places_of(loads), images_of(loads));
     let scope = Scope::new(own);
     let planned = LoadScope::new(scope, &plans.all[..count]);
-    let answer = planned.relocate(of, when, &places[..count], &images[..count], image);
+    let answer = planned.write_words(of, when, &places[..count], &images[..count], image);
     as_failure(answer, of)
 }
 
@@ -221,7 +223,7 @@ fn relocate(
 }
 
 /// Writes the words of the object at index `of` to its image: the result of
-/// `elf_loading::LoadScope::relocate` for the files, the places and the images of the objects. `count`
+/// `elf_loading::LoadScope::write_words` for the files, the places and the images of the objects. `count`
 /// is set to the number of words without a number, whose bytes stay as they are: results of functions,
 /// and descriptors of thread-local storage.
 ///
@@ -234,7 +236,8 @@ fn relocate(
 /// first file that has one; those of the library's call. `count` is then unchanged, the words before the
 /// first that can't be written are written, and `failed` is the index of the object, if one has the error:
 /// that of the file, or `of`. It is unchanged if none has it: with `LinkObjectIndex`, `ManyObjects` and
-/// `ImageSize`.
+/// `ImageSize`. `relocation` is the index of its relocation with the error, in the order of
+/// `elf_loading::Words`; it is unchanged if none has it.
 #[unsafe(no_mangle)]
 pub extern "C" fn xmas_elf_relocate(
     objects: &[LoadObject<'_>],
@@ -245,14 +248,16 @@ pub extern "C" fn xmas_elf_relocate(
     image: &mut [u8],
     count: &mut u64,
     failed: &mut u64,
+    relocation: &mut u64,
 ) -> u32
     ensures exact { (answer : Result ℕ Failure)
         × Relocates ⟦<DynEntry32 as Record>⟧ ⟦<DynEntry64 as Record>⟧ objects.now of (when_of lazy)
         (page_of page) limit image.old image.new answer
-        × GivesOrFails answer count.old failed.old result count.new failed.new }
+        × GivesOrFails answer count.old failed.old relocation.old result count.new failed.new
+        relocation.new }
     ensures len { length image.new ≡ length image.old }
 {
     let when = when_of(lazy);
     let answer = relocate(objects, of as usize, when, page_of(page), limit, image);
-    give_or_fail(answer, count, failed)
+    give_or_fail(answer, count, failed, relocation)
 }

@@ -5,7 +5,8 @@ ghost use Rattle.elf_base.specs.FileHeader.{header_of};
 ghost use Rattle.elf_c.specs.LoadObjects.{AreImagesOf, AreObjectsOf, ArePadded, ArePlacesOf};
 ghost use Rattle.elf_c.specs.LoadObjects.{ArePlansOf, GivesOrFails, IsFailedAt, IsUnplannedAt};
 ghost use Rattle.elf_c.specs.LoadObjects.{IsObjectOfBytes, IsPlanFor, IsObjectErrorOf, LacksPlan};
-ghost use Rattle.elf_c.specs.LoadObjects.{as_failure, failed_alone, failed_at, failed_words};
+ghost use Rattle.elf_c.specs.LoadObjects.{as_failure, failed_alone, failed_at, failed_in};
+ghost use Rattle.elf_c.specs.LoadObjects.{failed_words};
 ghost use Rattle.elf_c.specs.LoadObjects.{is_first_narrow, is_narrow_header, load_place, when_of};
 
 use crate::load_plans::limit_of;
@@ -13,7 +14,7 @@ use crate::status::{AnyError, Numbered, OK};
 use elf_base::bytes::Record;
 use elf_linking::view::LinkedSymbol;
 use elf_linking::{DynamicObject, LinkError};
-use elf_loading::{Binding, LoadError, LoadPlan, Place};
+use elf_loading::{Binding, LoadError, LoadPlan, Place, WordError};
 use xmas_elf::ElfFile;
 
 /// The most objects that a call takes.
@@ -42,6 +43,8 @@ pub(crate) struct Failure {
     pub(crate) error: AnyError,
     // The index of the object that has it, if one has.
     pub(crate) object: Option<usize>,
+    // The index of the relocation of this object that has it, if one has.
+    pub(crate) relocation: Option<u64>,
 }
 
 // The error of the object at an index.
@@ -51,6 +54,7 @@ pub(crate) fn failed_at(error: AnyError, index: usize) -> Failure
     Failure {
         error,
         object: Some(index),
+        relocation: None,
     }
 }
 
@@ -61,39 +65,53 @@ pub(crate) fn failed_alone(error: AnyError) -> Failure
     Failure {
         error,
         object: None,
+        relocation: None,
+    }
+}
+
+// The error of the words of the object at an index.
+pub(crate) fn failed_in(found: WordError, of: usize) -> Failure
+    ensures { result ≡ failed_in found of }
+{
+    Failure {
+        error: AnyError::Load(found.error),
+        object: Some(of),
+        relocation: found.relocation,
     }
 }
 
 // The error of the check or the relocation of the object at an index. No object has it if the index is that
 // of none, or if the marks or the image are not of the size that is wanted.
-fn failed_words(error: LoadError, of: usize) -> Failure
-    ensures { result ≡ failed_words error of }
+fn failed_words(found: WordError, of: usize) -> Failure
+    ensures { result ≡ failed_words found of }
 {
-    match error {
+    match found.error {
         LoadError::Link(LinkError::ObjectIndex) | LoadError::FewMarks | LoadError::ImageSize => {
-            failed_alone(AnyError::Load(error))
+            failed_alone(AnyError::Load(found.error))
         }
-        _ => failed_at(AnyError::Load(error), of),
+        _ => failed_in(found, of),
     }
 }
 
 // The result of the check or the relocation of the object at an index.
-pub(crate) fn as_failure<T: Copy>(answer: Result<T, LoadError>, of: usize) -> Result<T, Failure>
+pub(crate) fn as_failure<T: Copy>(answer: Result<T, WordError>, of: usize) -> Result<T, Failure>
     ensures { result ≡ as_failure answer of }
 {
     match answer {
         Ok(value) => Ok(value),
-        Err(error) => Err(failed_words(error, of)),
+        Err(found) => Err(failed_words(found, of)),
     }
 }
 
-// Stores the value, or the index of the object with an error.
+// Stores the value, or the indices of the object and of the relocation with an error.
 pub(crate) fn give_or_fail<T: Copy>(
     answer: Result<T, Failure>,
     out: &mut T,
     failed: &mut u64,
+    relocation: &mut u64,
 ) -> u32
-    ensures { GivesOrFails answer out.old failed.old result out.new failed.new }
+    ensures { GivesOrFails answer out.old failed.old relocation.old result out.new failed.new
+        relocation.new }
 {
     match answer {
         Ok(value) => {
@@ -103,6 +121,9 @@ pub(crate) fn give_or_fail<T: Copy>(
         Err(failure) => {
             if let Some(object) = failure.object {
                 *failed = object as u64;
+            }
+            if let Some(index) = failure.relocation {
+                *relocation = index;
             }
             failure.error.number()
         }

@@ -1,9 +1,13 @@
 -- What is read of a file for one value with its dynamic symbols.
-use Rattle.std.proofs.Common.{◌≡◌, ◌↔◌, ◌<◌, ◌+◌, ◌*◌, ◌/◌, ℕ, Bor, List, length, Option, Some, Result, Ok, Err, MatchOption, MatchResult, arith, ap, subst, sym, ◌∙◌}
+use Rattle.std.proofs.Common.{◌≡◌, ◌<◌, Bool, true, false, not, [], ◌∷◌, refl, ◌+◌, ◌*◌, ◌/◌, ℕ, Bor, List, length, Option, Some, Result, Ok, Err, MatchOption, MatchResult, arith, ap, subst, sym, ◌∙◌}
 use Rattle.std.proofs.lemmas.Nat.{div-mul-add}
 use Rattle.std.specs.Result.{result_ok}
-use Rattle.std.specs.Str.{IsUtf8}
-use Rattle.elf_base.specs.Text.{TextIfUtf8, text_of}
+use Rattle.std.specs.Str.{is_utf8}
+use Rattle.std.proofs.lemmas.Str.{is_utf8-from_IsUtf8}
+use Rattle.elf_base.proofs.Texts.{text_of-bytes, text_of-error}
+use Rattle.elf_base.specs.FirstError.{unless}
+use Rattle.elf_base.specs.declared.error.ElfError.TheVariants.{TextUtf8}
+use Rattle.elf_base.specs.Text.{bytes_up_to_zero_of, text_of}
 use Rattle.elf_base.specs.declared.error.ElfError.{ElfError}
 use Rattle.elf_base.specs.FileHeader.{file_class, file_order}
 use Rattle.elf_base.specs.Table.{table_data, table_order}
@@ -17,7 +21,6 @@ use Rattle.elf_linking.specs.VersionTables.{VersionTables, version_tables_of}
 use Rattle.elf_linking.specs.declared.error.LinkError.{LinkError}
 use Rattle.elf_linking.specs.declared.error.LinkError.TheVariants.{SymbolIndex}
 use Rattle.elf_records.specs.declared.dynamic.Dynamic.{Dynamic}
-use Rattle.xmas_elf.specs.Symbol.{Symbols}
 use Rattle.xmas_elf.specs.declared.ElfFile.{ElfFile}
 
 -- the bytes of the symbols: as many as are given, otherwise as many as the hash table counts
@@ -51,34 +54,28 @@ versions_by file entries strings text count size bytes answer found above whole 
     subst (λ n. version_tables_of file entries (Ok text) n ≡ answer) (sym (count_in count size bytes above whole))
     (subst (λ s. version_tables_of file entries s count ≡ answer) found failed)
 
--- the text that was read is the name of the symbol
+-- the text that was read is the name of the symbol, if its bytes are UTF-8
 module _ {E : Type 0} (text : E → Option (List ℕ)) (symbol : E) where
-  name_read : (found : Result (List ℕ) ElfError) (answer : Result (Bor (List ℕ)) LinkError) → text symbol ≡ result_ok found → lent answer ≡ as_link_error found → IsNameAt text (Some symbol) answer
-  name_read (Ok name) (Ok part) same is = cc
-  name_read (Ok name) (Err error) same is = absurd (cc)
-  name_read (Err error) (Ok part) same is = absurd (cc)
-  name_read (Err error) (Err other) same is = same
+  name_by_utf8 : (bytes : List ℕ) (utf8 : Bool) (answer : Result (Bor (List ℕ)) LinkError) → is_utf8 bytes ≡ utf8 → text symbol ≡ Some bytes → lent answer ≡ as_link_error (unless ((not utf8, TextUtf8) ∷ []) bytes) → IsNameAt text (Some symbol) answer
+  name_by_utf8 bytes true (Ok part) valid same is = cc
+  name_by_utf8 bytes true (Err error) valid same is = absurd (cc)
+  name_by_utf8 bytes false (Ok part) valid same is = absurd (cc)
+  name_by_utf8 bytes false (Err error) valid same is = λ name named utf8.
+      let valid_name = is_utf8-from_IsUtf8 name utf8 in let alike : bytes ≡ name = cc in cc
 
-  pub name_at : (at : Option E) (strings : List ℕ) (place : ℕ) (answer : Result (Bor (List ℕ)) LinkError) → Some symbol ≡ at → text symbol ≡ result_ok (text_of strings place) → lent answer ≡ text_in_strings (Ok strings) place → IsNameAt text at answer
-  name_at at strings place answer found same is = subst (λ symbol. IsNameAt text symbol answer) found (name_read (text_of strings place) answer same is)
+  name_read : (strings : List ℕ) (place : ℕ) (found : Result (List ℕ) ElfError) (answer : Result (Bor (List ℕ)) LinkError) → bytes_up_to_zero_of strings place ≡ found → text symbol ≡ result_ok found → lent answer ≡ as_link_error (text_of strings place) → IsNameAt text (Some symbol) answer
+  name_read strings place (Ok bytes) answer read same is =
+      name_by_utf8 bytes (is_utf8 bytes) answer refl same (is ∙ ap as_link_error (text_of-bytes strings place bytes read))
+  name_read strings place (Err error) (Ok part) read same is = let none = text_of-error strings place error read in absurd (cc)
+  name_read strings place (Err error) (Err other) read same is = λ name named utf8. cc
 
--- the texts that are a symbol's name are the bytes that were read, if they are UTF-8
-abbrev pub AreTexts : {E : Type 0} → (E → Option (List ℕ)) → Result (Bor (List ℕ)) LinkError → Option E → Type 0
-AreTexts text r at = MatchOption at (r ≡ Err SymbolIndex) (λ symbol. TextIfUtf8 (λ name. text symbol ≡ Some name) r)
+  pub name_at : (at : Option E) (strings : List ℕ) (place : ℕ) (answer : Result (Bor (List ℕ)) LinkError) → Some symbol ≡ at → text symbol ≡ result_ok (bytes_up_to_zero_of strings place) → lent answer ≡ text_in_strings (Ok strings) place → IsNameAt text at answer
+  name_at at strings place answer found same is = subst (λ symbol. IsNameAt text symbol answer) found (name_read strings place (bytes_up_to_zero_of strings place) answer refl same is)
 
-abbrev text_in_table : {E : Type 0} → E → Symbols E → Option (List ℕ)
-text_in_table symbol symbols = symbols.text symbol
-
-pub same_text : {E : Type 0} (one other : Symbols E) (symbol : E) → one ≡ other → one.text symbol ≡ other.text symbol
-same_text one other symbol same = ap (text_in_table symbol) same
-
-pub texts_ok : {E : Type 0} (text : E → Option (List ℕ)) (symbol : E) (at : Option E) (own : Option (List ℕ)) (part : Bor (List ℕ)) → Some symbol ≡ at → own ≡ text symbol → ((name : List ℕ) → (own ≡ Some name) ↔ ((part.now ≡ name) × IsUtf8 name)) → AreTexts text (Ok part) at
-texts_ok text symbol at own part found same texts =
-    subst (AreTexts text (Ok part)) found (subst (λ t. (name : List ℕ) → (t ≡ Some name) ↔ ((part.now ≡ name) × IsUtf8 name)) same texts)
-
-pub texts_err : {E : Type 0} (text : E → Option (List ℕ)) (symbol : E) (at : Option E) (own : Option (List ℕ)) (error : LinkError) → Some symbol ≡ at → own ≡ text symbol → ((name : List ℕ) → (own ≡ Some name) ↔ ⊥) → AreTexts text (Err error) at
-texts_err text symbol at own error found same texts =
-    subst (AreTexts text (Err error)) found (subst (λ t. (name : List ℕ) → (t ≡ Some name) ↔ ⊥) same texts)
+-- bytes that were read are the same as an error of this crate
+pub ok_as_link_error : (found : Result (List ℕ) ElfError) → result_ok (as_link_error found) ≡ result_ok found
+ok_as_link_error (Ok bytes) = refl
+ok_as_link_error (Err error) = refl
 
 -- what is read of a file with as many symbols as are reached
 pub reached : {E : Type 0} → {r : _} → (class size : ℕ) (file : ElfFile) (entries : List (Dynamic ℕ)) (count : ℕ) (found : Result (DynamicObject E r) LinkError) → dynamic_entries_of file ≡ Ok entries → IsReachedCount file entries (Ok count)

@@ -8,11 +8,11 @@ use base.Stored.{Coded}
 use mathlib.Core.Logic.{∥∥₁_elim}
 use Rattle.std.specs.Coded.{codes}
 use Rattle.elf_base.specs.FirstError.{and_then}
-use Rattle.elf_base.specs.Text.{text_of}
+use Rattle.elf_base.specs.Text.{bytes_up_to_zero_of}
 use Rattle.elf_base.specs.declared.error.ElfError.{ElfError}
 use Rattle.elf_linking.specs.AnyTable.{IsGoodBy}
 use Rattle.elf_linking.specs.CheckedScope.{asked_fields, asked_for, asked_in, wanted_name, wanted_version}
-use Rattle.elf_linking.specs.DynamicObject.{object_dynamic_symbols, object_machine, object_name, object_strings}
+use Rattle.elf_linking.specs.DynamicObject.{object_dynamic_symbols, object_machine, object_name_bytes, object_strings}
 use Rattle.elf_linking.specs.DynamicView.{as_link_error}
 use Rattle.elf_linking.specs.Exports.{numbered_version, object_parts, symbol_parts, version_in, version_name}
 use Rattle.elf_linking.specs.Find.{AreReadable, DynamicSymbols}
@@ -97,12 +97,12 @@ module _ {E : Type 0} (fields : E → SymbolFields) where
         has = version_readable file.versions reference.symbol (length file.symbols.items) (version_at file.versions reference.symbol) refl readable (slice_get_within file.symbols.items reference.symbol symbol at)
 
         text : Result (List ℕ) ElfError
-        text = text_of (object_strings object).now (fields symbol).name
+        text = bytes_up_to_zero_of (object_strings object).now (fields symbol).name
 
-        by : (own : Bool) → result_ok (result_map own_fields (if own then Ok (Own symbol) else and_then (object_name fields object reference.symbol) (λ name. and_then (version_at file.versions reference.symbol) (λ v. and_then (wanted_of v) (λ wanted. Ok (Look (text_alone name) wanted purpose (if_protected fields symbol)))))))
+        by : (own : Bool) → result_ok (result_map own_fields (if own then Ok (Own symbol) else and_then (object_name_bytes fields object reference.symbol) (λ name. and_then (version_at file.versions reference.symbol) (λ v. and_then (wanted_of v) (λ wanted. Ok (Look (text_alone name) wanted purpose (if_protected fields symbol)))))))
             ≡ (if own then Some (Own (fields symbol)) else option_map (λ name. Look (text_alone name) (wanted_version (version_in (version_at file.versions reference.symbol))) purpose (if_protected (λ f. f) (fields symbol))) (file.symbols.text symbol))
         by true = refl
-        by false = rw (at) (looked symbol (text_of (object_strings object).now (fields symbol).name) (version_at file.versions reference.symbol) has)
+        by false = rw (at) (looked symbol (bytes_up_to_zero_of (object_strings object).now (fields symbol).name) (version_at file.versions reference.symbol) has)
 
     asked_any : (at : Option E) → slice_get file.symbols.items reference.symbol ≡ at → result_ok (result_map own_fields (asked_with fields object reference at)) ≡ option_and_then (asked_for purpose) (option_map (symbol_parts file reference.symbol) at)
     asked_any None is = refl

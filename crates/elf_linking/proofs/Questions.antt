@@ -4,7 +4,7 @@ use Rattle.std.proofs.Common.{◌≡◌, ℕ, ◌<◌, ◌==◌, Bool, true, fal
 use Rattle.std.proofs.lemmas.Option.{slice_get_within}
 use Rattle.elf_base.specs.FirstError.{and_then}
 use Rattle.elf_base.specs.Table.{table_items}
-use Rattle.elf_linking.specs.DynamicObject.{object_dynamic_symbols, object_machine, object_name, object_records, object_versions}
+use Rattle.elf_linking.specs.DynamicObject.{object_dynamic_symbols, object_machine, object_name_bytes, object_records, object_versions}
 use Rattle.elf_linking.specs.Find.{AreReadable, DynamicSymbols, IsFound, asked_first, faulty, none_shown, one_shown, otherwise, two_shown}
 use Rattle.elf_linking.specs.RelocationTypes.{row_of}
 use Rattle.elf_linking.specs.Scope.{asked_of, asked_with, binds_to_itself, if_protected, text_alone, wanted_by, wanted_of, wanted_parts}
@@ -27,7 +27,7 @@ use Rattle.xmas_elf.specs.Symbol.{SymbolFields}
 abbrev pub HasNameFor : {E : Type 0} → {r : _} → (E → SymbolFields) → DynamicObject E r → Reference → Type 0
 HasNameFor fields asking reference =
     IsSomeAnd (slice_get (table_items (object_records asking)) reference.symbol) (λ symbol.
-    binds_to_itself (fields symbol) ≡ false → IsOk (object_name fields asking reference.symbol))
+    binds_to_itself (fields symbol) ≡ false → IsOk (object_name_bytes fields asking reference.symbol))
 
 -- the version that is wanted can be read, if the name of its entry can
 wanted_read : (version : Option (VersionParts VersionEntry)) → IfSome version (λ v. HasName v.named) → IsOk (wanted_of version)
@@ -57,14 +57,14 @@ module _ {E : Type 0} (purpose : uses.Use) (own : Option E) where
 
 -- what a reference asks for is no error
 module _ {E : Type 0} {r : _} (fields : E → SymbolFields) (object : DynamicObject E r) (reference : Reference) (readable : AreReadable (object_dynamic_symbols fields object)) where
-  by_binding : (own : Bool) (symbol : E) → reference.symbol < length (table_items (object_records object)) → (own ≡ false → IsOk (object_name fields object reference.symbol)) → IsOk (if own then Ok (Own symbol) else and_then (object_name fields object reference.symbol) (λ name. and_then (version_at (version_list (object_versions object)) reference.symbol) (λ version. and_then (wanted_of version) (λ wanted. Ok (Look (text_alone name) wanted (row_of (object_machine object) reference.kind).use_ (if_protected fields symbol))))))
+  by_binding : (own : Bool) (symbol : E) → reference.symbol < length (table_items (object_records object)) → (own ≡ false → IsOk (object_name_bytes fields object reference.symbol)) → IsOk (if own then Ok (Own symbol) else and_then (object_name_bytes fields object reference.symbol) (λ name. and_then (version_at (version_list (object_versions object)) reference.symbol) (λ version. and_then (wanted_of version) (λ wanted. Ok (Look (text_alone name) wanted (row_of (object_machine object) reference.kind).use_ (if_protected fields symbol))))))
   by_binding true symbol below named = refl
   by_binding false symbol below named =
       let list = version_list (object_versions object) in
-      looked_read (row_of (object_machine object) reference.kind).use_ (if_protected fields symbol) (object_name fields object reference.symbol) (version_at list reference.symbol) (named refl)
+      looked_read (row_of (object_machine object) reference.kind).use_ (if_protected fields symbol) (object_name_bytes fields object reference.symbol) (version_at list reference.symbol) (named refl)
       (version_read list.entries readable.entries (number_of list.numbers reference.symbol) (readable.numbers reference.symbol below))
 
-  by_symbol : (symbol : Option E) → slice_get (table_items (object_records object)) reference.symbol ≡ symbol → IsSomeAnd symbol (λ symbol. binds_to_itself (fields symbol) ≡ false → IsOk (object_name fields object reference.symbol)) → IsOk (asked_with fields object reference symbol)
+  by_symbol : (symbol : Option E) → slice_get (table_items (object_records object)) reference.symbol ≡ symbol → IsSomeAnd symbol (λ symbol. binds_to_itself (fields symbol) ≡ false → IsOk (object_name_bytes fields object reference.symbol)) → IsOk (asked_with fields object reference symbol)
   by_symbol None none named = absurd named
   by_symbol (Some symbol) some named = by_binding (binds_to_itself (fields symbol)) symbol (slice_get_within _ _ _ some) named
 

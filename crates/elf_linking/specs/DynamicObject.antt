@@ -1,12 +1,12 @@
 -- One value with the dynamic symbols of a file: the entries of its dynamic segment, its hash table, its
 -- symbols, the string table of their names, and its version tables.
-use Rattle.std.specs.Prelude.{◌≡◌, ◌≢◌, ◌/◌, ℕ, List, Option, Some, None, Result, Ok, Err, IfOk, MatchOption, MatchResult, length, ok_or, slice_get}
+use Rattle.std.specs.Prelude.{◌≡◌, ◌≢◌, ◌/◌, ℕ, true, List, Option, Some, None, Result, Ok, Err, IfOk, MatchOption, MatchResult, length, ok_or, slice_get}
 use Rattle.std.specs.Borrow.{Bor}
 use Rattle.std.specs.Result.{result_ok}
 use Rattle.elf_base.specs.FileHeader.{file_class, file_order, header_fields, machine_number}
 use Rattle.elf_base.specs.FirstError.{and_then}
 use Rattle.elf_base.specs.Table.{records, table_bytes, table_data, table_items, table_order}
-use Rattle.elf_base.specs.Text.{text_of}
+use Rattle.elf_base.specs.Text.{bytes_up_to_zero_of}
 use Rattle.elf_base.specs.declared.bytes.Order.{Order}
 use Rattle.elf_base.specs.declared.bytes.table.Table.{Table}
 use Rattle.elf_linking.specs.AnyTable.{IsLinkedTable}
@@ -24,7 +24,8 @@ use Rattle.elf_linking.specs.declared.versions.Versions.{Versions}
 use Rattle.elf_linking.specs.declared.view.dynamic.DynamicView.{DynamicView}
 use Rattle.elf_records.specs.declared.dynamic.Dynamic.{Dynamic}
 use Rattle.xmas_elf.specs.Symbol.{SymbolFields, Symbols}
-use Rattle.xmas_elf.specs.Symbols.{named_symbols}
+use Rattle.xmas_elf.specs.SymbolTable.{IsNoText}
+use Rattle.xmas_elf.specs.Symbols.{symbols_by_bytes}
 use Rattle.xmas_elf.specs.declared.ElfFile.{ElfFile}
 
 -- the dynamic segment of an object
@@ -51,15 +52,15 @@ object_versions object = object.versions
 abbrev pub object_file : {E : Type 0} → {r : _} → DynamicObject E r → ElfFile
 object_file object = record { input = object.input; header = object.header }
 
--- its symbols with their names
+-- its symbols with the bytes of their names
 abbrev pub object_symbols : {E : Type 0} → {r : _} → (E → SymbolFields) → DynamicObject E r → Symbols E
-object_symbols fields object = named_symbols fields (object_strings object).now (object_records object)
+object_symbols fields object = symbols_by_bytes fields (object_strings object).now (object_records object)
 
 -- what a search for the symbol that a reference gets reads of it
 abbrev pub object_dynamic_symbols : {E : Type 0} → {r : _} → (E → SymbolFields) → DynamicObject E r → DynamicSymbols E
 object_dynamic_symbols fields object = record {
   table = object.table;
-  symbols = named_symbols fields object.strings.now object.symbols;
+  symbols = symbols_by_bytes fields object.strings.now object.symbols;
   versions = version_list object.versions;
 }
 
@@ -94,12 +95,12 @@ pub record IsObjectFor {E : Type 0} {r : _} (count : Option ℕ) (class size : �
 abbrev pub IsObject : {E : Type 0} → {r : _} → ℕ → ℕ → ElfFile → DynamicObject E r → Type 0
 IsObject class size file object = IsObjectFor None class size file object
 
--- the symbols in bytes, each of a size, with their names in a string table
+-- the symbols in bytes, each of a size, with the bytes of their names in a string table
 abbrev pub symbols_with : {E : Type 0} → ℕ → (List ℕ → E) → (E → SymbolFields) → List ℕ → List ℕ → Symbols E
 symbols_with size entry fields strings bytes = record {
   items = records size entry bytes;
   fields = fields;
-  text = λ e. result_ok (text_of strings (fields e).name);
+  text = λ e. result_ok (bytes_up_to_zero_of strings (fields e).name);
 }
 
 -- the dynamic symbols of a file of this class, with symbols of this size: by the entries of its dynamic segment its
@@ -172,8 +173,8 @@ abbrev pub object_name_bytes : {E : Type 0} → {r : _} → (E → SymbolFields)
 object_name_bytes fields object index = and_then (ok_or (slice_get (table_items object.symbols) index) SymbolIndex)
     (λ symbol. bytes_in_strings (Ok object.strings.now) (fields symbol).name)
 
--- the result of a call is the name of the symbol, if it has one, or an error that is `SymbolIndex` if there is
--- no symbol
+-- the result of a call is the name of the symbol, if it has one that is UTF-8, or an error that is `SymbolIndex` if
+-- there is no symbol
 abbrev pub IsNameAt : {E : Type 0} → (E → Option (List ℕ)) → Option E → Result (Bor (List ℕ)) LinkError → Type 0
 IsNameAt text found answer = MatchOption found (answer ≡ Err SymbolIndex) (λ symbol.
-    MatchResult answer (λ name. text symbol ≡ Some name.now) (λ error. text symbol ≡ None))
+    MatchResult answer (λ name. text symbol ≡ Some name.now) (λ error. IsNoText true (text symbol)))

@@ -5,7 +5,7 @@ use Rattle.std.specs.Borrow.{Bor}
 use Rattle.elf_base.specs.FirstError.{and_then}
 use Rattle.elf_base.specs.Table.{table_items}
 use Rattle.elf_linking.specs.AnyTable.{IsGoodBy}
-use Rattle.elf_linking.specs.DynamicObject.{object_dynamic_symbols, object_machine, object_name}
+use Rattle.elf_linking.specs.DynamicObject.{object_dynamic_symbols, object_machine, object_name_bytes}
 use Rattle.elf_linking.specs.DynamicView.{is_symbolic, view_entries}
 use Rattle.elf_linking.specs.Find.{AreReadable, DynamicSymbols, FindsRight, IsFound}
 use Rattle.elf_linking.specs.RelocationTypes.{row_of}
@@ -68,7 +68,7 @@ wanted_of version = wanted_by (option_and_then (λ v. v.named) version)
 abbrev pub asked_with : {E : Type 0} → {r : _} → (E → SymbolFields) → DynamicObject E r → Reference → Option E → Result (Asked E) LinkError
 asked_with fields object reference None = Err SymbolIndex
 asked_with fields object reference (Some symbol) = if binds_to_itself (fields symbol) then Ok (Own symbol)
-    else and_then (object_name fields object reference.symbol) (λ name.
+    else and_then (object_name_bytes fields object reference.symbol) (λ name.
     and_then (version_at (version_list object.versions) reference.symbol) (λ version.
     and_then (wanted_of version) (λ wanted.
     Ok (Look (text_alone name) wanted (row_of (object_machine object) reference.kind).use_ (if_protected fields symbol)))))
@@ -192,7 +192,7 @@ abbrev pub HasNamedSymbol : {E : Type 0} → {r : _} → (E → SymbolFields) �
 HasNamedSymbol fields objects from reference =
     IsSomeAnd (slice_get objects from) (λ asking.
     IsSomeAnd (slice_get (table_items asking.symbols) reference.symbol) (λ symbol.
-    binds_to_itself (fields symbol) ≡ false → IsOk (object_name fields asking reference.symbol)))
+    binds_to_itself (fields symbol) ≡ false → IsOk (object_name_bytes fields asking reference.symbol)))
 
 -- the result of what a reference asks for is no error, and is right by the lists of symbols
 abbrev pub BindsRightFor : {E : Type 0} → {r : _} → (E → SymbolFields) → List (DynamicObject E r) → ℕ → ℕ → Asked E → Result (Option (Bound E)) LinkError → Type 0

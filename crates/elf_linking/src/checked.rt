@@ -11,7 +11,7 @@ pub use crate::checked::bindings::{CheckedBinding, CheckedBindings};
 pub use crate::checked::scope::CheckedScope;
 pub use crate::checked::unresolved::Unresolved;
 use crate::find::{Use, Wanted};
-use crate::gnu_hash::gnu_hash;
+use crate::gnu_hash::gnu_hash_of_bytes;
 use crate::references::{Reference, References};
 use crate::scope::Asked;
 use crate::view::LinkedSymbol;
@@ -120,13 +120,21 @@ impl<'a, E: LinkedSymbol> CheckedObject<'a, E> {
         ensures { found_fields E.fields result
             ≡ found_parts (found_in name.now wanted.now use_ self.now.exports) }
     {
-        self.find_hashed(name, gnu_hash(name), wanted, use_)
+        self.find_bytes(name.as_bytes(), wanted, use_)
     }
 
-    // The result of `find`, by the hash number of the name for GNU's table.
+    /// The result of `find` for a name of these bytes, whether or not they are UTF-8.
+    pub fn find_bytes(&self, name: &[u8], wanted: &Wanted<'_>, use_: Use) -> Option<(u32, E)>
+        ensures { found_fields E.fields result
+            ≡ found_parts (found_in name.now wanted.now use_ self.now.exports) }
+    {
+        self.find_hashed(name, gnu_hash_of_bytes(name), wanted, use_)
+    }
+
+    // The result of `find_bytes`, by the hash number of the name for GNU's table.
     pub(crate) fn find_hashed(
         &self,
-        name: &str,
+        name: &[u8],
         hash: u32,
         wanted: &Wanted<'_>,
         use_: Use,

@@ -17,12 +17,19 @@ use elf_base::bytes::{Order, read_u32, read_u64};
 use elf_base::header::Class;
 
 /// The hash number of a name, which selects its bucket in a GNU hash table.
-#[tactic(auto, unfolding(crate::specs::Layouts::gnu_hash_number))]
 pub fn gnu_hash(name: &str) -> u32
     ensures { result ≡ gnu_hash_number name.now }
 {
+    gnu_hash_of_bytes(name.as_bytes())
+}
+
+/// The hash number of a name by its bytes, whether or not they are UTF-8.
+#[tactic(auto, unfolding(crate::specs::Layouts::gnu_hash_number))]
+pub fn gnu_hash_of_bytes(name: &[u8]) -> u32
+    ensures { result ≡ gnu_hash_number name.now }
+{
     let mut number: u32 = 5381;
-    for byte in name.as_bytes() {
+    for byte in name {
         number = number.wrapping_mul(33).wrapping_add(u32::from(*byte));
     }
     number

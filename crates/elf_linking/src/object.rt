@@ -4,18 +4,18 @@
 ghost use Rattle.std.specs.Borrow.{Bor};
 ghost use Rattle.std.specs.Prelude.{◌≡◌, ◌↔◌, ℕ, Contains, Err, IfOk, IfSome, IsOk, IsOkAnd, MatchOption};
 ghost use Rattle.std.specs.Prelude.{MatchResult, Ok, Option, Result, Some, length, slice_get};
-ghost use Rattle.std.specs.Prelude.{◌<◌, ◌^◌, ⊤};
+ghost use Rattle.std.specs.Prelude.{◌<◌, ◌^◌, ⊤, true};
+ghost use Rattle.std.specs.Result.{result_ok};
 ghost use Rattle.elf_base.specs.FileHeader.{file_order};
 ghost use Rattle.elf_base.specs.Lent.{LiesAt};
 ghost use Rattle.elf_base.specs.Table.{table_bytes, table_data, table_order};
-ghost use Rattle.elf_base.specs.Text.{TextIfUtf8};
 ghost use Rattle.elf_linking.specs.DynamicView.{LieAsSymbols, as_linked_text, is_symbolic};
 ghost use Rattle.elf_linking.specs.DynamicView.{view_entries};
 ghost use Rattle.elf_linking.specs.Loaded.{lent};
 ghost use Rattle.elf_linking.specs.declared.error.LinkError.{LinkError};
 
 use crate::find::{Use, Wanted};
-use crate::gnu_hash::gnu_hash;
+use crate::gnu_hash::gnu_hash_of_bytes;
 use crate::references::References;
 use crate::versions::{SymbolVersion, Versions};
 use crate::view::{DynamicView, LinkedSymbol, text_by};
@@ -70,7 +70,8 @@ impl<'a, E: LinkedSymbol> DynamicObject<'a, E> {
     ghost use Rattle.elf_linking.specs.Versions.{HasReadableName, version_tables, versions_error};
     ghost use Rattle.elf_linking.specs.Versions.{IsVersion, entry_item, version_item, version_list};
     ghost use Rattle.elf_linking.specs.Versions.{named_at, version_at};
-    ghost use Rattle.xmas_elf.specs.SymbolTable.{carried_strings, carried_table, table_symbols};
+    ghost use Rattle.xmas_elf.specs.SymbolTable.{carried_strings, carried_table, carries_bytes};
+    ghost use Rattle.xmas_elf.specs.SymbolTable.{table_symbols};
     ghost use Rattle.xmas_elf.specs.Symbols.{Decides, IsMatch};
 
     /// Reads the dynamic segment of a file of the class of `E`, and what it leads to.
@@ -181,13 +182,15 @@ impl<'a, E: LinkedSymbol> DynamicObject<'a, E> {
         self.header.pt2.machine().raw()
     }
 
-    /// The symbols with their names.
+    /// The symbols with the bytes of their names, which look-ups and checks compare whether or not
+    /// they are UTF-8, as in glibc.
     pub fn symbols(&self) -> SymbolTable<'a, E>
         ensures symbols { table_symbols result ≡ object_symbols E.fields self.now }
         ensures table { carried_table result ≡ object_records self.now }
         ensures strings { carried_strings result ≡ Some (Ok (object_strings self.now)) }
+        ensures as_bytes { carries_bytes result ≡ true }
     {
-        SymbolTable::with_strings(self.symbols, self.strings)
+        SymbolTable::with_byte_names(self.symbols, self.strings)
     }
 
     /// The number of symbols.
@@ -224,9 +227,9 @@ impl<'a, E: LinkedSymbol> DynamicObject<'a, E> {
     /// Errors: those of `name` except `TextUtf8`.
     #[tactic(auto, using(crate::proofs::NeededTexts::text_as_bytes))]
     pub fn name_bytes(&self, index: u32) -> Result<&'a [u8], LinkError>
-        ensures texts { let all = object_symbols E.fields self.now in
+        ensures named { let all = object_symbols E.fields self.now in
             MatchOption (slice_get all.items index) (result ≡ Err LinkError.SymbolIndex)
-            (λ symbol. TextIfUtf8 (λ name. all.text symbol ≡ Some name) result) }
+            (λ symbol. result_ok (lent result) ≡ all.text symbol) }
         ensures place { let all = object_symbols E.fields self.now in
             IfSome (slice_get all.items index) (λ symbol.
             IfOk result (LiesAt (object_strings self.now) (E.fields symbol).name)) }
@@ -345,14 +348,30 @@ impl<'a, E: LinkedSymbol> DynamicObject<'a, E> {
             IsGoodBy file.table file.symbols → AreReadable file
             → FindsRight file name.now wanted.now use_ result }
     {
-        self.find_hashed(name, gnu_hash(name), wanted, use_)
+        self.find_bytes(name.as_bytes(), wanted, use_)
     }
 
-    // The result of `find`, by the hash number of the name for GNU's table, so that a look-up in many
-    // objects computes it once.
+    /// The result of `find` for a name of these bytes, whether or not they are UTF-8.
+    pub fn find_bytes(
+        &self,
+        name: &[u8],
+        wanted: &Wanted<'_>,
+        use_: Use,
+    ) -> Result<Option<(u32, E)>, LinkError>
+        ensures answer { IsFound (object_dynamic_symbols E.fields self.now) name.now
+            wanted.now use_ result }
+        ensures good { let file = object_dynamic_symbols E.fields self.now in
+            IsGoodBy file.table file.symbols → AreReadable file
+            → FindsRight file name.now wanted.now use_ result }
+    {
+        self.find_hashed(name, gnu_hash_of_bytes(name), wanted, use_)
+    }
+
+    // The result of `find_bytes`, by the hash number of the name for GNU's table, so that a look-up in
+    // many objects computes it once.
     pub(crate) fn find_hashed(
         &self,
-        name: &str,
+        name: &[u8],
         hash: u32,
         wanted: &Wanted<'_>,
         use_: Use,

@@ -12,7 +12,7 @@ mod asking;
 mod bindings;
 
 use crate::find::{Use, Wanted};
-use crate::gnu_hash::gnu_hash;
+use crate::gnu_hash::gnu_hash_of_bytes;
 use crate::references::Reference;
 pub use crate::scope::asking::Asked;
 pub use crate::scope::bindings::{Binding, Bindings};
@@ -88,10 +88,27 @@ impl<'s, 'a, E: LinkedSymbol> Scope<'s, 'a, E> {
             AreGood E.fields objects → from < length objects
             → BindsRight E.fields objects from name.now wanted.now use_ result }
     {
+        self.find_bytes(from, name.as_bytes(), wanted, use_)
+    }
+
+    /// The result of `find` for a name of these bytes, whether or not they are UTF-8.
+    pub fn find_bytes(
+        &self,
+        from: usize,
+        name: &[u8],
+        wanted: &Wanted<'_>,
+        use_: Use,
+    ) -> Result<Option<Bound<E>>, LinkError>
+        ensures answer { IsBound E.fields (scope_objects self.now).now from name.now
+            wanted.now use_ result }
+        ensures good { let objects = (scope_objects self.now).now in
+            AreGood E.fields objects → from < length objects
+            → BindsRight E.fields objects from name.now wanted.now use_ result }
+    {
         let Some(asking) = self.objects.get(from) else {
             return Err(LinkError::ObjectIndex);
         };
-        let hash = gnu_hash(name);
+        let hash = gnu_hash_of_bytes(name);
         self.first_bound(asking.is_symbolic(), from, name, hash, wanted, use_)
     }
 
@@ -145,7 +162,7 @@ impl<'s, 'a, E: LinkedSymbol> Scope<'s, 'a, E> {
                 wanted,
                 use_,
                 own: None,
-            } => self.find(from, name, &wanted, use_),
+            } => self.find_bytes(from, name, &wanted, use_),
             Asked::Look {
                 name,
                 wanted,
@@ -166,7 +183,7 @@ impl<'s, 'a, E: LinkedSymbol> Scope<'s, 'a, E> {
     fn protected(
         &self,
         own: Bound<E>,
-        name: &str,
+        name: &[u8],
         wanted: &Wanted<'_>,
         use_: Use,
     ) -> Result<Option<Bound<E>>, LinkError>
@@ -174,12 +191,12 @@ impl<'s, 'a, E: LinkedSymbol> Scope<'s, 'a, E> {
             (IsBound E.fields (scope_objects self.now).now own.object name.now wanted.now)
             own use_ result }
     {
-        let found = match self.find(own.object, name, wanted, use_) {
+        let found = match self.find_bytes(own.object, name, wanted, use_) {
             Ok(Some(found)) => found,
             Ok(None) => return Ok(None),
             Err(error) => return Err(error),
         };
-        match self.find(own.object, name, wanted, Use::Defined) {
+        match self.find_bytes(own.object, name, wanted, Use::Defined) {
             Ok(Some(defined)) => {
                 if defined.object == own.object {
                     Ok(Some(found))
@@ -198,7 +215,7 @@ impl<'s, 'a, E: LinkedSymbol> Scope<'s, 'a, E> {
         &self,
         symbolic: bool,
         from: usize,
-        name: &str,
+        name: &[u8],
         hash: u32,
         wanted: &Wanted<'_>,
         use_: Use,
@@ -220,7 +237,7 @@ impl<'s, 'a, E: LinkedSymbol> Scope<'s, 'a, E> {
     fn first_with_own(
         &self,
         from: usize,
-        name: &str,
+        name: &[u8],
         hash: u32,
         wanted: &Wanted<'_>,
         use_: Use,
@@ -246,7 +263,7 @@ impl<'s, 'a, E: LinkedSymbol> Scope<'s, 'a, E> {
     fn first_by_index(
         &self,
         from: usize,
-        name: &str,
+        name: &[u8],
         hash: u32,
         wanted: &Wanted<'_>,
         use_: Use,
@@ -277,7 +294,7 @@ impl<'s, 'a, E: LinkedSymbol> Scope<'s, 'a, E> {
     fn given(
         &self,
         place: usize,
-        name: &str,
+        name: &[u8],
         hash: u32,
         wanted: &Wanted<'_>,
         use_: Use,

@@ -1,11 +1,11 @@
 -- The check of the words of an object, word by word.
-use Rattle.std.proofs.Common.{◌≡◌, ℕ, ◌≤◌, nat_lt, Bool, List, [], ◌∷◌, ◌++◌, map, Option, Some, None, Result, Ok, Err, refl, sym, ap, ◌∙◌, subst, append_assoc, ◌==◌, ◌&&◌, not, true, false}
+use Rattle.std.proofs.Common.{◌≡◌, ℕ, ◌+◌, ◌-◌, ◌^◌, ◌≤◌, nat_lt, Bool, List, [], ◌∷◌, ◌++◌, length, map, Option, Some, None, Result, Ok, Err, refl, sym, ap, ◌∙◌, subst, append_assoc, ◌==◌, ◌&&◌, not, true, false, arith}
 use Rattle.std.proofs.lemmas.Bool.{ltb-false}
-use Rattle.std.proofs.lemmas.List.{map-append}
+use Rattle.std.proofs.lemmas.List.{length-append, map-append}
 use Rattle.std.proofs.lemmas.List.Elements.{All-nil, All-push, All-weaker}
 use Rattle.std.proofs.lemmas.Option.{same_Some, slice_get-get_or}
 use Rattle.std.specs.Borrow.{Bor}
-use Rattle.std.specs.Prelude.{All, slice_get}
+use Rattle.std.specs.Prelude.{All, IsOk, min, slice_get}
 use Rattle.std.specs.Slice.{IsItemAt}
 use Rattle.elf_base.specs.FirstError.{and_then, unless}
 use Rattle.elf_linking.specs.DynamicObject.{object_file, object_view}
@@ -15,6 +15,7 @@ use Rattle.elf_loading.specs.ImageTables.{asks_for_text, check_tables, tables_of
 use Rattle.elf_loading.specs.Segments.{has_flag}
 use Rattle.elf_loading.specs.ImageWords.{AreMarksOf, AreWordsFrom, IsBegun, IsOwnCheck, MatchBoth, as_load_error, by_words, check_records, check_word, check_words, checked_relocations, item_words, holds_word, overlaps, touches}
 use Rattle.elf_loading.specs.Plan.{plan_loads, plan_size}
+use Rattle.elf_loading.specs.WordErrors.{IsFirstUnchecked}
 use Rattle.elf_loading.specs.Words.{HasWord}
 use Rattle.elf_loading.specs.WordsLeft.{HasWordOf, IsSame, relocation_of, words_file, relocations_left, own_relocations, words_own}
 use Rattle.elf_loading.specs.declared.error.LoadError.TheVariants.{FewMarks, WordInTable, WordsOverlap}
@@ -28,6 +29,11 @@ use Rattle.std.specs.List.{find, list_any}
 ok_last : {A E : Type 0} (r : Result A E) → and_then r (λ x. Ok x) ≡ r
 ok_last (Ok x) = refl
 ok_last (Err e) = refl
+
+-- one item more
+pub one_more : {A : Type 0} (items : List A) (item : A) (index next : ℕ) → index ≡ min (length items) (2 ^ 64 - 1)
+    → next ≡ min (index + 1) (2 ^ 64 - 1) → next ≡ min (length (items ++ item ∷ [])) (2 ^ 64 - 1)
+one_more items item index next counted more = rw (length-append items (item ∷ [])) (omega (arith, counted, more))
 
 module _ (loads : List Segment) (text : Bool) (tables : List TableLocation) where
   then_by : (r : Result (List Word) LoadError) (words : List (Result Word LoadError)) (word : Result Word LoadError)
@@ -61,8 +67,9 @@ has_word_of fields one other item (objects, file, own, index, lazy) has = has_wo
 
 module _ {E : Type 0} {r : _} (fields : E → SymbolFields) (loads : List Segment) (text : Bool) (tables : List TableLocation) (start : ℕ) where
   -- the words of these items of an iterator are checked and have marks, and the others are left
-  pub record AreCheckedSoFar (all now : Words E r) (marks : List ℕ) : Type 0 where
+  pub record AreCheckedSoFar (all now : Words E r) (marks : List ℕ) (index : ℕ) : Type 0 where
     pub items : List (Relocated E)
+    pub counted : index ≡ min (length items) (2 ^ 64 - 1)
     pub are : relocations_left all ≡ map relocation_of items ++ relocations_left now
     pub same : IsSame all now
     pub have_words : All (HasWordOf fields all) items
@@ -70,9 +77,10 @@ module _ {E : Type 0} {r : _} (fields : E → SymbolFields) (loads : List Segmen
     pub checked : check_words loads text tables [] (item_words items) ≡ Ok before
     pub marked : AreMarksOf start before marks
 
-  pub none_checked : (all now : Words E r) (marks : List ℕ) → now ≡ all → AreMarksOf start [] marks → AreCheckedSoFar all now marks
-  none_checked all now marks is clear = subst (λ one. AreCheckedSoFar all one marks) (sym is) (record {
+  pub none_checked : (all now : Words E r) (marks : List ℕ) → now ≡ all → AreMarksOf start [] marks → AreCheckedSoFar all now marks 0
+  none_checked all now marks is clear = subst (λ one. AreCheckedSoFar all one marks 0) (sym is) (record {
     items = [];
+    counted = omega arith;
     are = refl;
     same = (refl, refl, refl, refl, refl);
     have_words = All-nil _;
@@ -82,8 +90,8 @@ module _ {E : Type 0} {r : _} (fields : E → SymbolFields) (loads : List Segmen
   })
 
   -- at the end
-  pub all_checked : (all now : Words E r) (marks : List ℕ) → relocations_left now ≡ [] → AreCheckedSoFar all now marks → AreWordsFrom fields loads text tables all (Ok tt)
-  all_checked all now marks end so_far = record {
+  pub all_checked : (all now : Words E r) (marks : List ℕ) (index : ℕ) → relocations_left now ≡ [] → AreCheckedSoFar all now marks index → AreWordsFrom fields loads text tables all (Ok tt)
+  all_checked all now marks index end so_far = record {
     items = so_far.items;
     rest = relocations_left now;
     are = so_far.are;
@@ -92,7 +100,7 @@ module _ {E : Type 0} {r : _} (fields : E → SymbolFields) (loads : List Segmen
     checked = ap (λ result. and_then result (λ words. Ok tt)) (sym so_far.checked);
   }
 
-  module _ (all now next : Words E r) (marks : List ℕ) (item : Relocated E) (so_far : AreCheckedSoFar all now marks)
+  module _ (all now next : Words E r) (marks : List ℕ) (index : ℕ) (item : Relocated E) (so_far : AreCheckedSoFar all now marks index)
       (first : relocations_left now ≡ relocation_of item ∷ relocations_left next) (same : IsSame now next)
       (has : HasWordOf fields now item) where
     more : List (Relocated E)
@@ -111,11 +119,12 @@ module _ {E : Type 0} {r : _} (fields : E → SymbolFields) (loads : List Segmen
         ∙ checked_after loads text tables [] (item_words so_far.items) item.word
         ∙ ap (λ result. and_then result (λ after. check_word loads text tables after item.word)) so_far.checked
 
-    pub one_checked : (new : List ℕ) (after : List Word) → check_word loads text tables so_far.before item.word ≡ Ok after → AreMarksOf start after new → AreCheckedSoFar all next new
-    one_checked new after ok marked =
+    pub one_checked : (later : ℕ) → later ≡ min (index + 1) (2 ^ 64 - 1) → (new : List ℕ) (after : List Word) → check_word loads text tables so_far.before item.word ≡ Ok after → AreMarksOf start after new → AreCheckedSoFar all next new later
+    one_checked later more_is new after ok marked =
         let (one, two, three, four, five) = so_far.same in
         let (one', two', three', four', five') = same in record {
           items = so_far.items ++ (item ∷ []);
+          counted = one_more so_far.items item index later so_far.counted more_is;
           are = are_more;
           same = (one' ∙ one, two' ∙ two, three' ∙ three, four' ∙ four, five' ∙ five);
           have_words = have_more;
@@ -132,6 +141,21 @@ module _ {E : Type 0} {r : _} (fields : E → SymbolFields) (loads : List Segmen
       have_words = have_more;
       all = tt;
       checked = ap (λ result. and_then result (λ words. Ok tt)) (sym (checked_more ∙ err));
+    }
+
+    -- the error is that of the relocation after those so far
+    pub first_unchecked : (error : LoadError) → check_word loads text tables so_far.before item.word ≡ Err error
+        → IsFirstUnchecked (HasWordOf fields all) loads text tables (relocations_left all) (record { error = error; relocation = Some index })
+    first_unchecked error err = record {
+      items = so_far.items;
+      item = item;
+      rest = relocations_left next;
+      are = so_far.are ∙ ap (λ rest. map relocation_of so_far.items ++ rest) first;
+      have_words = so_far.have_words;
+      has_word = has_word_of fields all now item so_far.same has;
+      pass = subst IsOk (sym so_far.checked) refl;
+      fails = checked_more ∙ err;
+      index_is = ap (λ count. Some count) so_far.counted;
     }
 
 -- The relocations of an object whose tables can be used.

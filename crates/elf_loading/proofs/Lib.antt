@@ -24,6 +24,7 @@ pub mod ImageLoads
 pub mod Marks
 pub mod ImageChecks
 pub mod ImagePasses
+pub mod WordErrors
 mod CheckedImages
 mod CheckedResults
 mod CheckedScopes

@@ -15,12 +15,13 @@ use Rattle.elf_linking.specs.DynamicObject.{object_file, object_view, object_rec
 use Rattle.elf_linking.specs.DynamicView.{view_entries}
 use Rattle.elf_linking.specs.declared.error.LinkError.TheVariants.{ObjectIndex}
 use Rattle.elf_loading.specs.Relocate.{AreWordsFor, AreItemsWritten, IsRelocation, IsRelocationIn, IsWriting, all, has_no_number, is_copy_outside, is_outside, is_unresolved, is_wrong_size, lacks_number, relocated_byte, sized_relocations, some, sources_of, image_start, word_byte, write_item, write_word}
+use Rattle.elf_loading.specs.WordErrors.{IsFirstUnwritten}
 use Rattle.elf_loading.specs.Words.{HasWord, binds_lazily, IsBoundIf, formula_word, is_bound_at_once, is_later, needs_symbol, formula_has_symbol, word_of}
 use Rattle.elf_loading.specs.WordsLeft.{HasWordOf, IsSame, relocation_of, words_lazy, own_relocations, words_own}
 use Rattle.elf_loading.specs.declared.plan.LoadPlan.{LoadPlan}
 use Rattle.elf_loading.specs.declared.relocate.Sources.{Sources}
 use Rattle.elf_loading.specs.declared.words.Words.{Words}
-use Rattle.elf_loading.proofs.ImageChecks.{both_at, has_word_same}
+use Rattle.elf_loading.proofs.ImageChecks.{both_at, has_word_same, one_more}
 use Rattle.xmas_elf.specs.Symbol.{SymbolFields}
 use Rattle.std.proofs.lemmas.Bool.{and_parts, eqb-true}
 use Rattle.elf_base.specs.Table.{table_items}
@@ -101,14 +102,16 @@ module _ {E : Type 0} {r : _} (fields : E → SymbolFields) (sources : Sources E
   writable item = IsOk (write_item fields sources own lazy (length before) item)
 
   -- the words of the items are written, and `left` are the relocations after them
-  pub record SoFar (left : List Relocation) (after : List ℕ) (count : ℕ) : Type 0 where
+  pub record SoFar (left : List Relocation) (after : List ℕ) (count index : ℕ) : Type 0 where
     pub items : List (Relocated E)
+    pub passed : index ≡ min (length items) (2 ^ 64 - 1)
     pub split : relocations ≡ map relocation_of items ++ left
     pub written : AreItemsWritten fields sources own lazy before after items count
 
-  pub none_written : (left : List Relocation) → left ≡ relocations → SoFar left before 0
+  pub none_written : (left : List Relocation) → left ≡ relocations → SoFar left before 0 0
   none_written left is = record {
     items = [];
+    passed = omega arith;
     split = sym is;
     written = record {
       have_words = All-nil worded;
@@ -119,17 +122,18 @@ module _ {E : Type 0} {r : _} (fields : E → SymbolFields) (sources : Sources E
     };
   }
 
-  module _ (left later : List Relocation) (item : Relocated E) (now : List ℕ) (count : ℕ) (first : left ≡ item.relocation ∷ later) (so_far : SoFar left now count) (is : HasWord fields sources.objects.now (object_file own) own sources.of lazy item) where
+  module _ (left later : List Relocation) (item : Relocated E) (now : List ℕ) (count index : ℕ) (first : left ≡ item.relocation ∷ later) (so_far : SoFar left now count index) (is : HasWord fields sources.objects.now (object_file own) own sources.of lazy item) where
     -- after one more
-    pub more_written : (after : List ℕ) (lacks : Bool) → length after ≡ length now → Ok lacks ≡ write_item fields sources own lazy (length now) item
+    pub more_written : (next : ℕ) → next ≡ min (index + 1) (2 ^ 64 - 1) → (after : List ℕ) (lacks : Bool) → length after ≡ length now → Ok lacks ≡ write_item fields sources own lazy (length now) item
         → ((i : ℕ) → slice_index after i ≡ word_byte sources (image_start sources sources.of + i) item.word (slice_index now i))
-        → SoFar later after (min (count + (if lacks then 1 else 0)) (2 ^ 64 - 1))
-    more_written after lacks len can bytes =
+        → SoFar later after (min (count + (if lacks then 1 else 0)) (2 ^ 64 - 1)) next
+    more_written next next_is after lacks len can bytes =
         let written = so_far.written in
         let same : write_item fields sources own lazy (length before) item ≡ Ok lacks = ap (λ n. write_item fields sources own lazy n item) (sym written.same_size) ∙ sym can in
         let word_lacks : lacks_number item.word ≡ lacks = lacks_of item.word (is_unresolved fields own lazy item)
         (λ word. is_outside (image_start sources sources.of) (length before) word.address word.width) (λ word. is_copy_outside sources word.width word.value) lacks same in record {
           items = so_far.items ++ item ∷ [];
+          passed = one_more so_far.items item index next so_far.passed next_is;
           split = so_far.split ∙ ap (λ rest. map relocation_of so_far.items ++ rest) first
               ∙ sym (append_assoc (map relocation_of so_far.items) (item.relocation ∷ []) later) ∙ ap (λ some. some ++ later) (sym (map-append relocation_of so_far.items (item ∷ [])));
           written = record {
@@ -151,9 +155,24 @@ module _ {E : Type 0} {r : _} (fields : E → SymbolFields) (sources : Sources E
         (subst (λ image. AreItemsWritten fields sources own lazy before image so_far.items count) (sym same) written) is
         (ap (λ n. write_item fields sources own lazy n item) (sym written.same_size) ∙ sym can) refl
 
+    -- the error is that of the relocation after those so far
+    pub first_unwritten : (reason : LoadError) → Err reason ≡ write_item fields sources own lazy (length now) item
+        → IsFirstUnwritten fields sources own lazy (length before) relocations (record { error = reason; relocation = Some index })
+    first_unwritten reason can = record {
+      items = so_far.items;
+      item = item;
+      rest = later;
+      are = so_far.split ∙ ap (λ rest. map relocation_of so_far.items ++ rest) first;
+      have_words = so_far.written.have_words;
+      has_word = is;
+      pass = so_far.written.can_be;
+      fails = ap (λ n. write_item fields sources own lazy n item) (sym so_far.written.same_size) ∙ sym can;
+      index_is = ap (λ number. Some number) so_far.passed;
+    }
+
   -- at the end
-  pub all_written : (left : List Relocation) (after : List ℕ) (count : ℕ) → left ≡ [] → SoFar left after count → IsWriting fields sources own lazy relocations before after (Ok count)
-  all_written left after count end so_far =
+  pub all_written : (left : List Relocation) (after : List ℕ) (count index : ℕ) → left ≡ [] → SoFar left after count index → IsWriting fields sources own lazy relocations before after (Ok count)
+  all_written left after count index end so_far =
       all so_far.items count (so_far.split ∙ ap (λ rest. map relocation_of so_far.items ++ rest) end ∙ append-nil _) so_far.written refl
 
 -- The call.

@@ -22,6 +22,7 @@ pub mod WordsLeft
 pub mod ImageTables
 pub mod ImageWords
 pub mod Relocate
+pub mod WordErrors
 pub mod RelativeWords
 pub mod OneWord
 pub mod LoadScope

@@ -34,6 +34,7 @@ pub use Rattle.elf_loading.specs.declared.value.Origin.{Origin}
 pub use Rattle.elf_loading.specs.declared.value.Target.{Target}
 pub use Rattle.elf_loading.specs.declared.value.Terms.{Terms}
 pub use Rattle.elf_loading.specs.declared.value.Value.{Value}
+pub use Rattle.elf_loading.specs.declared.word_error.WordError.{WordError}
 pub use Rattle.elf_loading.specs.declared.words.Binding.{Binding}
 pub use Rattle.elf_loading.specs.declared.words.Relocated.{Relocated}
 pub use Rattle.elf_loading.specs.declared.words.Word.{Word}

@@ -1,7 +1,7 @@
 //! Whether the words of an object can be written.
 
 ghost use Rattle.std.specs.Prelude.{◌%◌, ◌<◌, [], ◌==◌, ◌≡◌, ◌+◌, ◌&&◌, ◌*◌, ◌≤◌, ◌||◌, Some, nat_lt};
-ghost use Rattle.std.specs.Prelude.{slice_get, Err, IfSome, MatchResult, not, Ok, ℕ, nat_le, length};
+ghost use Rattle.std.specs.Prelude.{slice_get, Err, IfErr, IfSome, MatchResult, not, Ok, ℕ, nat_le, length};
 ghost use Rattle.std.specs.Prelude.{option_map};
 ghost use Rattle.std.specs.List.{find, list_any};
 ghost use Rattle.elf_linking.specs.References.{file_machine};
@@ -14,7 +14,8 @@ ghost use Rattle.elf_loading.specs.ImageWords.{checked_relocations, holds_word, 
 ghost use Rattle.elf_loading.specs.ImageWords.{meet, some_marked, touch_one, touches, touches_at};
 ghost use Rattle.elf_loading.specs.Plan.{plan_loads, plan_size, plan_span};
 ghost use Rattle.elf_loading.specs.Segments.{has_flag};
-ghost use Rattle.elf_loading.specs.WordsLeft.{HasWordOf, words_file};
+ghost use Rattle.elf_loading.specs.WordErrors.{IsCheckError, IsFirstUnchecked, error_alone};
+ghost use Rattle.elf_loading.specs.WordsLeft.{HasWordOf, relocations_left, words_file};
 
 use crate::LoadError;
 use crate::image_tables::{asks_for_text, check_records, check_tables, tables_of};
@@ -22,6 +23,7 @@ use crate::in_order::Relocation;
 use crate::plan::LoadPlan;
 use crate::relocate::relative_word;
 use crate::segments::has_flag;
+use crate::word_error::WordError;
 use crate::words::{Binding, Relocated, Word, Words};
 use elf_linking::references::types::Row;
 use elf_linking::scope::Scope;
@@ -333,15 +335,17 @@ fn check_words<E: LinkedSymbol>(
     room: &Room<'_, '_>,
     words: Words<'_, '_, E>,
     marks: &mut [u8],
-) -> Result<(), LoadError>
+) -> Result<(), WordError>
     requires start { room.now.start ≡ (plan_span room.now.plan.now).start }
     requires room { plan_size room.now.plan.now ≤ 8 * length marks.old }
     requires clear { AreMarksOf room.now.start [] marks.old }
-    ensures { AreWordsFrom E.fields (plan_loads room.now.plan.now) room.now.text
-        room.now.tables words.entry result }
+    ensures words { AreWordsFrom E.fields (plan_loads room.now.plan.now) room.now.text
+        room.now.tables words.entry (error_alone result) }
+    ensures first { IfErr result (IsFirstUnchecked (HasWordOf E.fields words.entry)
+        (plan_loads room.now.plan.now) room.now.text room.now.tables (relocations_left words.entry)) }
 {
     let relative = words.relative_row();
-    let (mut words, mut last, mut holder) = (words, None, None);
+    let (mut words, mut last, mut holder, mut index) = (words, None, None, 0u64);
     while let Some(relocation) = words.next_relocation() {
         match check_next(
             room,
@@ -352,8 +356,13 @@ fn check_words<E: LinkedSymbol>(
             &mut holder,
             marks,
         ) {
-            Ok(()) => {}
-            Err(error) => return Err(error),
+            Ok(()) => index = index.saturating_add(1),
+            Err(error) => {
+                return Err(WordError {
+                    error,
+                    relocation: Some(index),
+                });
+            }
         }
     }
     Ok(())
@@ -394,15 +403,22 @@ pub(crate) fn check_own<'a, E: LinkedSymbol>(
     own: &DynamicObject<'a, E>,
     plan: &LoadPlan<'_>,
     marks: &mut [u8],
-) -> Result<(), LoadError>
+) -> Result<(), WordError>
     requires { slice_get (scope_objects scope).now of ≡ Some own.now }
-    ensures { IsOwnCheck E.SIZE E.fields (scope_objects scope.entry).now of own.now plan.now
-        (8 * length marks.old) result }
+    ensures check { IsOwnCheck E.SIZE E.fields (scope_objects scope.entry).now of own.now plan.now
+        (8 * length marks.old) (error_alone result) }
+    ensures first { IfErr result (IsCheckError E.SIZE E.fields (scope_objects scope.entry).now of
+        own.now plan.now (8 * length marks.old)) }
 {
     let tables = tables_of(own);
     let words = match begin(scope, of, own, plan, &tables, 8 * marks.len() as u128) {
         Ok(words) => words,
-        Err(error) => return Err(error),
+        Err(error) => {
+            return Err(WordError {
+                error,
+                relocation: None,
+            });
+        }
     };
     clear(marks);
     let room = Room {

@@ -30,6 +30,7 @@ mod segments;
 mod slots;
 mod span;
 mod value;
+mod word_error;
 mod words;
 
 pub use crate::bytes::Byte;
@@ -43,5 +44,6 @@ pub use crate::plan::{LoadPlan, Tls};
 pub use crate::relocate::Place;
 pub use crate::span::Span;
 pub use crate::value::{Origin, Value};
+pub use crate::word_error::WordError;
 pub use crate::words::{Binding, Relocated, Word, Words};
 pub use elf_linking::references::{Formula, formula_of, width_of};

@@ -5,12 +5,19 @@ ghost use Rattle.elf_linking.specs.Scope.{scope_objects};
 
 use crate::image_words::check_own;
 use crate::relocate::{Place, Sources};
+use crate::word_error::WordError;
 use crate::words::{Binding, Words};
 use crate::{LoadError, LoadPlan};
 use elf_base::bytes::Record;
 use elf_linking::scope::Scope;
 use elf_linking::view::LinkedSymbol;
 use elf_linking::{DynamicObject, LinkError};
+
+// The error of an index at which there is no object or no plan.
+const NO_OBJECT: WordError = WordError {
+    error: LoadError::Link(LinkError::ObjectIndex),
+    relocation: None,
+};
 
 /// The objects of a scope with their plans: the program first, then its libraries in the order in
 /// which they are loaded.
@@ -25,6 +32,7 @@ impl<'s, 'a, E: LinkedSymbol> LoadScope<'s, 'a, E> {
     ghost use Rattle.elf_loading.specs.LoadScope.{loaded_objects, loaded_plans};
     ghost use Rattle.elf_loading.specs.OneWord.{HasErrorLeft, IsByOneWordIn};
     ghost use Rattle.elf_loading.specs.Relocate.{IsRelocationIn};
+    ghost use Rattle.elf_loading.specs.WordErrors.{IsImageError, IsRelocationErrorIn, error_alone};
     ghost use Rattle.elf_loading.specs.WordsLeft.{AreWordsOf, relocations_left, own_relocations};
 
     /// The objects of a scope, with the plan of each object's file at the same index.
@@ -77,7 +85,6 @@ impl<'s, 'a, E: LinkedSymbol> LoadScope<'s, 'a, E> {
     ///
     /// The time is that of `Scope::bind` for each relocation, and linear in the bytes of the words; each
     /// word is looked for in the load segments.
-    #[tactic(auto, using(crate::proofs::ImageChecks::no_object, crate::proofs::ImageChecks::no_plan))]
     pub fn check_image(&self, of: usize, marks: &mut [u8]) -> Result<(), LoadError>
         ensures exact { IsImageCheck E.SIZE E.fields (loaded_objects self.now).now
             (loaded_plans self.now).now of (8 * length marks.old) result }
@@ -85,11 +92,29 @@ impl<'s, 'a, E: LinkedSymbol> LoadScope<'s, 'a, E> {
             MatchBoth (slice_get objects of) (slice_get (loaded_plans self.now).now of) ⊥
             (AreWritten E.SIZE E.fields objects of)) }
     {
+        match self.check_words(of, marks) {
+            Ok(()) => Ok(()),
+            Err(found) => Err(found.error),
+        }
+    }
+
+    /// The same, and which relocation has the error: the first of `words` whose word has one. The errors
+    /// before those of words are of no relocation.
+    #[tactic(auto, using(crate::proofs::ImageChecks::no_object, crate::proofs::ImageChecks::no_plan))]
+    pub fn check_words(&self, of: usize, marks: &mut [u8]) -> Result<(), WordError>
+        ensures exact { IsImageCheck E.SIZE E.fields (loaded_objects self.now).now
+            (loaded_plans self.now).now of (8 * length marks.old) (error_alone result) }
+        ensures passes { IfOk (error_alone result) (λ done. let objects = (loaded_objects self.now).now in
+            MatchBoth (slice_get objects of) (slice_get (loaded_plans self.now).now of) ⊥
+            (AreWritten E.SIZE E.fields objects of)) }
+        ensures first { IfErr result (IsImageError E.SIZE E.fields (loaded_objects self.now).now
+            (loaded_plans self.now).now of (8 * length marks.old)) }
+    {
         let Some(own) = self.scope.objects().get(of) else {
-            return Err(LoadError::Link(LinkError::ObjectIndex));
+            return Err(NO_OBJECT);
         };
         let Some(plan) = self.plans.get(of) else {
-            return Err(LoadError::Link(LinkError::ObjectIndex));
+            return Err(NO_OBJECT);
         };
         check_own(self.scope, of, own, plan, marks)
     }
@@ -112,7 +137,6 @@ impl<'s, 'a, E: LinkedSymbol> LoadScope<'s, 'a, E> {
     /// objects; `Link` with those of `words`; then of the first word that has one, its own error,
     /// `Unresolved`, `WordAddress` and `CopySource`. The words before it are written, and the
     /// bytes of that word and of those after it stay as they are.
-    #[tactic(auto, using(crate::proofs::ImageChecks::no_object, crate::proofs::ImageChecks::no_plan))]
     pub fn relocate(
         &self,
         of: usize,
@@ -129,12 +153,39 @@ impl<'s, 'a, E: LinkedSymbol> LoadScope<'s, 'a, E> {
         ensures errors { IfErr result (HasErrorLeft E.fields (loaded_objects self.now).now
             (loaded_plans self.now).now of when) }
     {
+        match self.write_words(of, when, places, others, image) {
+            Ok(count) => Ok(count),
+            Err(found) => Err(found.error),
+        }
+    }
+
+    /// The same, and which relocation has the error: the first of `words` whose word has one. The errors
+    /// before those of words are of no relocation.
+    #[tactic(auto, using(crate::proofs::ImageChecks::no_object, crate::proofs::ImageChecks::no_plan))]
+    pub fn write_words(
+        &self,
+        of: usize,
+        when: Binding,
+        places: &[Place],
+        others: &[&[u8]],
+        image: &mut [u8],
+    ) -> Result<u64, WordError>
+        ensures exact { IsRelocationIn E.fields (loaded_objects self.now) (loaded_plans self.now) of when
+            places.entry others.entry image.old image.new (error_alone result) }
+        ensures once { IfOk (error_alone result) (λ count. IsByOneWordIn E.fields (loaded_objects self.now)
+            (loaded_plans self.now) of when places.entry others.entry image.old image.new) }
+        ensures len { length image.new ≡ length image.old }
+        ensures errors { IfErr (error_alone result) (HasErrorLeft E.fields (loaded_objects self.now).now
+            (loaded_plans self.now).now of when) }
+        ensures first { IfErr result (IsRelocationErrorIn E.fields (loaded_objects self.now)
+            (loaded_plans self.now) of when places.entry others.entry (length image.old)) }
+    {
         let objects = self.scope.objects();
         let Some(own) = objects.get(of) else {
-            return Err(LoadError::Link(LinkError::ObjectIndex));
+            return Err(NO_OBJECT);
         };
         let Some(plan) = self.plans.get(of) else {
-            return Err(LoadError::Link(LinkError::ObjectIndex));
+            return Err(NO_OBJECT);
         };
         let sources = Sources {
             objects,

@@ -15,6 +15,7 @@ ghost use Rattle.elf_loading.specs.Relocate.{has_no_number, image_at, image_star
 ghost use Rattle.elf_loading.specs.Relocate.{is_outside, is_unresolved, is_weak, is_wrong_size};
 ghost use Rattle.elf_loading.specs.Relocate.{origin_sum, place_at, value_byte, value_number};
 ghost use Rattle.elf_loading.specs.Relocate.{word_byte, write_item, write_word};
+ghost use Rattle.elf_loading.specs.WordErrors.{IsFirstUnwritten, IsRelocationError, error_alone};
 ghost use Rattle.elf_loading.specs.Words.{binds_lazily};
 ghost use Rattle.elf_loading.specs.WordsLeft.{HasWordOf, relocations_left, words_file, words_lazy};
 ghost use Rattle.elf_loading.specs.WordsLeft.{words_own};
@@ -25,6 +26,7 @@ use crate::in_order::Relocation;
 use crate::plan::LoadPlan;
 use crate::slots::is_later;
 use crate::value::{Origin, Value, low};
+use crate::word_error::WordError;
 use crate::words::{Binding, Relocated, Word, Words, binds_lazily, needs_symbol};
 use elf_base::bytes::Record;
 use elf_linking::DynamicObject;
@@ -434,19 +436,27 @@ impl<'b, 's, 'a, E: LinkedSymbol> Sources<'b, 's, 'a, E> {
         lazy: bool,
         words: Words<'s, 'a, E>,
         image: &mut [u8],
-    ) -> Result<u64, LoadError>
+    ) -> Result<u64, WordError>
         requires words { AreWordsFor self.now.objects.now own.now self.now.of lazy words }
-        ensures { IsWriting E.fields self.now own.now lazy (relocations_left words.entry) image.old
-            image.new result }
+        ensures words { IsWriting E.fields self.now own.now lazy (relocations_left words.entry) image.old
+            image.new (error_alone result) }
+        ensures first { IfErr result (IsFirstUnwritten E.fields self.now own.now lazy
+            (length image.old) (relocations_left words.entry)) }
     {
         let start = self.image_start(self.of);
         let relative = relative_of(own.file().header.pt2.machine().raw());
-        let (mut words, mut last, mut count) = (words, None, 0u64);
+        let (mut words, mut last, mut count, mut index) = (words, None, 0u64, 0u64);
         while let Some(relocation) = words.next_relocation() {
             match self.write_next(&words, &relative, start, relocation, &mut last, image) {
                 Ok(lacks) => count = counted(count, lacks),
-                Err(error) => return Err(error),
+                Err(error) => {
+                    return Err(WordError {
+                        error,
+                        relocation: Some(index),
+                    });
+                }
             }
+            index = index.saturating_add(1);
         }
         Ok(count)
     }
@@ -472,18 +482,27 @@ impl<'b, 's, 'a, E: LinkedSymbol> Sources<'b, 's, 'a, E> {
         plan: &LoadPlan<'_>,
         when: Binding,
         image: &mut [u8],
-    ) -> Result<u64, LoadError>
+    ) -> Result<u64, WordError>
         requires scope { scope_objects scope ≡ self.now.objects }
         requires own { slice_get self.now.objects.now self.now.of ≡ Some own.now }
-        ensures { IsRelocation E.fields self.now own.now plan.now
-            (binds_lazily (view_entries (object_view own.now)) when) image.old image.new result }
+        ensures words { IsRelocation E.fields self.now own.now plan.now
+            (binds_lazily (view_entries (object_view own.now)) when) image.old image.new
+            (error_alone result) }
+        ensures first { IfErr result (IsRelocationError E.fields self.now own.now plan.now
+            (binds_lazily (view_entries (object_view own.now)) when) (length image.old)) }
     {
         if self.is_wrong_size(plan, image.len()) {
-            return Err(LoadError::ImageSize);
+            return Err(WordError {
+                error: LoadError::ImageSize,
+                relocation: None,
+            });
         }
         match Words::new(scope, self.of, when) {
             Ok(words) => self.write_words(own, binds_lazily(&own.view(), when), words, image),
-            Err(error) => Err(LoadError::Link(error)),
+            Err(error) => Err(WordError {
+                error: LoadError::Link(error),
+                relocation: None,
+            }),
         }
     }
 }

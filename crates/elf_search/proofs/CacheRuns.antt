@@ -80,17 +80,11 @@ module _ (order : ℕ → Option Ordering) where
   run_more : (n i : ℕ) → i < n → is_same (order i) ≡ true → run_from order (n - i) i ≡ i ∷ run_from order (n - (i + 1)) (i + 1)
   run_more n i h same = let e : n - i ≡ suc (n - (i + 1)) = omega arith in rw (e, same, add-one) refl
 
-  run_stop : (n i : ℕ) → i < n → is_same (order i) ≡ false → run_from order (n - i) i ≡ []
-  run_stop n i h same = let e : n - i ≡ suc (n - (i + 1)) = omega arith in rw (e, same) refl
-
   run_end : (n i : ℕ) → n ≤ i → run_from order (n - i) i ≡ []
   run_end n i h = let e : n - i ≡ 0 = omega arith in rw e refl
 
   pub first_step : (k j : ℕ) → k ≡ j + 1 → is_same (order j) ≡ true → first_same order k ≡ first_same order j
   first_step k j e same = rw (e, add-one) (rw same refl)
-
-  pub first_stop : (k j : ℕ) → k ≡ j + 1 → is_same (order j) ≡ false → first_same order k ≡ k
-  first_stop k j e same = rw (e, add-one) (rw same refl)
 
 -- Entries used.
 
@@ -98,16 +92,6 @@ module _ (usage : ℕ → Usage) (order : ℕ → Option Ordering) (n : ℕ) (be
   pub used_more : i < n → is_same (order i) ≡ true → is_last best (usage i) ≡ false
       → used_after usage best (run_from order (n - i) i) ≡ used_after usage (next_best best i (usage i)) (run_from order (n - (i + 1)) (i + 1))
   used_more h same last = rw (run_more order n i h same) (rw last refl)
-
-  pub used_last : i < n → is_same (order i) ≡ true → is_last best (usage i) ≡ true
-      → used_after usage best (run_from order (n - i) i) ≡ Some (unwrap_or (option_map (λ entry. entry.0) best) i)
-  used_last h same last = rw (run_more order n i h same) (rw last refl)
-
-  pub used_stop : i < n → is_same (order i) ≡ false → used_after usage best (run_from order (n - i) i) ≡ option_map (λ entry. entry.0) best
-  used_stop h same = rw (run_stop order n i h same) refl
-
-  pub used_end : n ≤ i → used_after usage best (run_from order (n - i) i) ≡ option_map (λ entry. entry.0) best
-  used_end h = rw (run_end order n i h) refl
 
 better_inside : (i n rank : ℕ) (best : ℕ × ℕ) (less : Bool) → i < n → best.0 < n → IfSome (if less then Some (i, rank) else Some best) (λ entry. entry.0 < n)
 better_inside i n rank best true h b = h
@@ -119,11 +103,3 @@ best_inside None i n (Named rank) h b = h
 best_inside (Some best) i n (Named rank) h b = better_inside i n rank best (nat_lt rank best.1) h b
 best_inside best i n Plain h b = b
 best_inside best i n Foreign h b = b
-
-pub or_inside : (best : Option (ℕ × ℕ)) (i n : ℕ) → i < n → IfSome best (λ entry. entry.0 < n) → unwrap_or (option_map (λ entry. entry.0) best) i < n
-or_inside None i n h b = h
-or_inside (Some best) i n h b = b
-
-pub of_inside : (best : Option (ℕ × ℕ)) (n : ℕ) → IfSome best (λ entry. entry.0 < n) → IfSome (option_map (λ entry. entry.0) best) (λ entry. entry < n)
-of_inside None n b = b
-of_inside (Some best) n b = b

@@ -6,6 +6,7 @@ pub mod CacheSearch
 pub mod LoadOrders
 pub mod PlainOrders
 pub mod Starting
+pub mod StartOrder
 pub mod TokenSteps
 pub mod PathSteps
 pub mod ElementSteps

@@ -216,8 +216,3 @@ plain_next objects edges count used current start place end start' end' b ended 
       },
       same,
     )
-
--- the words of the last object end with those of all
-pub plain_last : (objects edges : List ℕ) (count used current start place end : ℕ) → current + 1 ≡ count → IsPlain objects edges count used current start place end → end ≡ used
-plain_last objects edges count used current start place end last plain =
-    let same : (current + 1 == count) ≡ true = eq-eqb _ _ last in plain.ends ∙ rw same refl

@@ -12,25 +12,6 @@ use Rattle.elf_search.specs.declared.cache.pieces.Piece.TheVariants.{Number, Byt
 use Rattle.elf_search.specs.Pieces.{IsNumber, StartsWith, are_small, is_digit, name_order, piece_order, pieces, pieces_after, pieces_order}
 use Rattle.elf_search.specs.Pieces.StartsWith.{more, ended}
 
--- a digit behind a number is part of it
-pub number_more : (value : ℕ) (bytes : List ℕ) (place : ℕ) → place < length bytes → is_digit (get_or bytes place 0) ≡ true
-    → pieces_after (Some value) (drop place bytes) ≡ pieces_after (Some ((10 * value + (get_or bytes place 0 - 48)) % 2 ^ 32)) (drop (place + 1) bytes)
-number_more value bytes place h d = rw (add-one, drop-cons bytes place 0) (rw d refl)
-
-digit_ended : (value byte : ℕ) (bytes : List ℕ) → is_digit byte ≡ false
-    → pieces_after (Some value) (byte ∷ bytes) ≡ Number value ∷ pieces_after None (byte ∷ bytes)
-digit_ended value byte bytes d = rw d refl
-
--- a number ends before another byte
-pub number_ended : (value : ℕ) (bytes : List ℕ) (place : ℕ) → place < length bytes → is_digit (get_or bytes place 0) ≡ false
-    → pieces_after (Some value) (drop place bytes) ≡ Number value ∷ pieces_after None (drop place bytes)
-number_ended value bytes place h d = rw (drop-cons bytes place 0) (digit_ended value (get_or bytes place 0) (drop (suc place) bytes) d)
-
--- a number ends at the end
-pub number_last : (value : ℕ) (bytes : List ℕ) (place : ℕ) → length bytes ≤ place
-    → pieces_after (Some value) (drop place bytes) ≡ Number value ∷ pieces_after None (drop place bytes)
-number_last value bytes place h = rw (drop_all place bytes h) refl
-
 then_first : (order other : Ordering) → (order ≡ Equal → ⊥) → ordering_then order other ≡ order
 then_first Less other differ = refl
 then_first Equal other differ = absurd (differ refl)

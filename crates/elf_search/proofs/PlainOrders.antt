@@ -5,7 +5,7 @@ use Rattle.std.proofs.Math.ListN.{set}
 use Rattle.elf_search.specs.LoadOrder.{end_of, start_of}
 use Rattle.elf_search.specs.Order.{IsPlainOrder, KeepsLists, KeepsOthers, KeepsPlace, KeepsState, edges_of}
 use Rattle.elf_search.specs.declared.order.Order.{Order}
-use Rattle.elf_search.proofs.LoadOrders.{plain_add, plain_answer, plain_last, plain_next}
+use Rattle.elf_search.proofs.LoadOrders.{plain_add, plain_answer, plain_next}
 
 -- the next object is gone to
 pub plain_goes : (one two three : Order) (object : ℕ) → IsPlainOrder one → one.end ≤ one.place → one.place ≤ one.end → one.gone < one.count
@@ -67,15 +67,6 @@ plain_adds one two three used h few more old new c u kp e p same plain =
       gone = same.gone ∙ kp.gone ∙ plain.gone ∙ ap (λ k. k + 1) (sym (same.current ∙ kp.current));
       words = rw (same.objects, e, kp.edges, same.count ∙ c, same.used ∙ u, same.current ∙ kp.current, same.start ∙ kp.start, p, kp.place, same.end ∙ kp.end) words;
     }
-
--- all entries are answered
-pub plain_ends : (one : Order) → one.count ≤ one.gone → one.end ≤ one.place → IsPlainOrder one → one.place ≡ one.used
-plain_ends one h e plain =
-    let inside = one.current_in in
-    let within = one.place_in in
-    let gone = plain.gone in
-    let last : one.end ≡ one.used = plain_last one.objects.now one.edges.now one.count one.used one.current one.start one.place one.end (omega arith) plain.words in
-    omega arith
 
 -- what is kept over a step
 pub keeps_on : (one two three four : Order) → KeepsLists one two → KeepsState two three → KeepsLists three four → KeepsLists one four

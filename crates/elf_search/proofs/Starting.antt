@@ -13,7 +13,7 @@ use Rattle.elf_search.specs.declared.order.Order.{Order}
 
 -- Tests of membership.
 
-or_left : (a b : Bool) → a ≡ true → (a || b) ≡ true
+pub or_left : (a b : Bool) → a ≡ true → (a || b) ≡ true
 or_left true b h = refl
 or_left false b h = cc
 
@@ -33,10 +33,10 @@ or_of_false : (a b : Bool) → a ≡ false → (a || b) ≡ b
 or_of_false true b h = cc
 or_of_false false b h = refl
 
-marked_head : (k : ℕ) (ks : List ℕ) → is_marked (k ∷ ks) k ≡ true
+pub marked_head : (k : ℕ) (ks : List ℕ) → is_marked (k ∷ ks) k ≡ true
 marked_head k ks = or_left _ _ (eq-eqb k k refl)
 
-marked_tail : (j k : ℕ) (ks : List ℕ) → is_marked ks j ≡ true → is_marked (k ∷ ks) j ≡ true
+pub marked_tail : (j k : ℕ) (ks : List ℕ) → is_marked ks j ≡ true → is_marked (k ∷ ks) j ≡ true
 marked_tail j k ks h = or_right _ _ h
 
 eqb_no : (a b : ℕ) → (a ≡ b → ⊥) → (t : Bool) → eqb a b ≡ t → eqb a b ≡ false
@@ -167,10 +167,6 @@ not_of false h = refl
 not_true : (b : Bool) → b ≡ true → not b ≡ false
 not_true true h = refl
 not_true false h = cc
-
-not_is_false : (b : Bool) → not b ≡ false → b ≡ true
-not_is_false true h = refl
-not_is_false false h = cc
 
 and_left : (a b : Bool) → (a && b) ≡ true → a ≡ true
 and_left true b h = refl

@@ -3,9 +3,6 @@ use Rattle.std.proofs.Common.{◌≡◌, ◌≢◌, ℕ, zero, suc, List, [], �
 use Rattle.std.proofs.lemmas.Bool.{eq-eqb, ne_eqb}
 use Rattle.elf_search.specs.Tokens.{TokenParts, Values, is_known, is_unknown_at, replaced, token_at, token_length, value_of}
 
-pub length_none : (text name : List ℕ) → text ≡ [] → token_length text name ≡ 0
-length_none text name is = ap (λ xs. token_length xs name) is
-
 pub known_end : (values : Values) (text : List ℕ) → text ≡ [] → is_known values text ≡ true
 known_end values text is = ap (is_known values) is
 

@@ -1,5 +1,5 @@
 -- The order in which objects start (glibc, `_dl_sort_maps`): depth first over the edges, from the last object to the first.
-use Rattle.std.specs.Prelude.{◌≡◌, ◌⊎◌, ℕ, zero, suc, ◌+◌, ◌<◌, ◌≤◌, ◌==◌, not, nat_lt, Bool, true, false, List, [], ◌∷◌, ◌++◌, slice_index, length, if◌then◌else◌, eqb}
+use Rattle.std.specs.Prelude.{◌≡◌, ◌≢◌, ◌⊎◌, ℕ, zero, suc, ◌+◌, ◌<◌, ◌≤◌, ◌==◌, not, nat_lt, Bool, true, false, List, [], ◌∷◌, ◌++◌, slice_index, length, if◌then◌else◌, eqb}
 use Rattle.std.specs.List.{list_any}
 use Rattle.elf_search.specs.Order.{before_of, edges_of, last_of}
 use Rattle.elf_search.specs.declared.order.Order.{Order}
@@ -28,6 +28,23 @@ back_from before count (suc n) k = if nat_lt k count then k ∷ back_from before
 pub record Starts (order : Order) (written : List ℕ) : Type 0 where
   pub marked : List ℕ
   pub visits : Visits (edges_of order) order.count (back_from (before_of order) order.count order.count (last_of order)) (0 ∷ []) [] marked written
+
+-- one object needs another: itself, or what an object that it needs has an edge to, other than the program
+pub data Needs (edges : ℕ → List ℕ) (one : ℕ) : ℕ → Type 0 where
+  itself : Needs edges one one
+  through : (k other : ℕ) → Needs edges one k → is_marked (edges k) other ≡ true → other ≢ 0 → Needs edges one other
+
+-- in a list one object is before another
+pub record IsBefore (list : List ℕ) (one other : ℕ) : Type 0 where
+  pub front : List ℕ
+  pub back : List ℕ
+  pub parts : list ≡ front ++ other ∷ back
+  pub in_front : is_marked front one ≡ true
+
+-- each object that is written comes after those that its entries found, but for the program and those that need it
+abbrev pub NeedsFirst : Order → List ℕ → Type 0
+NeedsFirst order written = (k other : ℕ) → is_marked written k ≡ true → is_marked (edges_of order k) other ≡ true
+    → other < order.count → other ≢ 0 → (Needs (edges_of order) other k → ⊥) → IsBefore written other k
 
 -- words of objects say which of them are marked: those whose word is not `NO_OBJECT`
 abbrev pub HasMarks : ℕ → List ℕ → List ℕ → Type 0

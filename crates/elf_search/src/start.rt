@@ -3,7 +3,7 @@
 
 ghost use Rattle.std.specs.Prelude.{◌≡◌, ◌↔◌, ◌==◌, ◌&&◌, ◌<◌, ◌≤◌, ◌+◌, ◌-◌, ◌*◌, ℕ, List, [], ◌∷◌, IfOk, IsOk, length, nat_lt, slice_index, take, true};
 ghost use Rattle.elf_search.specs.Order.{edges_of};
-ghost use Rattle.elf_search.specs.Starts.{Continues, IsBetween, Starts};
+ghost use Rattle.elf_search.specs.Starts.{Continues, IsBetween, NeedsFirst, Starts};
 
 use crate::SearchError;
 use crate::order::{NO_OBJECT, Order};
@@ -15,12 +15,14 @@ use crate::order::{NO_OBJECT, Order};
 /// From the last object of the list to its first, each that is not yet visited is visited: it is marked,
 /// then the ends of its edges are visited in order, and then it is written. The program starts after all
 /// of them. An object with the flag 0x20 (DF_1_INITFIRST) starts before all of them: that of the last one
-/// that was loaded counts. The time is linear in the numbers of objects and edges.
+/// that was loaded counts. So what an object needs, by an auxiliary or a filter entry too, starts before it,
+/// unless that needs the object in turn. The time is linear in the numbers of objects and edges.
 ///
 /// Error: `FewWords` if there are fewer words.
 pub fn start_order(order: &Order<'_>, words: &mut [u32]) -> Result<usize, SearchError>
     ensures room { IsOk result ↔ (3 * order.now.count ≤ length words.old) }
     ensures starts { IfOk result (λ number. Starts order.now (take number words.new)) }
+    ensures needs { IfOk result (λ number. NeedsFirst order.now (take number words.new)) }
 {
     let count = order.count();
     if words.len() < 3 * count {

@@ -4,14 +4,11 @@ use Rattle.std.proofs.lemmas.Option.{slice_get-map, slice_get_read, slice_get_wi
 use Rattle.std.specs.Borrow.{Bor}
 use Rattle.std.specs.Prelude.{IsSome, IsSomeAnd, map, option_map}
 use Rattle.std.proofs.KnownBytes.{Appends-nil}
-use Rattle.std.specs.Result.{result_ok}
 use Rattle.elf_linking.specs.Checked.{AreChecked}
-use Rattle.elf_linking.specs.CheckedBindings.{item_parts}
+use Rattle.elf_linking.specs.CheckedBindings.{is_weak, item_parts}
 use Rattle.elf_linking.specs.CheckedScope.{asked_fields, asked_in, bound_fields}
-use Rattle.elf_linking.specs.DynamicObject.{object_dynamic_symbols, object_file, object_symbols, object_view}
-use Rattle.elf_linking.specs.DynamicView.{view_entries}
+use Rattle.elf_linking.specs.DynamicObject.{object_dynamic_symbols, object_symbols}
 use Rattle.elf_linking.specs.Exports.{ObjectParts, object_parts}
-use Rattle.elf_linking.specs.References.{references_of}
 use Rattle.elf_linking.specs.Scope.{asked_of, asked_parts, wanted_parts}
 use Rattle.elf_linking.specs.VersionTables.{result_map}
 use Rattle.elf_linking.specs.declared.checked.bindings.CheckedBinding.{CheckedBinding}
@@ -25,8 +22,8 @@ use Rattle.elf_linking.specs.declared.scope.Bound.{Bound}
 use Rattle.elf_linking.specs.declared.scope.asking.Asked.{Asked}
 use Rattle.elf_linking.specs.declared.scope.asking.Asked.TheVariants.{Look, Own}
 use Rattle.elf_linking.proofs.lemmas.CheckedParts.{asked_by_parts, fields_by_parts}
-use Rattle.elfbind.specs.Bindings.{IsErrorIn, IsErrorOf, IsItemOf, is_missing, is_weak, line_by, line_of, line_text, path_in, shown_text, target_of, version_text}
-use Rattle.elfbind.specs.Checks.{ArePassed}
+use Rattle.elfbind.specs.Bindings.{IsErrorIn, IsErrorOf, IsItemOf, is_missing, line_by, line_of, line_text, path_in, shown_text, target_of}
+use Rattle.linking_programs.specs.Checks.{ArePassed}
 use Rattle.elfbind.specs.declared.bindings.Style.{Style}
 use Rattle.linking_programs.specs.Files.{IsOfInput}
 use Rattle.linking_programs.specs.declared.Input.{Input}

@@ -1,5 +1,5 @@
 -- The lines of the items of a scope's bindings so far.
-use Rattle.std.proofs.Common.{◌≡◌, ◌<◌, ◌+◌, ◌++◌, ◌∷◌, [], ◌||◌, ℕ, zero, suc, Bool, false, List, length, Option, Some, None, refl, sym, ap, ◌∙◌, subst, arith, append-nil, slice_get}
+use Rattle.std.proofs.Common.{◌≡◌, ◌+◌, ◌++◌, ◌∷◌, [], ◌||◌, ℕ, zero, suc, Bool, false, List, Option, Some, None, refl, sym, ap, ◌∙◌, subst, arith, append-nil, slice_get}
 use Rattle.std.specs.Prelude.{IsSome, IsSomeAnd, map}
 use Rattle.elf_linking.specs.CheckedBindings.{all_bindings, bindings_at, bindings_from}
 use Rattle.elf_linking.specs.CheckedScope.{bound_in}

@@ -4,8 +4,9 @@ use Rattle.elf_linking.specs.Exports.{object_parts}
 use Rattle.elf_linking.specs.declared.error.LinkError.{LinkError}
 use Rattle.elf_linking.specs.declared.object.DynamicObject.{DynamicObject}
 use Rattle.elfbind.specs.Bindings.{AreBindingsBegun, AreBindingsFailed, AreBindingsWritten}
-use Rattle.elfbind.specs.Checks.{ArePassed, IsCheckLine, IsCheckFailed}
+use Rattle.elfbind.specs.Checks.{IsCheckLine}
 use Rattle.elfbind.specs.Files.{AreWritten}
+use Rattle.linking_programs.specs.Checks.{ArePassed, IsCheckFailed}
 use Rattle.linking_programs.specs.Files.{AreObjectsOf, IsInputError, is_first_narrow, failed_fault_of}
 use Rattle.elfbind.specs.declared.bindings.Style.{Style}
 use Rattle.elfbind.specs.declared.Question as questions

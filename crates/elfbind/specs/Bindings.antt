@@ -1,13 +1,13 @@
 -- What the program writes of the references of some files (this project's own): a line for each that is looked up,
 -- with the file in which its symbol is found, and the symbol's value.
-use Rattle.std.specs.Prelude.{◌≡◌, ℕ, ◌++◌, ◌/◌, ◌==◌, ◌&&◌, if◌then◌else◌, not, Bool, false, List, [], ◌∷◌, Option, Some, None, option_and_then, option_map, map, Err, codes, slice_get, IsSome, IsSomeAnd, ⊤}
+use Rattle.std.specs.Prelude.{◌≡◌, ℕ, ◌++◌, ◌&&◌, if◌then◌else◌, not, Bool, false, List, [], ◌∷◌, Option, Some, None, option_and_then, option_map, map, Err, codes, slice_get, IsSome, IsSomeAnd}
 use Rattle.std.specs.Borrow.{Bor}
 use Rattle.std.specs.Fmt.{digits}
-use Rattle.elf_linking.specs.CheckedBindings.{all_bindings}
+use Rattle.elf_linking.specs.CheckedBindings.{all_bindings, is_weak}
 use Rattle.elf_linking.specs.CheckedScope.{asked_in}
 use Rattle.elf_linking.specs.DynamicObject.{object_file, object_view}
 use Rattle.elf_linking.specs.DynamicView.{view_entries}
-use Rattle.elf_linking.specs.Exports.{ObjectParts, SymbolParts, object_parts}
+use Rattle.elf_linking.specs.Exports.{ObjectParts, object_parts}
 use Rattle.elf_linking.specs.References.{references_of}
 use Rattle.elf_linking.specs.Scope.{asked_of}
 use Rattle.elf_linking.specs.declared.error.LinkError.{LinkError}
@@ -23,7 +23,8 @@ use Rattle.elfbind.specs.declared.bindings.Style.{Style}
 use Rattle.linking_programs.specs.Files.{IsOfInput}
 use Rattle.linking_programs.specs.declared.Input.{Input}
 use Rattle.linking_programs.specs.declared.Failed.{Failed}
-use Rattle.program_ends.specs.Json.{json_line, member, text_value}
+use Rattle.program_ends.specs.Names.{escaped}
+use Rattle.program_ends.specs.Json.{json_line, member, name_value, text_value}
 use Rattle.program_ends.specs.declared.json.Form.{Form}
 use Rattle.program_ends.specs.declared.json.Form.TheVariants.{Json, Text}
 use Rattle.program_ends.specs.declared.json.Member.{Member}
@@ -59,10 +60,10 @@ target_members None = member (codes "file") values.Null ∷ member (codes "value
 -- weak
 abbrev pub line_text : Form → List ℕ → List ℕ → Wanted → Bool → Option (Bor (List ℕ) × ℕ) → List ℕ
 line_text Json file name wanted weak target = json_line (member (codes "from") (text_value file)
-    ∷ member (codes "name") (text_value name) ∷ member (codes "version") (version_value wanted)
+    ∷ member (codes "name") (name_value name) ∷ member (codes "version") (version_value wanted)
     ∷ member (codes "weak") (values.Bool weak) ∷ target_members target)
 line_text Text file name wanted weak target =
-    file ++ (codes " " ++ (name ++ (version_text wanted ++ (codes " -> " ++ (target_text weak target ++ codes "\n")))))
+    file ++ (codes " " ++ (escaped name ++ (version_text wanted ++ (codes " -> " ++ (target_text weak target ++ codes "\n")))))
 
 -- a line, if it is asked for
 abbrev pub shown_text : Bool → List ℕ → List ℕ
@@ -80,11 +81,6 @@ path_in (Some input) = input.path.now
 abbrev pub target_of : List Input → Option (Bound SymbolFields) → Option (Bor (List ℕ) × ℕ)
 target_of inputs None = None
 target_of inputs (Some bound) = option_map (λ input. (input.path, bound.symbol.value)) (slice_get inputs bound.object)
-
--- the binding of a symbol is weak (gABI, STB_WEAK), so that a reference to it may be left unresolved
-abbrev pub is_weak : Option SymbolFields → Bool
-is_weak None = false
-is_weak (Some symbol) = symbol.info / 16 == 2
 
 -- a reference is missing its symbol: it gets none, and isn't weak
 abbrev pub is_missing : Bool → Option (Bound SymbolFields) → Bool

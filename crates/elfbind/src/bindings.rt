@@ -4,17 +4,17 @@
 ghost use Rattle.std.specs.Prelude.{◌≡◌, ◌<◌, ◌&&◌, Bool, Err, IfOk, IsSome, MatchResult, None};
 ghost use Rattle.std.specs.Prelude.{OnOk, Option, Some, length, map, not, option_map, slice_get};
 ghost use Rattle.std.specs.Io.KnownBytes.{Appends};
-ghost use Rattle.elf_linking.specs.CheckedBindings.{item_parts};
+ghost use Rattle.elf_linking.specs.CheckedBindings.{is_weak, item_parts};
 ghost use Rattle.elf_linking.specs.CheckedScope.{bound_fields};
 ghost use Rattle.elf_linking.specs.DynamicObject.{object_file, object_view};
 ghost use Rattle.elf_linking.specs.DynamicView.{view_entries};
 ghost use Rattle.elf_linking.specs.Exports.{object_parts};
 ghost use Rattle.elf_linking.specs.References.{references_of};
 ghost use Rattle.elfbind.specs.Bindings.{AreBindingsBegun, AreBindingsFailed, AreBindingsWritten};
-ghost use Rattle.elfbind.specs.Bindings.{IsErrorOf, IsItemOf, is_missing, is_weak, line_of};
+ghost use Rattle.elfbind.specs.Bindings.{IsErrorOf, IsItemOf, is_missing, line_of};
 ghost use Rattle.elfbind.specs.Bindings.{line_text, path_in, shown_text, target_of, target_text};
 ghost use Rattle.elfbind.specs.Bindings.{version_text};
-ghost use Rattle.elfbind.specs.Checks.{ArePassed};
+ghost use Rattle.linking_programs.specs.Checks.{ArePassed};
 ghost use Rattle.program_ends.specs.Appended.{AppendsSome};
 ghost use Rattle.program_ends.specs.Stops.{IsStop};
 ghost use Rattle.program_ends.specs.declared.json.Form.TheVariants.{Json, Text};
@@ -26,8 +26,8 @@ use elf_linking::scope::{Asked, Bound};
 use elf_linking::view::LinkedSymbol;
 use elf_linking::{CheckedObject, DynamicObject, LinkError};
 use linking_programs::{Failed, Input, failure_at};
-use program_ends::Stop;
 use program_ends::json::{Form, Member, Value, write_json};
+use program_ends::{Stop, write_name};
 use std::fmt::Display;
 use std::io::Write;
 use std::{fmt, io};
@@ -152,9 +152,20 @@ fn write_line<'s, W: Write>(line: Line<'s, 's>, form: Form, out: &mut W) -> io::
         line.entry.target.weak line.entry.target.found)) }
 {
     match form {
-        Form::Text => write!(out, "{}", line),
+        Form::Text => write_text(line, out),
         Form::Json => write_object(line, out),
     }
+}
+
+// A line as text: its file, the name and the version, and what it gets.
+fn write_text<'s, W: Write>(line: Line<'s, 's>, out: &mut W) -> io::Result<()>
+    ensures { OnOk result (Appends (W.contents out.old) (W.contents out.new)
+        (line_text Text line.entry.file.now line.entry.name.now line.entry.version.0
+        line.entry.target.weak line.entry.target.found)) }
+{
+    write!(out, "{} ", line.file)?;
+    write_name(line.name, out)?;
+    writeln!(out, "{} -> {}", line.version, line.target)
 }
 
 // A line as JSON.
@@ -178,7 +189,7 @@ fn write_object<'s, W: Write>(line: Line<'s, 's>, out: &mut W) -> io::Result<()>
         },
         Member {
             key: "name",
-            value: Value::Text(line.name),
+            value: Value::Name(line.name),
         },
         Member {
             key: "version",
@@ -263,33 +274,20 @@ impl Display for Target<'_> {
     }
 }
 
-// The line of a reference, as text: its file, the name and the version, and what it gets.
+// What the line of a reference says: its file, the name and the version, and what it gets.
 #[derive(Clone, Copy)]
 struct Line<'i, 'n> {
     file: &'i str,
-    name: &'n str,
+    name: &'n [u8],
     version: Version<'n>,
     target: Target<'i>,
-}
-
-impl Display for Line<'_, '_> {
-    ghost output = { λ line. Some (line_text Text line.file.now line.name.now line.version.0
-        line.target.weak line.target.found) };
-
-    fn fmt<W: fmt::Write>(&self, f: &mut fmt::Formatter<W>) -> fmt::Result {
-        writeln!(
-            f,
-            "{} {}{} -> {}",
-            self.file, self.name, self.version, self.target
-        )
-    }
 }
 
 // The line of a reference of the file at an index.
 fn line_at<'s, 'n>(
     inputs: &'s [Input<'_>],
     from: usize,
-    name: &'n str,
+    name: &'n [u8],
     wanted: Wanted<'n>,
     target: Target<'s>,
 ) -> Line<'s, 'n>

@@ -18,9 +18,10 @@ ghost use Rattle.elf_linking.specs.declared.object.DynamicObject.{DynamicObject}
 ghost use Rattle.elfbind.specs.Answers.{AreFilesFailed, AreFilesWritten, IsAnswer, IsAnswerBegun};
 ghost use Rattle.elfbind.specs.Answers.{IsAnswerError, IsAnswerWritten, IsEnd, status_of};
 ghost use Rattle.elfbind.specs.Files.{AreAccepted};
-ghost use Rattle.elfbind.specs.Found.{IsFoundEnd};
+ghost use Rattle.elfbind.specs.Found.{AreFoundKnown, IsFoundEnd};
 ghost use Rattle.program_libraries.specs.Complete.{with_missing};
 ghost use Rattle.linking_programs.specs.Files.{AreObjectsOf, failed_fault_of};
+ghost use Rattle.linking_programs.specs.Numbers.{AreNumbersKnown};
 ghost use Rattle.program_ends.specs.Appended.{AppendsSome};
 ghost use Rattle.program_ends.specs.Stops.{IsStop};
 ghost use Rattle.program_ends.specs.declared.Fault.{Fault};
@@ -29,12 +30,12 @@ ghost use Rattle.program_libraries.specs.Complete.{IsComplete};
 
 use crate::bindings::{Style, write_bindings};
 use crate::checks::write_checks;
-use crate::files::checked_objects;
 use elf_base::bytes::Record;
 use elf_linking::view::LinkedSymbol;
 use elf_linking::{DynamicObject, LinkError};
 use linking_programs::{
-    Failed, Input, failed_fault_of, is_first_narrow, read_inputs, read_objects,
+    Failed, Input, checked_objects, failed_fault_of, is_first_narrow, read_inputs, read_objects,
+    say_past_numbers,
 };
 use program_ends::json::{Form, form_asked};
 use program_ends::{CLOSED, Fault, Stop, Watched, arguments, exit_code, say, write_about};
@@ -81,13 +82,34 @@ pub enum Question {
 /// Writes what is asked of the files to `out`, or the reason why it can't to `err`, and returns the
 /// exit status.
 ///
-/// The status is 0 once all is written and flushed, no reference is missing its symbol and no check
-/// fails. It is `CLOSED`, and nothing is said, if a write failed since nobody reads the output, and 1
+/// The status is 0 once all is written and flushed, no reference is missing its symbol, no check fails and no symbol
+/// has a version number past those of all versions, which `err` says of the first. It is `CLOSED`, and nothing is
+/// said after it, if a write failed since nobody reads the output, and 1
 /// otherwise. The contract says what can be the case then: a reference is missing its
 /// symbol, or a check fails; a file has an error, which file and which error; a write failed, if no
-/// error comes before the first line; or memory is short. It says nothing of what `out` and `err`
+/// error comes before the first line; memory is short; or something else is wrong. It says nothing of what `out` and `err`
 /// hold.
 pub fn run<W: Write, E: Write>(
+    alloc: Global,
+    question: Question,
+    inputs: &[Input<'_>],
+    out: &mut Watched<W>,
+    err: &mut E,
+) -> u8
+    ensures bound { result ≢ CLOSED → result ≤ 1 }
+    ensures accepted { result ≡ 0 → AreAccepted inputs.now }
+    ensures known { result ≡ 0
+        → AreNumbersKnown ⟦<DynEntry32 as Record>⟧ ⟦<DynEntry64 as Record>⟧ inputs.now }
+    ensures ends { (wrong : Bool) × (end : Result Bool (Fault LinkError))
+        × IsEnd ⟦<DynEntry32 as Record>⟧ ⟦<DynEntry64 as Record>⟧ inputs.now question end
+        × (result ≡ with_missing wrong (status_of end out.new.closed)) }
+{
+    let wrong = say_past_numbers(alloc, NAME, inputs, &mut *err);
+    with_missing(wrong, run_answer(alloc, question, inputs, out, err))
+}
+
+// Writes what is asked of the files, or the reason why it can't, whatever the version numbers of symbols are.
+fn run_answer<W: Write, E: Write>(
     alloc: Global,
     question: Question,
     inputs: &[Input<'_>],
@@ -114,7 +136,7 @@ pub fn run<W: Write, E: Write>(
 /// The status is that of `run` for the files of the program and its libraries, in the order in which names
 /// are looked up. It is 1 if that is 0 and a library or a version is missing, and if there is no memory for
 /// the list of the files. By the contract it is 0 only if each name that these files ask for, other than by an
-/// auxiliary entry, found an object.
+/// auxiliary entry, found an object, and if no symbol has a version number past those of all versions.
 pub fn run_found<W: Write, E: Write>(
     alloc: Global,
     question: Question,
@@ -125,11 +147,13 @@ pub fn run_found<W: Write, E: Write>(
 ) -> u8
     ensures bound { result ≢ CLOSED → result ≤ 1 }
     ensures complete { result ≡ 0 → IsComplete files.now tree.now.objects.items }
-    ensures ends { (missing : Bool) × (end : Result Bool (Fault LinkError))
-        × (IsFalse missing → IsComplete files.now tree.now.objects.items)
+    ensures numbers { result ≡ 0
+        → AreFoundKnown ⟦<DynEntry32 as Record>⟧ ⟦<DynEntry64 as Record>⟧ files.now tree.now }
+    ensures ends { (wrong : Bool) × (end : Result Bool (Fault LinkError))
+        × (IsFalse wrong → IsComplete files.now tree.now.objects.items)
         × IsFoundEnd ⟦<DynEntry32 as Record>⟧ ⟦<DynEntry64 as Record>⟧ files.now tree.now question
         end
-        × (result ≡ with_missing missing (status_of end out.new.closed)) }
+        × (result ≡ with_missing wrong (status_of end out.new.closed)) }
 {
     let missing = say_missing(alloc, NAME, files, tree, &mut *err);
     match listed_inputs(alloc, files, tree) {

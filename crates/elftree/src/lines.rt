@@ -124,6 +124,7 @@ fn next_place<W: Write>(tree: &Tree, place: Place, out: &mut W) -> io::Result<Op
     };
     let own = (place.object, place.entry);
     match tree.found_by(own) {
+        None if entry.is_passed_over => {}
         None => write_missing(entry, place.depth, out)?,
         Some((number, found)) if number > 0 && found.loader == own => {
             write_found(tree, entry, number, found, place.depth, out)?;

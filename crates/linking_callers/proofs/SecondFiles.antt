@@ -6,8 +6,8 @@ use Rattle.elf_linking.specs.AnyTable.{IsGoodBy}
 use Rattle.std.specs.Prelude.{ok_or}
 use Rattle.elf_base.specs.FirstError.{and_then}
 use Rattle.elf_base.specs.Table.{table_items}
-use Rattle.elf_linking.specs.DynamicObject.{object_dynamic_symbols, object_file, object_name, object_records, object_strings, object_view}
-use Rattle.elf_linking.specs.DynamicView.{text_in_strings, view_entries}
+use Rattle.elf_linking.specs.DynamicObject.{object_dynamic_symbols, object_file, object_name_bytes, object_records, object_strings, object_view}
+use Rattle.elf_linking.specs.DynamicView.{bytes_in_strings, view_entries}
 use Rattle.elf_linking.specs.Find.{AreReadable, DynamicSymbols}
 use Rattle.elf_linking.specs.References.{references_of}
 use Rattle.elf_linking.specs.Scope.{AreGood, BindsReference, HasNamedSymbol, binds_to_itself}
@@ -36,15 +36,15 @@ module _ {E : Type 0} {r : _} (fields : E → SymbolFields) (program : DynamicOb
   found_is reference (Err error) is = absurd cc
 
   -- so there is such a symbol, whose name can be read
-  has_symbol : (strings : List ℕ) (symbol : Option E) (read : Result (List ℕ) LinkError) → and_then (ok_or symbol SymbolIndex) (λ e. text_in_strings (Ok strings) (fields e).name) ≡ Ok name → IsOk read → IsSomeAnd symbol (λ e. binds_to_itself (fields e) ≡ false → IsOk read)
+  has_symbol : (strings : List ℕ) (symbol : Option E) (read : Result (List ℕ) LinkError) → and_then (ok_or symbol SymbolIndex) (λ e. bytes_in_strings (Ok strings) (fields e).name) ≡ Ok name → IsOk read → IsSomeAnd symbol (λ e. binds_to_itself (fields e) ≡ false → IsOk read)
   has_symbol strings None read is ok = absurd (cc)
   has_symbol strings (Some e) read is ok = λ looked. ok
 
   pub named : (objects : List (DynamicObject E r)) (reference : Reference) → slice_get objects 0 ≡ Some program → FindsReference fields program name (Ok (Some reference)) → HasNamedSymbol fields objects 0 reference
   named objects reference first finds =
       let is = found_is reference (references_of (object_file program) (view_entries (object_view program))) finds in
-      subst (λ object. IsSomeAnd object (λ asking. IsSomeAnd (slice_get (table_items (object_records asking)) reference.symbol) (λ symbol. binds_to_itself (fields symbol) ≡ false → IsOk (object_name fields asking reference.symbol)))) (sym first)
-      (has_symbol (object_strings program).now (slice_get (table_items (object_records program)) reference.symbol) (object_name fields program reference.symbol) is (subst (λ text. IsOk text) (sym is) refl))
+      subst (λ object. IsSomeAnd object (λ asking. IsSomeAnd (slice_get (table_items (object_records asking)) reference.symbol) (λ symbol. binds_to_itself (fields symbol) ≡ false → IsOk (object_name_bytes fields asking reference.symbol)))) (sym first)
+      (has_symbol (object_strings program).now (slice_get (table_items (object_records program)) reference.symbol) (object_name_bytes fields program reference.symbol) is (subst (λ text. IsOk text) (sym is) refl))
 
   module _ (objects : List (DynamicObject E r)) where
     -- the answer, by what is found

@@ -4,7 +4,7 @@ use Rattle.std.specs.Prelude.{◌≡◌, ℕ, ◌==◌, Bool, false, List, [], �
 use Rattle.std.specs.Borrow.{Bor}
 use Rattle.elf_base.specs.FileHeader.{header_of}
 use Rattle.elf_linking.specs.AnyTable.{IsCheckBy, IsGoodBy}
-use Rattle.elf_linking.specs.DynamicObject.{IsObject, IsObjectError, object_dynamic_symbols, object_file, object_name, object_symbols, object_table, object_versions, object_view}
+use Rattle.elf_linking.specs.DynamicObject.{IsObject, IsObjectError, object_dynamic_symbols, object_file, object_name_bytes, object_symbols, object_table, object_versions, object_view}
 use Rattle.elf_linking.specs.DynamicView.{view_entries}
 use Rattle.elf_linking.specs.Find.{AreReadable}
 use Rattle.elf_linking.specs.References.{references_of}
@@ -47,7 +47,7 @@ IsLoaded {E} {r} fields class size bytes answer = (read : Result (DynamicObject 
 
 -- a reference is to a symbol with this name
 abbrev pub IsTo : {E : Type 0} → {r : _} → (E → SymbolFields) → DynamicObject E r → List ℕ → Reference → Type 0
-IsTo fields object name reference = object_name fields object reference.symbol ≡ Ok name
+IsTo fields object name reference = object_name_bytes fields object reference.symbol ≡ Ok name
 
 -- the first reference of an object that is to a symbol with this name, or why its references can't be read
 abbrev pub FindsReference : {E : Type 0} → {r : _} → (E → SymbolFields) → DynamicObject E r → List ℕ → Result (Option Reference) LinkError → Type 0

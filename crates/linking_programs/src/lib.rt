@@ -20,6 +20,12 @@ use std::convert::AsStr;
 use std::fs::File;
 use xmas_elf::ElfFile;
 
+mod checked;
+mod numbers;
+
+pub use crate::checked::checked_objects;
+pub use crate::numbers::{first_past, say_past_numbers};
+
 /// A file that a program is given.
 #[derive(Drop)]
 pub struct Input<'a> {

@@ -16,4 +16,5 @@ mod relocated_images;
 mod relocated_slots;
 mod rows;
 mod want;
+mod word_errors;
 mod words;

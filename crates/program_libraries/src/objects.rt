@@ -32,8 +32,8 @@ pub struct Entry {
     pub kind: NameKind,
     /// The name, with its tokens replaced.
     pub name: Vec<u8>,
-    // Whether the values of its tokens are known.
-    pub(crate) is_known: bool,
+    /// Whether the loader passes over it: it is auxiliary, and its file is an error, or it has a token without a value.
+    pub is_passed_over: bool,
 }
 
 /// A program or a library.
@@ -192,7 +192,7 @@ pub(crate) fn entries_of(
         entries.push(Entry {
             kind: needed.kind,
             name,
-            is_known,
+            is_passed_over: !is_known,
         })?;
     }
     Ok(entries)

@@ -14,6 +14,8 @@ pub(crate) struct Processor {
     pub is_haswell: bool,
     /// Whether it has the part of AVX-512 for which glibc has a subdirectory.
     pub has_avx512: bool,
+    /// Whether its programs are those of 32-bit x86.
+    pub is_386: bool,
 }
 
 /// A processor of which nothing is known.
@@ -21,6 +23,7 @@ pub(crate) const UNKNOWN: Processor = Processor {
     level: 0,
     is_haswell: false,
     has_avx512: false,
+    is_386: false,
 };
 
 // The features of the levels 2 to 4, as Linux names them.
@@ -58,6 +61,7 @@ fn processor_in(text: &[u8]) -> Processor {
         level: level_of(flags),
         is_haswell: is_intel && has_all(flags, HASWELL),
         has_avx512: is_intel && has_all(flags, AVX512) && !has(flags, b"avx512er"),
+        is_386: false,
     }
 }
 
@@ -91,6 +95,20 @@ fn level_of(flags: &[u8]) -> u32 {
 }
 
 impl Processor {
+    /// What programs of a class and a machine have of it, a processor of x86-64. Of a program of 32-bit x86 the
+    /// platform is `i686`, and no level counts.
+    pub fn for_programs(self, class: u8, machine: u16) -> Processor {
+        match (class, machine) {
+            (2, 62) => self,
+            (1, 3) => Processor {
+                level: self.level.min(1),
+                is_386: true,
+                ..UNKNOWN
+            },
+            _ => UNKNOWN,
+        }
+    }
+
     /// The value of `$PLATFORM`, if it is not that of all processors of the machine.
     pub fn platform(&self) -> Option<&'static str> {
         if self.is_haswell {
@@ -117,7 +135,13 @@ impl Processor {
 
     /// The bit of its platform in an entry of a cache.
     pub fn platform_bit(&self) -> u64 {
-        if self.is_haswell { 1 << 50 } else { 0 }
+        if self.is_haswell {
+            1 << 50
+        } else if self.is_386 && self.level > 0 {
+            1 << 49
+        } else {
+            0
+        }
     }
 
     /// The subdirectories of `glibc-hwcaps` that are active, the best first.
@@ -160,13 +184,15 @@ impl Processor {
         words.push(b"tls/")?;
         words.push(if self.is_haswell {
             b"haswell/"
+        } else if self.is_386 {
+            b"i686/"
         } else {
             b"x86_64/"
         })?;
         if self.has_avx512 {
             words.push(b"avx512_1/")?;
         }
-        words.push(b"x86_64/")?;
+        words.push(if self.is_386 { b"sse2/" } else { b"x86_64/" })?;
         let sets: u32 = if self.has_avx512 { 16 } else { 8 };
         for set in 0..sets {
             all.push(chosen(alloc, &words, sets.saturating_sub(1).saturating_sub(set))?)?;

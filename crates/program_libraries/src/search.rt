@@ -6,10 +6,10 @@ use crate::contents::{
 use crate::error::{FindError, error_in, unread};
 use crate::finding::Shared;
 use crate::objects::{Found, Object, entries_of, origin_of, text_in};
-use crate::processor::{Processor, UNKNOWN};
+use crate::processor::Processor;
 use crate::rooted::real_path;
 use crate::store::{Opened, StoredFile, open, open_program};
-use crate::systems::{System, is_x86_64, system_of};
+use crate::systems::{System, system_of};
 use crate::trees::{Tree, tree_of};
 use elf_linking::view::{DT_RPATH, DT_RUNPATH, DT_SONAME};
 use elf_search::SearchError;
@@ -37,8 +37,9 @@ struct Search<'f> {
     objects: Vec<Object>,
     // The interpreter of the program, as long as no entry has found it.
     interpreter: Option<Object>,
-    // Its number, if one has.
+    // Its number, if one has, and whether an auxiliary or a filter entry has moved it in the list.
     interpreter_number: Option<usize>,
+    is_interpreter_moved: bool,
     // The names that were missing, each with the number of objects at that time.
     missing: Vec<(usize, Vec<u8>)>,
 }
@@ -50,6 +51,8 @@ enum FoundName {
     // A new one.
     New(Object),
     Missing,
+    // That of an auxiliary entry whose file is an error.
+    PassedOver,
 }
 
 /// The program at a path with its libraries; `None` if they are more than `room`.
@@ -105,11 +108,7 @@ impl<'f> Search<'f> {
             path,
             error,
         ))?;
-        let processor = if is_x86_64(class, machine) {
-            shared.processor
-        } else {
-            UNKNOWN
-        };
+        let processor = shared.processor.for_programs(class, machine);
         let system = system_of(class, machine);
         let mut search = Search {
             shared,
@@ -123,6 +122,7 @@ impl<'f> Search<'f> {
             objects: Vec::new(rt.alloc()),
             interpreter: None,
             interpreter_number: None,
+            is_interpreter_moved: false,
             missing: Vec::new(rt.alloc()),
         };
         let origin = program_origin(rt, shared, path)?;
@@ -233,7 +233,7 @@ impl<'f> Search<'f> {
             order.missing();
             return Ok(true);
         };
-        let found = match self.find_name(rt, files, asker, &name) {
+        let found = match self.find_name(rt, files, order, asker, &name) {
             Ok(found) => found,
             Err(error) => passed_over(kind, error)?,
         };
@@ -243,8 +243,14 @@ impl<'f> Search<'f> {
                 order.missing();
                 Ok(true)
             }
+            FoundName::PassedOver => {
+                self.pass_over(asker, entry);
+                order.missing();
+                Ok(true)
+            }
             FoundName::Known(number) => {
                 self.note_name(number, name)?;
+                self.note_move(order, kind, asker, number);
                 Ok(note_known(order, kind, number))
             }
             FoundName::New(object) => self.add(order, object, name, kind, (asker, entry)),
@@ -262,10 +268,27 @@ impl<'f> Search<'f> {
             return Ok(None);
         };
         match object.entries.get(entry as usize) {
-            Some(entry) if entry.is_known => {
+            Some(entry) if !entry.is_passed_over => {
                 Ok(Some((Vec::from_slice(alloc, &entry.name)?, entry.kind)))
             }
             _ => Ok(None),
+        }
+    }
+
+    // Notes that the loader passes over an auxiliary entry.
+    fn pass_over(&mut self, asker: u32, entry: u32) {
+        if let Some(object) = self.objects.get_mut(asker as usize) {
+            if let Some(entry) = object.entries.get_mut(entry as usize) {
+                entry.is_passed_over = true;
+            }
+        }
+    }
+
+    // Notes whether an entry that finds an object moves the interpreter: if that is behind the one that asks.
+    fn note_move(&mut self, order: &Order<'_>, kind: NameKind, asker: u32, number: usize) {
+        if kind != NameKind::Needed && self.interpreter_number == Some(number) {
+            self.is_interpreter_moved = self.is_interpreter_moved
+                || is_behind(order, asker, number);
         }
     }
 
@@ -294,6 +317,7 @@ impl<'f> Search<'f> {
         object.names.push(name)?;
         if object.how == Found::Interpreter {
             self.interpreter_number = Some(self.objects.len());
+            self.is_interpreter_moved = kind != NameKind::Needed;
         }
         let Ok(count) = u32::try_from(object.entries.len()) else {
             return Ok(false);
@@ -311,6 +335,7 @@ impl<'f> Search<'f> {
         &mut self,
         rt: &HostRuntime,
         files: &mut Vec<StoredFile>,
+        order: &Order<'_>,
         asker: u32,
         name: &[u8],
     ) -> Result<FoundName, FindError> {
@@ -322,7 +347,7 @@ impl<'f> Search<'f> {
                 return Ok(FoundName::New(object));
             }
         }
-        if let Some(number) = self.known_library(name) {
+        if let Some(number) = self.known_library(order, name) {
             return Ok(FoundName::Known(number));
         }
         let Some((how, path, file)) = self.look(rt, files, asker, name)? else {
@@ -337,7 +362,8 @@ impl<'f> Search<'f> {
         Ok(FoundName::New(object))
     }
 
-    // The program or the interpreter, if it is known by a name. The program is known by an empty name.
+    // The program or the interpreter, if it is known by a name. The program is known by an empty name. The
+    // interpreter is behind it, until an entry moves it.
     fn known(&self, name: &[u8]) -> Option<usize> {
         let program = self.objects.first()?;
         if name.is_empty() || program.has_soname(name) {
@@ -345,7 +371,7 @@ impl<'f> Search<'f> {
         }
         let number = self.interpreter_number?;
         let interpreter = self.objects.get(number)?;
-        if interpreter.has_name(name) {
+        if !self.is_interpreter_moved && interpreter.has_name(name) {
             return Some(number);
         }
         None
@@ -359,11 +385,17 @@ impl<'f> Search<'f> {
         }
     }
 
-    // The first of the other objects that is known by a name.
-    fn known_library(&self, name: &[u8]) -> Option<usize> {
-        let libraries = self.objects.get(1..)?;
-        let place = libraries.iter().position(|object| object.has_name(name))?;
-        place.checked_add(1)
+    // The first of the other objects in the list that is known by a name.
+    fn known_library(&self, order: &Order<'_>, name: &[u8]) -> Option<usize> {
+        let mut next = Some(order.first());
+        for _ in 0..order.count() {
+            let number = next?;
+            if number > 0 && self.objects.get(number as usize)?.has_name(name) {
+                return Some(number as usize);
+            }
+            next = order.following(number);
+        }
+        None
     }
 
     // The library with a file. The program and the interpreter have none.
@@ -373,12 +405,27 @@ impl<'f> Search<'f> {
     }
 }
 
-// That a name is missing, where an auxiliary entry asks for it; otherwise the error.
+// Whether an object is behind another one in the list.
+fn is_behind(order: &Order<'_>, object: u32, number: usize) -> bool {
+    let mut next = order.following(object);
+    for _ in 0..order.count() {
+        let Some(other) = next else {
+            return false;
+        };
+        if other as usize == number {
+            return true;
+        }
+        next = order.following(other);
+    }
+    false
+}
+
+// That an entry is passed over, if it is an auxiliary one; otherwise the error.
 fn passed_over(kind: NameKind, error: FindError) -> Result<FoundName, FindError> {
     if kind != NameKind::Auxiliary || matches!(&error, FindError::Memory) {
         return Err(error);
     }
-    Ok(FoundName::Missing)
+    Ok(FoundName::PassedOver)
 }
 
 // No object, unless memory is short.

@@ -89,9 +89,3 @@ impl System {
         self.class != 0
     }
 }
-
-/// Whether programs of this class and machine are for the processors that `/proc/cpuinfo` has with
-/// `flags`.
-pub(crate) fn is_x86_64(class: u8, machine: u16) -> bool {
-    class == 2 && machine == 62
-}

@@ -45,6 +45,13 @@ impl Tree {
             .unwrap_or(0)
     }
 
+    // The last place in the list that has one of the first `count` objects that were loaded.
+    pub(crate) fn last_of(&self, count: usize) -> Option<usize> {
+        self.list
+            .iter()
+            .rposition(|number| (*number as usize) < count)
+    }
+
     /// How many entries and objects there are.
     pub fn step_count(&self) -> usize {
         let mut count: usize = 0;

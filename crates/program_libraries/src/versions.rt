@@ -70,16 +70,16 @@ fn provided_by(bytes: &[u8]) -> Result<Provided<'_>, LinkError> {
     }
 }
 
-// The objects and the missing names in the order in which they were loaded or asked for: the number of
-// the object, or `None`, and the names by which it is known.
+// The objects in the order of the list, and the missing names between them: the number of the object, or
+// `None`, and the names by which it is known.
 type Named<'t> = (Option<u32>, Vec<&'t [u8]>);
 
-// The program, the interpreter, and then the others with the missing names between them.
+// All of them.
 fn all_names<'t>(alloc: Global, tree: &'t Tree) -> Result<Vec<Named<'t>>, AllocError> {
     let mut all = Vec::new(alloc);
-    for number in 0..tree.objects.len() {
-        push_named(alloc, tree, number, &mut all)?;
-        push_missing(alloc, tree, number, &mut all)?;
+    for place in 0..tree.list.len() {
+        push_named(alloc, tree, tree.list[place] as usize, &mut all)?;
+        push_missing(alloc, tree, place, &mut all)?;
     }
     Ok(all)
 }
@@ -107,15 +107,15 @@ fn push_named<'t>(
     Ok(())
 }
 
-// The names that were missing when an object was the last that was loaded.
+// The names that were missing when the object at a place of the list was the last there.
 fn push_missing<'t>(
     alloc: Global,
     tree: &'t Tree,
-    number: usize,
+    place: usize,
     all: &mut Vec<Named<'t>>,
 ) -> Result<(), AllocError> {
     for missing in &tree.missing {
-        if missing.0 == number.saturating_add(1) {
+        if tree.last_of(missing.0) == Some(place) {
             let mut names: Vec<&'t [u8]> = Vec::new(alloc);
             names.push(missing.1.as_slice())?;
             all.push((None, names))?;

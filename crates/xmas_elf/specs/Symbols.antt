@@ -4,7 +4,7 @@ use Rattle.std.specs.Borrow.{Bor}
 use Rattle.std.specs.Fn.{Shared, FnReturns, FnReturnsAt}
 use Rattle.std.specs.Result.{result_ok}
 use Rattle.elf_base.specs.Table.{records, table_items}
-use Rattle.elf_base.specs.Text.{text_of}
+use Rattle.elf_base.specs.Text.{bytes_up_to_zero_of, text_of}
 use Rattle.xmas_elf.specs.Prelude.{DynEntry32, DynEntry64, ElfFile, Entry32, Entry64, Order, Table}
 use Rattle.xmas_elf.specs.Symbol.{SymbolFields, Symbols, dyn_entry_32, dyn_entry_32_fields, dyn_entry_64, dyn_entry_64_fields, entry_32, entry_32_fields, entry_64, entry_64_fields}
 use Rattle.xmas_elf.specs.SymbolName.{symbol_string_of}
@@ -18,6 +18,11 @@ symbols_of fields text_in table file =
 abbrev pub named_symbols : {E : Type 0} → {r : _} → (E → SymbolFields) → List ℕ → Table E r → Symbols E
 named_symbols fields strings table =
     record { items = table_items table; fields = fields; text = λ e. result_ok (text_of strings (fields e).name) }
+
+-- the symbols of a table with the bytes of their names in a string table, whether or not they are UTF-8
+abbrev pub symbols_by_bytes : {E : Type 0} → {r : _} → (E → SymbolFields) → List ℕ → Table E r → Symbols E
+symbols_by_bytes fields strings table =
+    record { items = table_items table; fields = fields; text = λ e. result_ok (bytes_up_to_zero_of strings (fields e).name) }
 
 -- the symbols in bytes of a file, each of a size, with their names in `.strtab` or in `.dynstr`
 abbrev pub symbols_in : {E : Type 0} → ℕ → (List ℕ → E) → (E → SymbolFields) → Bool → ElfFile → List ℕ → Symbols E

@@ -12,7 +12,7 @@ use crate::ElfError;
 use crate::bytes::{Order, Record};
 use crate::symbol_table::{Entry, SymbolTable};
 use elf_base::bytes::read_u32;
-pub use elf_records::hash::hash;
+pub use elf_records::hash::{hash, hash_of_bytes};
 
 /// The hash table of a symbol table, in words of four bytes: the number of buckets, the number of
 /// chains, the buckets, and the chains.
@@ -100,14 +100,14 @@ impl<'a> HashTable<'a> {
     // The word of the bucket of a name, if there are buckets.
     #[tactic(auto, unfolding(crate::specs::HashTable::start_of))]
     #[inline(always)]
-    fn start(&self, name: &str) -> Option<Result<u32, ElfError>>
+    fn start(&self, name: &[u8]) -> Option<Result<u32, ElfError>>
         ensures { result ≡ start_of self.now name.now }
     {
         let bucket_count = self.bucket_count();
         if bucket_count == 0 {
             return None;
         }
-        Some(self.get_bucket(hash(name) % bucket_count))
+        Some(self.get_bucket(hash_of_bytes(name) % bucket_count))
     }
 
     // The symbol at an index, which isn't the end, of a pass along a chain after `passed` steps, or

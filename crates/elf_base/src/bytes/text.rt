@@ -90,13 +90,21 @@ pub fn text_is(data: &[u8], start: usize, text: &str) -> (bool, usize)
 }
 
 /// Whether the text from byte `start` of `data` up to the first zero byte equals `text`: `text_is`
-/// without the number. The zero byte after the text is checked first, since it rules out most texts
-/// of other lengths; `text` is searched for a zero byte only if all else agrees.
+/// without the number.
 #[inline(always)]
 pub fn is_found_at(data: &[u8], start: usize, text: &str) -> bool
     ensures { IsTrue result ↔ IsText «data».now start text.now }
 {
-    let wanted = text.as_bytes();
+    has_bytes_at(data, start, text.as_bytes())
+}
+
+/// Whether the bytes from byte `start` of `data` up to the first zero byte equal `wanted`, whether
+/// or not they are UTF-8. The zero byte after them is checked first, since it rules out most bytes
+/// of other lengths; `wanted` is searched for a zero byte only if all else agrees.
+#[inline(always)]
+pub fn has_bytes_at(data: &[u8], start: usize, wanted: &[u8]) -> bool
+    ensures { IsTrue result ↔ EndsInZero «data».now start wanted.now }
+{
     if data.len() < start {
         return false;
     }

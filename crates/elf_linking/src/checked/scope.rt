@@ -5,7 +5,7 @@ ghost use Rattle.std.specs.Prelude.{◌≡◌, option_and_then, slice_get};
 
 use crate::checked::CheckedObject;
 use crate::find::{Use, Wanted};
-use crate::gnu_hash::gnu_hash;
+use crate::gnu_hash::gnu_hash_of_bytes;
 use crate::references::Reference;
 use crate::scope::{Asked, Bound, is_passed_over};
 use crate::serving::if_serving;
@@ -55,8 +55,21 @@ impl<'s, 'a, E: LinkedSymbol> CheckedScope<'s, 'a, E> {
     pub fn find(&self, from: usize, name: &str, wanted: &Wanted<'_>, use_: Use) -> Option<Bound<E>>
         ensures { bound_fields E.fields result ≡ looked_up self.now from name.now wanted.now use_ }
     {
+        self.find_bytes(from, name.as_bytes(), wanted, use_)
+    }
+
+    /// The result of `find` for a name of these bytes, whether or not they are UTF-8.
+    pub fn find_bytes(
+        &self,
+        from: usize,
+        name: &[u8],
+        wanted: &Wanted<'_>,
+        use_: Use,
+    ) -> Option<Bound<E>>
+        ensures { bound_fields E.fields result ≡ looked_up self.now from name.now wanted.now use_ }
+    {
         let asking = self.objects.get(from)?;
-        let hash = gnu_hash(name);
+        let hash = gnu_hash_of_bytes(name);
         if asking.is_symbolic() {
             match self.given(from, name, hash, wanted, use_) {
                 Some(bound) => return Some(bound),
@@ -108,7 +121,7 @@ impl<'s, 'a, E: LinkedSymbol> CheckedScope<'s, 'a, E> {
         from: usize,
         index: u32,
         own: Option<E>,
-        name: &str,
+        name: &[u8],
         wanted: &Wanted<'_>,
         use_: Use,
     ) -> Option<Bound<E>>
@@ -116,7 +129,7 @@ impl<'s, 'a, E: LinkedSymbol> CheckedScope<'s, 'a, E> {
             (asked_fields E.fields (Asked.Look name.entry wanted.now use_ own)) }
     {
         match own {
-            None => self.find(from, name, wanted, use_),
+            None => self.find_bytes(from, name, wanted, use_),
             Some(symbol) => {
                 let own = Bound {
                     object: from,
@@ -132,7 +145,7 @@ impl<'s, 'a, E: LinkedSymbol> CheckedScope<'s, 'a, E> {
     fn protected(
         &self,
         own: Bound<E>,
-        name: &str,
+        name: &[u8],
         wanted: &Wanted<'_>,
         use_: Use,
     ) -> Option<Bound<E>>
@@ -141,8 +154,8 @@ impl<'s, 'a, E: LinkedSymbol> CheckedScope<'s, 'a, E> {
             ≡ protected_bound (record { object = own.object; index = own.index; symbol = E.fields own.symbol })
             (found Use.Defined) (found use_) }
     {
-        let found = self.find(own.object, name, wanted, use_)?;
-        match self.find(own.object, name, wanted, Use::Defined) {
+        let found = self.find_bytes(own.object, name, wanted, use_)?;
+        match self.find_bytes(own.object, name, wanted, Use::Defined) {
             Some(defined) if defined.object != own.object => Some(own),
             _ => Some(found),
         }
@@ -150,7 +163,13 @@ impl<'s, 'a, E: LinkedSymbol> CheckedScope<'s, 'a, E> {
 
     // What the first object gives that gives a symbol. The hash number of the name is that of GNU's
     // table.
-    fn first_given(&self, name: &str, hash: u32, wanted: &Wanted<'_>, use_: Use) -> Option<Bound<E>>
+    fn first_given(
+        &self,
+        name: &[u8],
+        hash: u32,
+        wanted: &Wanted<'_>,
+        use_: Use,
+    ) -> Option<Bound<E>>
         requires { hash ≡ gnu_hash_number name.now }
         ensures { bound_fields E.fields result
             ≡ first_given name.now wanted.now use_ 0 self.now }
@@ -168,7 +187,7 @@ impl<'s, 'a, E: LinkedSymbol> CheckedScope<'s, 'a, E> {
     fn given(
         &self,
         place: usize,
-        name: &str,
+        name: &[u8],
         hash: u32,
         wanted: &Wanted<'_>,
         use_: Use,

@@ -37,7 +37,7 @@ impl<E: Entry + Record> Kept<E> {
     pub(crate) fn after(
         self,
         index: u32,
-        name: &str,
+        name: &[u8],
         symbols: &SymbolTable<'_, E>,
         versions: &Versions<'_>,
         wanted: &Wanted<'_>,
@@ -95,7 +95,7 @@ impl<E: Entry + Record> Kept<E> {
 #[inline(always)]
 fn is_candidate<E: Entry + Record>(
     symbol: &E,
-    name: &str,
+    name: &[u8],
     symbols: &SymbolTable<'_, E>,
     use_: Use,
 ) -> bool
@@ -103,7 +103,7 @@ fn is_candidate<E: Entry + Record>(
         ↔ IsCandidate (dynamic_symbols table (table_symbols symbols.now) versions) name.now use_
         symbol.now }
 {
-    symbols.has_name(symbol, name) && serves(symbol, use_)
+    symbols.has_key(symbol, name) && serves(symbol, use_)
 }
 
 // Whether a reference without a version may fall back on the symbol at an index.

@@ -14,7 +14,7 @@ use crate::versions::Versions;
 use crate::{AnyTable, LinkError};
 use elf_base::bytes::Record;
 use xmas_elf::ElfError;
-use xmas_elf::hash::{HashTable, hash};
+use xmas_elf::hash::{HashTable, hash_of_bytes};
 use xmas_elf::symbol_table::{Entry, SymbolTable};
 
 impl<'a> AnyTable<'a> {
@@ -22,7 +22,7 @@ impl<'a> AnyTable<'a> {
     #[inline(always)]
     pub(crate) fn find_in<E: Entry + Record>(
         &self,
-        name: &str,
+        name: &[u8],
         hash: u32,
         symbols: &SymbolTable<'_, E>,
         versions: &Versions<'_>,
@@ -43,7 +43,7 @@ impl<'a> AnyTable<'a> {
 // The search by the standard's table, along the chain of the name's bucket.
 fn find_in_chain<E: Entry + Record>(
     table: &HashTable<'_>,
-    name: &str,
+    name: &[u8],
     symbols: &SymbolTable<'_, E>,
     versions: &Versions<'_>,
     wanted: &Wanted<'_>,
@@ -56,7 +56,7 @@ fn find_in_chain<E: Entry + Record>(
     if bucket_count == 0 {
         return Ok(None);
     }
-    let first = match table.get_bucket(hash(name) % bucket_count) {
+    let first = match table.get_bucket(hash_of_bytes(name) % bucket_count) {
         Ok(first) => first,
         Err(error) => return Err(LinkError::Elf(error)),
     };

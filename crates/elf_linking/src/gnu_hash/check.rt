@@ -8,7 +8,7 @@ ghost use Rattle.xmas_elf.specs.Symbols.{symbols_of};
 
 use crate::LinkError;
 use crate::gnu_hash::lookup::symbol_end;
-use crate::gnu_hash::{GnuHashTable, gnu_hash};
+use crate::gnu_hash::{GnuHashTable, gnu_hash_of_bytes};
 use elf_base::bytes::{Record, Table};
 use xmas_elf::ElfFile;
 use xmas_elf::symbol_table::{Entry, SymbolTable};
@@ -220,9 +220,9 @@ impl<'a> GnuHashTable<'a> {
         if entry.info() / 16 == 0 || entry.shndx() == 0 {
             return true;
         }
-        match symbols.name_of(entry) {
-            Ok(name) => self.is_on_run(index, from, name, symbols),
-            Err(_) => true,
+        match symbols.key_of(entry) {
+            Some(name) => self.is_on_run(index, from, name, symbols),
+            None => true,
         }
     }
 
@@ -231,14 +231,14 @@ impl<'a> GnuHashTable<'a> {
         &self,
         index: usize,
         from: usize,
-        name: &str,
+        name: &[u8],
         symbols: &SymbolTable<'_, E>,
     ) -> bool
         requires below { index < length (table_symbols symbols.now).items }
         requires runs { ComeFrom self.now (table_symbols symbols.now).items from index }
         ensures { IsTrue result ↔ IsHeld self.now (table_symbols symbols.now).items name.now index }
     {
-        let hash = gnu_hash(name);
+        let hash = gnu_hash_of_bytes(name);
         let Some(start) = self.start(hash) else {
             return false;
         };

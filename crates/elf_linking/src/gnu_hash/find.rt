@@ -21,7 +21,7 @@ impl<'a> GnuHashTable<'a> {
     // The symbol that a reference gets, by the name and its hash number.
     pub(crate) fn find_in<E: Entry + Record>(
         &self,
-        name: &str,
+        name: &[u8],
         hash: u32,
         symbols: &SymbolTable<'_, E>,
         versions: &Versions<'_>,

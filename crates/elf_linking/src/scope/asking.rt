@@ -22,8 +22,8 @@ pub enum Asked<'a, E> {
     /// The symbol that a look-up finds. `Scope::answer` says when a reference to a protected symbol
     /// gets that symbol instead.
     Look {
-        /// The name to look up.
-        name: &'a str,
+        /// The bytes of the name to look up, whether or not they are UTF-8.
+        name: &'a [u8],
         /// The version that is wanted.
         wanted: Wanted<'a>,
         /// Who asks.
@@ -40,7 +40,7 @@ impl<'a, E: LinkedSymbol> DynamicObject<'a, E> {
     /// version if its definition or need has a hash number other than 0. Such a version is hidden if
     /// it is a need with bit 15 of its number set.
     ///
-    /// Errors: `SymbolIndex` if there is no such symbol; for a look-up those of `name`, those of
+    /// Errors: `SymbolIndex` if there is no such symbol; for a look-up those of `name_bytes`, those of
     /// `version`, and those of `NamedVersion::name`. A call goes through the definitions and the
     /// needs once at most.
     pub fn asked(&self, reference: &Reference) -> Result<Asked<'a, E>, LinkError>
@@ -52,7 +52,7 @@ impl<'a, E: LinkedSymbol> DynamicObject<'a, E> {
         if binds_to_itself(&symbol) {
             return Ok(Asked::Own(symbol));
         }
-        let name = self.name(reference.symbol)?;
+        let name = self.name_bytes(reference.symbol)?;
         let wanted = wanted_of(self.version(reference.symbol)?)?;
         Ok(Asked::Look {
             name,

@@ -1,7 +1,7 @@
 //! Callers that ask which file's symbol a program gets for a name, by the bytes of its files.
 
 ghost use Rattle.std.specs.Prelude.{◌≡◌, ◌↔◌, IsTrue, Ok, Result, Some, slice_get};
-ghost use Rattle.elf_linking.specs.DynamicObject.{object_name};
+ghost use Rattle.elf_linking.specs.DynamicObject.{object_name_bytes};
 ghost use Rattle.elf_linking.specs.References.{references_left};
 ghost use Rattle.elf_linking.specs.Scope.{AreGood, BindsReference, HasNamedSymbol, scope_objects};
 ghost use Rattle.elf_linking.specs.declared.error.LinkError.{LinkError};
@@ -58,10 +58,10 @@ pub fn loaded_object<E: LinkedSymbol>(bytes: &[u8]) -> Result<DynamicObject<'_, 
 
 // Whether the symbol at an index has a name that can be read and is this.
 fn has_name<E: LinkedSymbol>(object: &DynamicObject<'_, E>, index: u32, name: &str) -> bool
-    ensures { IsTrue result ↔ object_name E.fields object.now index ≡ Ok name.now }
+    ensures { IsTrue result ↔ object_name_bytes E.fields object.now index ≡ Ok name.now }
 {
-    match object.name(index) {
-        Ok(found) => found == name,
+    match object.name_bytes(index) {
+        Ok(found) => found == name.as_bytes(),
         Err(_) => false,
     }
 }

@@ -5,10 +5,12 @@ mod files;
 mod linked;
 mod rules;
 
-use crate::tests::bind::Change::{Definition, Entry, Machine, Name, Other, Unnumbered, With};
+use crate::tests::bind::Change::{
+    Bytes, Definition, Entry, Machine, Name, Other, Unnumbered, With,
+};
 use crate::tests::find::file::{
-    DEFINITIONS, KINDS, Kind, Symbol, add_entry, drop_numbers, find_file, set_name, set_other,
-    set_symbol,
+    DEFINITIONS, KINDS, Kind, Symbol, add_entry, drop_numbers, find_file, set_bytes, set_name,
+    set_other, set_symbol,
 };
 use crate::tests::want::{open, want, want_at};
 use elf_base::ElfError;
@@ -36,6 +38,8 @@ enum Change {
     With(usize, Symbol),
     // `st_other` of the symbol at an index.
     Other(usize, u64),
+    // The name `]\xe6` of all symbols.
+    Bytes,
     // Where the name of the symbol at an index begins.
     Name(usize, u64),
     // A field of the definitions.
@@ -112,6 +116,15 @@ const ORDER: &[Row] = rows! {
     &[2], &[2], &[], (1, 0, 0), Ok(Some((1, 0)));
 };
 
+// Names are compared byte by byte: two that aren't UTF-8, and one with a name of the same hash number.
+const NAMES: &[Row] = rows! {
+    &[2], &[2], &[(0, Bytes), (1, Bytes)], (1, 0, 1), Ok(Some((0, 1)));
+    &[3], &[2], &[(0, Bytes), (1, Bytes)], (1, 0, 1), Ok(Some((1, 1)));
+    &[2], &[2], &[(0, Bytes)], (1, 0, 1), Ok(Some((1, 1)));
+    &[2], &[2], &[(1, Bytes)], (0, 0, 1), Ok(Some((0, 1)));
+    &[3], &[2], &[(0, Bytes), (1, Bytes), (0, UNDEFINED), (1, Machine(62))], (1, 7, 1), Ok(Some((1, 1)));
+};
+
 const VERSIONS: &[Row] = rows! {
     // a version that a library is needed for, hidden or not
     &[3], &[4], &[], (1, 0, 1), Ok(Some((1, 1)));
@@ -180,6 +193,7 @@ fn make_change(file: &mut [u8], kind: Kind, change: Change) {
         Entry(tag, number) => add_entry(file, kind, (tag, number)),
         With(index, symbol) => set_symbol(file, kind, index, symbol),
         Other(index, other) => set_other(file, kind, index, other),
+        Bytes => set_bytes(file),
         Name(index, name) => set_name(file, kind, index, name),
         Definition(field) => set_fields(file, DEFINITIONS, &[field], kind.1),
         Unnumbered => drop_numbers(file, kind),
@@ -245,7 +259,7 @@ fn answer(rt: &impl Abort, kind: Kind, row: Row) -> Answer {
 
 #[test]
 fn binds_a_reference(rt: HostRuntime) {
-    for (table, rows) in [ORDER, VERSIONS, USES, FAILED].iter().enumerate() {
+    for (table, rows) in [ORDER, NAMES, VERSIONS, USES, FAILED].iter().enumerate() {
         for (index, &row) in rows.iter().enumerate() {
             for &kind in KINDS {
                 want_at(&rt, (table, index, kind), answer(&rt, kind, row), row.4);

@@ -26,7 +26,7 @@ pub const PAGE: u64 = 128;
 pub const MARKS: usize = SIZE / 8;
 
 // The program headers of the load and of the dynamic segment, of class 64.
-const LOAD: usize = 64;
+pub const LOAD: usize = 64;
 
 const DYNAMIC: usize = 120;
 
@@ -35,7 +35,7 @@ const RELA: usize = 0x348;
 
 const RELA_SIZE: usize = 0x358;
 
-const RELA_EACH: usize = 0x368;
+pub const RELA_EACH: usize = 0x368;
 
 const SLOTS: usize = 0x378;
 
@@ -67,23 +67,23 @@ const ENTRIES_64: &[(u64, u64)] = &[
     (3, 0),
 ];
 
-const WIDE: Place = Place(0, 8);
+pub const WIDE: Place = Place(0, 8);
 
 const TAG: Place = Place(0, 8);
 
 // The first and the second relocation, and the slot: the address, and the type.
-const FIRST: usize = TABLE;
+pub const FIRST: usize = TABLE;
 
 pub const SECOND: usize = TABLE + 24;
 
-const SLOT: usize = TABLE + 48;
+pub const SLOT: usize = TABLE + 48;
 
 pub const KIND: Place = Place(8, 4);
 
 pub const SYMBOL: Place = Place(12, 4);
 
 // The packed relocation.
-const ADDRESS: usize = TABLE + 96;
+pub const ADDRESS: usize = TABLE + 96;
 
 // The size of the symbol that is copied, and the number of buckets.
 const SYMBOL_SIZE: usize = 0x138 + 16;

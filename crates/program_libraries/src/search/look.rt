@@ -133,7 +133,7 @@ impl<'f> Search<'f> {
         match open(rt, root, &path, (self.class, self.machine), files)? {
             Opened::Absent | Opened::PassedOver => Ok(Attempt::Next),
             Opened::Failed => {
-                if candidate.subdirectory().is_empty() && is_in_folder(rt, root, &path) {
+                if leaves_list(rt, root, candidate, &path) {
                     return Ok(Attempt::LeaveList);
                 }
                 Ok(Attempt::Next)
@@ -154,6 +154,13 @@ fn path_of(alloc: Global, candidate: &Candidate<'_>) -> Result<Vec<u8>, AllocErr
         bytes.push(byte)?;
     }
     Ok(bytes)
+}
+
+// Whether the rest of its list is left out after a candidate that can't be opened. A path without a search has no list.
+fn leaves_list(rt: &HostRuntime, root: &str, candidate: &Candidate<'_>, path: &str) -> bool {
+    candidate.how() != How::Itself
+        && candidate.subdirectory().is_empty()
+        && is_in_folder(rt, root, path)
 }
 
 // Whether the folder of a path is there. The current directory is.

@@ -195,6 +195,53 @@ fn lists_come_in_order(rt: HostRuntime) -> Result<(), AllocError> {
     Ok(())
 }
 
+// The subdirectories that `ld.so` of class 32 tries on a processor of x86-64.
+const OLD: &[&[u8]] = &[
+    b"tls/i686/sse2/",
+    b"tls/i686/",
+    b"tls/sse2/",
+    b"tls/",
+    b"i686/sse2/",
+    b"i686/",
+    b"sse2/",
+    b"",
+];
+
+// It prints these for a library with this DT_RUNPATH.
+#[test]
+fn a_loader_of_class_32_tries_folders_by_processor(rt: HostRuntime) -> Result<(), AllocError> {
+    let chain = [Asker {
+        r_path: None,
+        run_path: Some(b"/t/x:lib"),
+        values: PROGRAM,
+        no_default: false,
+    }];
+    let around = Surroundings {
+        subdirectories: OLD,
+        ..NOTHING
+    };
+    let found = lines(rt.alloc(), Candidates::new(b"libnone.so", &chain, &around))?;
+    let wanted: &[u8] = b"/t/x/tls/i686/sse2/libnone.so
+/t/x/tls/i686/libnone.so
+/t/x/tls/sse2/libnone.so
+/t/x/tls/libnone.so
+/t/x/i686/sse2/libnone.so
+/t/x/i686/libnone.so
+/t/x/sse2/libnone.so
+/t/x/libnone.so
+lib/tls/i686/sse2/libnone.so
+lib/tls/i686/libnone.so
+lib/tls/sse2/libnone.so
+lib/tls/libnone.so
+lib/i686/sse2/libnone.so
+lib/i686/libnone.so
+lib/sse2/libnone.so
+lib/libnone.so
+";
+    want_at(&rt, "paths", found.as_slice(), wanted);
+    Ok(())
+}
+
 #[test]
 fn a_name_with_a_slash_is_the_path(rt: HostRuntime) -> Result<(), AllocError> {
     let around = Surroundings {

@@ -99,6 +99,21 @@ const CASES: &[Case] = &[
         list: &[0, 2, 1],
         starts: &[2, 1],
     },
+    // of four auxiliary entries one finds a new library, the next that library by its soname, which stays where it is, and
+    // the others nothing, as those of a file that is missing or no library
+    Case {
+        entries: 2,
+        found: &[
+            ((0, 0), Found::New(4)),
+            ((0, 1), Found::New(0)),
+            ((1, 0), Found::NewBefore(0)),
+            ((1, 1), Found::KnownBefore(3)),
+            ((1, 2), Found::Missing),
+            ((1, 3), Found::Missing),
+        ],
+        list: &[0, 3, 1, 2],
+        starts: &[2, 3, 1],
+    },
 ];
 
 // Answers an entry.

@@ -13,13 +13,13 @@ ghost use Rattle.xmas_elf.specs.Symbols.{symbols_of};
 mod lent;
 
 use crate::bytes::{Record, Table};
-use crate::hash::{HashTable, hash};
+use crate::hash::{HashTable, hash_of_bytes};
 use crate::symbol_table::{Entry, SymbolTable};
 use crate::{ElfError, ElfFile};
 
 // The name of a symbol that isn't local.
 #[inline(always)]
-fn global_name<'a, E: Entry + Record>(entry: &E, symbols: &SymbolTable<'a, E>) -> Option<&'a str>
+fn global_name<'a, E: Entry + Record>(entry: &E, symbols: &SymbolTable<'a, E>) -> Option<&'a [u8]>
     ensures { let all = table_symbols symbols.now in MatchOption result
         ((all.fields entry.now).info / 16 ≢ 0 → all.text entry.now ≡ None)
         (λ name. ((all.fields entry.now).info / 16 ≢ 0) × (all.text entry.now ≡ Some name.now)) }
@@ -27,12 +27,12 @@ fn global_name<'a, E: Entry + Record>(entry: &E, symbols: &SymbolTable<'a, E>) -
     if entry.info() / 16 == 0 {
         return None;
     }
-    symbols.name_of(entry).ok()
+    symbols.key_of(entry)
 }
 
 // The name of the symbol at an index, unless the symbol is local.
 #[inline(always)]
-fn name_at<'a, E: Entry + Record>(index: usize, symbols: &SymbolTable<'a, E>) -> Option<&'a str>
+fn name_at<'a, E: Entry + Record>(index: usize, symbols: &SymbolTable<'a, E>) -> Option<&'a [u8]>
     requires { 0 < index }
     ensures { let all = table_symbols symbols.now in MatchOption result
         (¬ MustBeHeld all index) (λ name. (e : E) × IsGlobal all index e name.now) }
@@ -274,7 +274,7 @@ impl<'a> HashTable<'a> {
     {
         let bucket_count = self.bucket_count();
         match global_name(entry, symbols) {
-            Some(name) => hash(name) % bucket_count == bucket,
+            Some(name) => hash_of_bytes(name) % bucket_count == bucket,
             None => false,
         }
     }
@@ -388,7 +388,7 @@ impl<'a> HashTable<'a> {
     // Whether an index is in the chain of a name, if all chains end.
     fn reaches<E: Entry + Record>(
         &self,
-        name: &str,
+        name: &[u8],
         index: usize,
         symbols: &SymbolTable<'_, E>,
     ) -> bool

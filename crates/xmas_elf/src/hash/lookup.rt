@@ -158,7 +158,7 @@ impl<'a> HashTable<'a> {
             → LooksWhere (IsMatchWhere all F.Fn f.now name.now) self.now all.items name.now
             result.0 result.1 }
     {
-        let first = match self.start(name) {
+        let first = match self.start(name.as_bytes()) {
             None => return (Ok(None), 0),
             Some(Ok(first)) => first,
             Some(Err(error)) => return (Err(error), 0),

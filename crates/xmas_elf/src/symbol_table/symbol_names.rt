@@ -7,16 +7,18 @@ ghost use Rattle.elf_base.specs.Lent.{Answers};
 use crate::symbol_table::Entry;
 use crate::{ElfError, ElfFile};
 
-// Where names are read: in a string table, or the error for it; or in the file, if they are not
-// texts of one table.
+// Where names are read: as texts in a string table, or the error for it; as bytes in a string table,
+// whether or not they are UTF-8; or in the file, if they are not texts of one table.
 #[derive(Drop)]
 pub enum Names<'a> {
     Strings(Result<&'a [u8], ElfError>),
+    Bytes(&'a [u8]),
     File(ElfFile<'a>),
 }
 
 impl<'a> Names<'a> {
-    ghost use Rattle.xmas_elf.specs.NamedSymbols.{strings_by, text_by};
+    ghost use Rattle.std.specs.Prelude.{false};
+    ghost use Rattle.xmas_elf.specs.NamedSymbols.{are_bytes, strings_by, text_by};
 
     // Where the names of symbols of a type are read in a file.
     #[inline(always)]
@@ -26,6 +28,7 @@ impl<'a> Names<'a> {
         ensures says { IfSome (E.strings_in file.now)
             (λ table. IsSomeAnd (strings_by result) (Answers table)) }
         ensures place { IfSome (strings_by result) (λ found. IfOk found (E.strings_lie file.now)) }
+        ensures as_texts { are_bytes result ≡ false }
     {
         match E::string_table(file) {
             Some(found) => Names::Strings(found),

@@ -2,21 +2,21 @@
 
 ghost use Rattle.std.specs.Prelude.{◌≡◌, ◌↔◌, ◌<◌, ◌≤◌, ◌+◌, ◌^◌, IfOk, IfSome, IsNone, IsSomeAnd, IsTrue};
 ghost use Rattle.std.specs.Prelude.{Err, IsOkAnd, MatchOption, MatchResult, None, Ok, Some};
-ghost use Rattle.std.specs.Prelude.{length, slice_get};
+ghost use Rattle.std.specs.Prelude.{false, length, option_map, slice_get, true};
 ghost use Rattle.std.specs.Result.{result_ok};
 ghost use Rattle.std.specs.Str.{IsUtf8};
 ghost use Rattle.elf_base.specs.Lent.{Answers};
 ghost use Rattle.xmas_elf.specs.NamedSymbols.{TextBy, TextBy-prop};
 ghost use Rattle.xmas_elf.specs.SymbolName.{name_in_table};
 ghost use Rattle.xmas_elf.specs.SymbolRange.{symbol_range_of};
-ghost use Rattle.xmas_elf.specs.Symbols.{named_symbols, symbols_of};
+ghost use Rattle.xmas_elf.specs.Symbols.{named_symbols, symbols_by_bytes, symbols_of};
 
 use crate::bytes::{Record, Table, TableIter, bytes_up_to_zero, text_at};
 use crate::symbol_table::Entry;
 use crate::symbol_table::file_ranges::symbol_range;
 use crate::symbol_table::symbol_names::Names;
 use crate::{ElfError, ElfFile};
-use elf_base::bytes::is_found_at;
+use elf_base::bytes::{has_bytes_at, is_found_at};
 
 /// A symbol table with the names of its symbols: the table, and the string table of the names, or
 /// the file if names are not texts of one table.
@@ -29,9 +29,10 @@ pub struct SymbolTable<'a, E: Entry + Record> {
 
 impl<'a, E: Entry + Record> SymbolTable<'a, E> {
     ghost use Rattle.elf_base.specs.Table.{table_items, table_rest};
-    ghost use Rattle.elf_base.specs.Text.{TextIfUtf8, lent_text};
-    ghost use Rattle.xmas_elf.specs.SymbolTable.{AreNameBytes, LieAsNameBytes, carried_strings};
-    ghost use Rattle.xmas_elf.specs.SymbolTable.{carried_table, table_symbols};
+    ghost use Rattle.elf_base.specs.Text.{lent_text};
+    ghost use Rattle.xmas_elf.specs.SymbolTable.{AreNameBytes, IsNoText, LieAsNameBytes, NameIf};
+    ghost use Rattle.xmas_elf.specs.SymbolTable.{carried_strings, carried_table, carries_bytes};
+    ghost use Rattle.xmas_elf.specs.SymbolTable.{table_symbols};
 
     /// The symbols of a table of this file; their string table is found by `Entry::string_table`.
     #[inline(always)]
@@ -43,6 +44,7 @@ impl<'a, E: Entry + Record> SymbolTable<'a, E> {
             (λ strings. IsSomeAnd (carried_strings result) (Answers strings)) }
         ensures place { IfSome (carried_strings result)
             (λ found. IfOk found (E.strings_lie file.now)) }
+        ensures as_texts { carries_bytes result ≡ false }
     {
         Self {
             table,
@@ -58,10 +60,27 @@ impl<'a, E: Entry + Record> SymbolTable<'a, E> {
             ≡ named_symbols E.fields strings.now table.entry }
         ensures table { carried_table result ≡ table.entry }
         ensures strings { carried_strings result ≡ Some (Ok strings.entry) }
+        ensures as_texts { carries_bytes result ≡ false }
     {
         Self {
             table,
             names: Names::Strings(Ok(strings)),
+        }
+    }
+
+    /// The symbols of a table with the bytes of their names in this string table, whether or not they
+    /// are UTF-8: a look-up or a check compares names as bytes, as dynamic linkers do.
+    #[inline(always)]
+    pub fn with_byte_names(table: Table<'a, E>, strings: &'a [u8]) -> Self
+        ensures symbols { table_symbols result
+            ≡ symbols_by_bytes E.fields strings.now table.entry }
+        ensures table { carried_table result ≡ table.entry }
+        ensures strings { carried_strings result ≡ Some (Ok strings.entry) }
+        ensures as_bytes { carries_bytes result ≡ true }
+    {
+        Self {
+            table,
+            names: Names::Bytes(strings),
         }
     }
 
@@ -88,6 +107,7 @@ impl<'a, E: Entry + Record> SymbolTable<'a, E> {
     {
         match &self.names {
             Names::Strings(found) => Some(*found),
+            Names::Bytes(strings) => Some(Ok(*strings)),
             Names::File(_) => None,
         }
     }
@@ -118,7 +138,7 @@ impl<'a, E: Entry + Record> SymbolTable<'a, E> {
             (IsNone result)
             (λ symbol. IsSomeAnd result (λ found. MatchResult found
             (λ name. (table_symbols self.now).text symbol ≡ Some name.now)
-            (λ _. (table_symbols self.now).text symbol ≡ None))) }
+            (λ _. IsNoText (carries_bytes self.now) ((table_symbols self.now).text symbol)))) }
         ensures exact { IfSome (carried_strings self.now) (λ strings.
             IfSome (slice_get (table_symbols self.now).items index) (λ symbol.
             IsSomeAnd result (Answers (name_in_table strings (E.fields symbol).name)))) }
@@ -135,12 +155,13 @@ impl<'a, E: Entry + Record> SymbolTable<'a, E> {
     pub fn name_of(&self, symbol: &E) -> Result<&'a str, ElfError>
         ensures text { MatchResult result
             (λ name. (table_symbols self.now).text symbol.now ≡ Some name.now)
-            (λ _. (table_symbols self.now).text symbol.now ≡ None) }
+            (λ _. IsNoText (carries_bytes self.now) ((table_symbols self.now).text symbol.now)) }
         ensures exact { IfSome (carried_strings self.now)
             (λ found. Answers (name_in_table found (E.fields symbol.now).name) result) }
     {
         match &self.names {
             Names::Strings(found) => text_in(*found, symbol.name()),
+            Names::Bytes(strings) => text_at(strings, symbol.name() as usize),
             Names::File(file) => symbol.get_name(file),
         }
     }
@@ -152,7 +173,8 @@ impl<'a, E: Entry + Record> SymbolTable<'a, E> {
         ensures texts { MatchOption (slice_get (table_symbols self.now).items index)
             (IsNone result)
             (λ symbol. IsSomeAnd result
-            (TextIfUtf8 (λ name. (table_symbols self.now).text symbol ≡ Some name))) }
+            (NameIf (carries_bytes self.now)
+            (λ name. (table_symbols self.now).text symbol ≡ Some name))) }
         ensures place { IfSome (slice_get (table_symbols self.now).items index)
             (λ symbol. IfSome result (LieAsNameBytes self.now symbol)) }
         ensures exact { MatchOption (slice_get (table_symbols self.now).items index)
@@ -170,7 +192,7 @@ impl<'a, E: Entry + Record> SymbolTable<'a, E> {
     /// of `Entry::get_name`, if names are not texts of one table.
     #[inline(always)]
     pub fn name_bytes_of(&self, symbol: &E) -> Result<&'a [u8], ElfError>
-        ensures texts { TextIfUtf8
+        ensures texts { NameIf (carries_bytes self.now)
             (λ name. (table_symbols self.now).text symbol.now ≡ Some name) result }
         ensures place { LieAsNameBytes self.now symbol.now result }
         ensures as_text { IfSome (carried_strings self.now) (λ found.
@@ -182,6 +204,7 @@ impl<'a, E: Entry + Record> SymbolTable<'a, E> {
                 Ok(strings) => bytes_up_to_zero(strings, symbol.name() as usize),
                 Err(error) => Err(error),
             },
+            Names::Bytes(strings) => bytes_up_to_zero(strings, symbol.name() as usize),
             Names::File(file) => bytes_of(symbol.get_name(file)),
         }
     }
@@ -215,6 +238,18 @@ impl<'a, E: Entry + Record> SymbolTable<'a, E> {
         }
     }
 
+    /// The bytes of a symbol's name by which look-ups and checks know it: those of its text, or of
+    /// its name where names are bytes. `None` if it has none.
+    #[inline(always)]
+    pub fn key_of(&self, symbol: &E) -> Option<&'a [u8]>
+        ensures { option_map (λ name. name.now) result ≡ (table_symbols self.now).text symbol.now }
+    {
+        match &self.names {
+            Names::Bytes(strings) => bytes_up_to_zero(strings, symbol.name() as usize).ok(),
+            _ => bytes_of(self.name_of(symbol)).ok(),
+        }
+    }
+
     /// Whether a symbol has this name, which is compared in place.
     #[inline(always)]
     pub fn has_name(&self, symbol: &E, name: &str) -> bool
@@ -225,7 +260,18 @@ impl<'a, E: Entry + Record> SymbolTable<'a, E> {
                 Ok(strings) => is_found_at(strings, symbol.name() as usize, name),
                 Err(_) => false,
             },
-            Names::File(file) => matches!(symbol.get_name(file), Ok(text) if text == name),
+            _ => self.has_key(symbol, name.as_bytes()),
+        }
+    }
+
+    /// Whether a symbol has a name of these bytes.
+    #[inline(always)]
+    pub fn has_key(&self, symbol: &E, name: &[u8]) -> bool
+        ensures { IsTrue result ↔ ((table_symbols self.now).text symbol.now ≡ Some name.now) }
+    {
+        match &self.names {
+            Names::Bytes(strings) => has_bytes_at(strings, symbol.name() as usize, name),
+            _ => matches!(self.key_of(symbol), Some(found) if found == name),
         }
     }
 }

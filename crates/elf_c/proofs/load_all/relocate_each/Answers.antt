@@ -33,7 +33,7 @@ returns-in-Err-clause-exact g c =
     let below = c.loop-done-test.true in
     let less : c.loop-done.done < length (loaded_plans c.args.planned.now).now = omega (arith, below, count) in
     let place : length c.plans-plans.result.now - 1 - c.loop-done.done ≡ length (loaded_plans c.args.planned.now).now - 1 - c.loop-done.done = omega (arith, count) in
-    one_failed (length c.plans-plans.result.now - 1 - c.loop-done.done) c.loop-done.memory c.loop-done.left c.in-Err.error (omega (arith, less, place))
+    one_failed (length c.plans-plans.result.now - 1 - c.loop-done.done) c.loop-done.memory c.loop-done.left c.in-Err.found (omega (arith, less, place))
     (each_before g.E.Entry.fields (loaded_objects c.args.planned.now) (loaded_plans c.args.planned.now) c.args.when c.args.places.now c.args.memory.now c.loop-done.done (length c.plans-plans.result.now - 1 - c.loop-done.done) c.loop-done.memory c.loop-done.left less place c.loop-done.invariant.made)
     c.in-Err.ensures.exact (search rules)
 

@@ -33,8 +33,8 @@ returns-clause-exact g c =
     let there = slice_get_read c.plans-plans.result.now (length c.plans-plans.result.now) c.args.of c.index-plans-of.result refl (subst (λ lent. c.args.of < length lent.now) same c.requires.below) c.index-plans-of.is in
     let size = image_size c.plans-plans.result.now c.args.of c.size_of-size.result (length c.split_at_mut-image.result.0.now) c.index-plans-of.result there c.size_of-size.ensures c.split_at_mut-image.ensures.front_len in
     image_relocated g.E.Entry.fields (loaded_objects c.args.planned.now) (loaded_plans c.args.planned.now) c.args.when c.args.of c.args.places _ c.args.memory.now c.split_at_mut-front.result.0.now c.split_at_mut-front.result.1.now
-    c.split_at_mut-image.result.0.now c.relocate.new.image c.split_at_mut-image.result.1.now c.relocate.result (take (length c.plans-plans.result.now) c.shown-images.result)
+    c.split_at_mut-image.result.0.now c.write_words.new.image c.split_at_mut-image.result.1.now c.write_words.result (take (length c.plans-plans.result.now) c.shown-images.result)
     c.split_at_mut-front.ensures.value c.split_at_mut-image.ensures.value (c.split_at_mut-front.ensures.front_len ∙ c.requires.begin)
-    (subst (λ lent. length c.split_at_mut-image.result.0.now ≡ size_at lent.now c.args.of) c.plans-plans.ensures size) c.relocate.ensures.exact c.relocate.ensures.once c.relocate.ensures.errors
+    (subst (λ lent. length c.split_at_mut-image.result.0.now ≡ size_at lent.now c.args.of) c.plans-plans.ensures size) c.write_words.ensures.exact c.write_words.ensures.once c.write_words.ensures.errors c.write_words.ensures.first
     (subst (λ lent. AreShown lent.now c.args.of c.split_at_mut-image.result.1.now (take (length c.plans-plans.result.now) c.shown-images.result)) c.plans-plans.ensures c.shown-images.ensures)
     (search rules)

@@ -14,5 +14,5 @@ returns-in-Err-plans_of g c =
 pub returns : goal.returns
 returns g c =
     checked_by g.E.LinkedSymbol.CLASS g.E.Record.SIZE g.E.Entry.fields c.args.loads.now c.args.of c.args.page c.args.limit (loaded_objects c.new-planned.result)
-    (take (length c.args.loads.now) c.in-Ok.objects.all) c.in-Ok.ensures (search rules) (loaded_plans c.new-planned.result) (take (length c.args.loads.now) c.in-Ok-plans_of.plans.all) (search rules) (search rules) _ c.check_image.result c.as_failure.result
-    c.check_image.ensures.exact c.as_failure.ensures
+    (take (length c.args.loads.now) c.in-Ok.objects.all) c.in-Ok.ensures (search rules) (loaded_plans c.new-planned.result) (take (length c.args.loads.now) c.in-Ok-plans_of.plans.all) (search rules) (search rules) _ c.check_words.result c.as_failure.result
+    c.check_words.ensures.exact c.check_words.ensures.first c.as_failure.ensures

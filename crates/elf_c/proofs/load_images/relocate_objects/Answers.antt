@@ -14,5 +14,5 @@ returns-in-Err-plans_of-clause-exact g c =
 pub returns-clause-exact : goal.returns-clause-exact
 returns-clause-exact g c =
     relocated_by g.E.LinkedSymbol.CLASS g.E.Record.SIZE g.E.Entry.fields c.args.loads.now c.args.of c.args.page c.args.limit (loaded_objects c.new-planned.result)
-    (take (length c.args.loads.now) c.in-Ok.objects.all) c.in-Ok.ensures (search rules) (loaded_plans c.new-planned.result) (take (length c.args.loads.now) c.in-Ok-plans_of.plans.all) (search rules) (search rules) c.args.when c.args.image.now c.relocate-answer.new.image
-    c.relocate-answer.result c.as_failure.result _ _ c.relocate-answer.ensures.exact c.relocate-answer.ensures.once c.relocate-answer.ensures.errors (search rules) (search rules) c.as_failure.ensures
+    (take (length c.args.loads.now) c.in-Ok.objects.all) c.in-Ok.ensures (search rules) (loaded_plans c.new-planned.result) (take (length c.args.loads.now) c.in-Ok-plans_of.plans.all) (search rules) (search rules) c.args.when c.args.image.now c.write_words-answer.new.image
+    c.write_words-answer.result c.as_failure.result _ _ c.write_words-answer.ensures.exact c.write_words-answer.ensures.once c.write_words-answer.ensures.errors c.write_words-answer.ensures.first (search rules) (search rules) c.as_failure.ensures

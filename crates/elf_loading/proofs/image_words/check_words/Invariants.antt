@@ -10,7 +10,7 @@ use Rattle.elf_loading.proofs.image_words.check_words.Given as goal
 abbrev pub invariant-loop-relocation : goal.invariant-loop-relocation
 invariant-loop-relocation g l = record {
   len : length l.marks ≡ length l.fn.marks;
-  so_far : AreCheckedSoFar g.E.Entry.fields (plan_loads l.room.plan.now) l.room.text l.room.tables l.room.start l.fn.words l.words l.marks;
+  so_far : AreCheckedSoFar g.E.Entry.fields (plan_loads l.room.plan.now) l.room.text l.room.tables l.room.start l.fn.words l.words l.marks l.index;
   last : IfSome l.last (HasWordOf g.E.Entry.fields l.words);
   holder : IfSome l.holder (IsKnown (plan_loads l.room.plan.now) l.room.tables);
 }

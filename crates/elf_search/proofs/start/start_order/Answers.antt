@@ -1,4 +1,5 @@
 use Rattle.std.proofs.Common.{arith}
+use Rattle.elf_search.proofs.StartOrder.{needs_first}
 use Rattle.elf_search.proofs.Starting.{program_marked, starts_front}
 use Rattle.elf_search.proofs.start.start_order.Goals as goal
 
@@ -7,3 +8,6 @@ visit_list-requires-clause-program c = program_marked c.args.order.now.count c.c
 
 pub returns-clause-starts : goal.returns-clause-starts
 returns-clause-starts c = starts_front c.args.order.now c.visit_list.result c.visit_list.new.written _ (omega (arith, c.visit_list.ensures.few)) c.visit_list.ensures.starts
+
+pub returns-clause-needs : goal.returns-clause-needs
+returns-clause-needs c = needs_first c.args.order.now _ (starts_front c.args.order.now c.visit_list.result c.visit_list.new.written _ (omega (arith, c.visit_list.ensures.few)) c.visit_list.ensures.starts)

@@ -1,7 +1,8 @@
 use Rattle.std.proofs.Common.{◌≡◌, ◌<◌, ◌&&◌, not, length, Ok, ap, ◌∙◌, arith, slice_get}
 use Rattle.std.specs.Prelude.{option_map}
 use Rattle.elf_linking.specs.CheckedScope.{bound_fields}
-use Rattle.elfbind.specs.Bindings.{is_weak, line_text, path_in, shown_text, target_of}
+use Rattle.elf_linking.specs.CheckedBindings.{is_weak}
+use Rattle.elfbind.specs.Bindings.{line_text, path_in, shown_text, target_of}
 use Rattle.elfbind.specs.declared.bindings.Target.{Target}
 use Rattle.elfbind.proofs.AskedLines.{asked_error, from_within, has_line, look_line, own_line}
 use Rattle.elfbind.proofs.bindings.write_item.Goals as goal

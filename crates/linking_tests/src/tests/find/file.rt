@@ -84,6 +84,11 @@ pub fn set_name(file: &mut [u8], kind: Kind, index: usize, name: u64) {
     set(file, start, Place(0, 4), name, kind.1);
 }
 
+/// Writes `]\xe6` in place of `ab`, which isn't UTF-8 and has the same hash number of GNU's table.
+pub fn set_bytes(file: &mut [u8]) {
+    put(file, STRINGS.wrapping_add(1), b"]\xe6");
+}
+
 fn set_words(file: &mut [u8], start: usize, words: &[u64], order: Order) {
     for (k, word) in words.iter().enumerate() {
         set(file, start, Place(k.wrapping_mul(4), 4), *word, order);

@@ -292,7 +292,7 @@ impl<'a> HashTable<'a> {
     // Whether the links from the bucket of a name lead to an index.
     fn comes_to<E: Entry + Record>(
         &self,
-        name: &str,
+        name: &[u8],
         index: u32,
         symbols: &SymbolTable<'_, E>,
         words: &mut [u32],

@@ -23,7 +23,7 @@ returns-in-Err g c =
     let versions = version_list c.args.versions.now in
     let some : bucket_count_of c.args.table.now ≡ 0 → ⊥ = λ none. c.if-bucket_count-eq0.false (cc) in
     let start : start_of c.args.table.now c.args.name.now ≡ Some (bucket_of c.args.table.now (hash_number c.args.name.now % bucket_count_of c.args.table.now)) = start_some c.args.table.now c.args.name.now some in
-    let hash : c.hash.result ≡ hash_number c.args.name.now = c.hash.ensures.number in
+    let hash : c.hash_of_bytes.result ≡ hash_number c.args.name.now = c.hash_of_bytes.ensures.number in
     let exact = c.get_bucket.ensures.exact in
     let failed : start_of c.args.table.now c.args.name.now ≡ Some (Err c.in-Err.error) = cc in
     faulty (Elf c.in-Err.error) (seeks_bad_bucket c.args.table.now symbols versions c.args.name.now c.in-Err.error failed
@@ -33,7 +33,7 @@ pub loop-index-init : goal.loop-index-init
 loop-index-init g c =
     let some : bucket_count_of c.args.table.now ≡ 0 → ⊥ = λ none. c.if-bucket_count-eq0.false (cc) in
     let start : start_of c.args.table.now c.args.name.now ≡ Some (bucket_of c.args.table.now (hash_number c.args.name.now % bucket_count_of c.args.table.now)) = start_some c.args.table.now c.args.name.now some in
-    let hash : c.hash.result ≡ hash_number c.args.name.now = c.hash.ensures.number in
+    let hash : c.hash_of_bytes.result ≡ hash_number c.args.name.now = c.hash_of_bytes.ensures.number in
     let exact = c.get_bucket.ensures.exact in
     record {
       in_chains = omega arith;

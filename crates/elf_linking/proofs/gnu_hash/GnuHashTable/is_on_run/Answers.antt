@@ -32,10 +32,10 @@ returns-in-Ok g c =
     let starts : start_of c.args.self.now c.args.name.now ≡ Some c.in-Some.start = cc in
     let word : HasChain c.args.self.now c.args.index = c.in-Ok.ensures.readable.0 refl in
     let same : c.in-Ok.word ≡ chain_word c.args.self.now c.args.index = c.in-Ok.ensures.value in
-    let number : c.gnu_hash-hash.result ≡ gnu_hash_number c.args.name.now = c.gnu_hash-hash.ensures in
+    let number : c.gnu_hash_of_bytes-hash.result ≡ gnu_hash_number c.args.name.now = c.gnu_hash_of_bytes-hash.ensures in
     let below : c.args.index < symbol_end items = omega arith in (
       λ yes.
-          let equal : c.in-Ok.word / 2 ≡ c.gnu_hash-hash.result / 2 = eqb-true _ _ yes in
+          let equal : c.in-Ok.word / 2 ≡ c.gnu_hash_of_bytes-hash.result / 2 = eqb-true _ _ yes in
           record {
             from = c.in-Some.start;
             starts = starts;

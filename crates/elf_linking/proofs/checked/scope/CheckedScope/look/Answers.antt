@@ -6,7 +6,7 @@ use Rattle.elf_linking.proofs.checked.scope.CheckedScope.look.Goals as goal
 
 pub returns-in-None : goal.returns-in-None
 returns-in-None g c =
-    c.find.ensures ∙ sym (bound_for_look g.E.Entry.fields c.args.self.now c.args.from c.args.index c.args.name c.args.use_ c.args.wanted.now)
+    c.find_bytes.ensures ∙ sym (bound_for_look g.E.Entry.fields c.args.self.now c.args.from c.args.index c.args.name c.args.use_ c.args.wanted.now)
     ∙ ap (λ (own : Option g.row.E.Denot). bound_for c.args.self.now c.args.from c.args.index (asked_fields g.E.Entry.fields (Look c.args.name c.args.wanted.now c.args.use_ own))) (sym c.in-None.is)
 
 pub returns-in-Some : goal.returns-in-Some

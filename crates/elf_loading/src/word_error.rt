@@ -1,0 +1,13 @@
+//! Which relocation has an error.
+
+use crate::LoadError;
+
+/// Why the words of an object can't be written, and which relocation has the error.
+#[derive(Clone, Copy, Debug, PartialEq, Eq)]
+pub struct WordError {
+    /// The error.
+    pub error: LoadError,
+    /// The index of the relocation in the order of `Words`; `None` if the error is not that of a
+    /// relocation.
+    pub relocation: Option<u64>,
+}
