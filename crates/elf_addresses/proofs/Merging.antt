@@ -12,7 +12,7 @@ use Rattle.std.proofs.lemmas.List.Elements.{All-append, All-cons, All-nil}
 use Rattle.std.proofs.lemmas.List.Sorted.{ranks_by, sorted_far, sum_by-IsPermutation}
 use Rattle.std.proofs.lemmas.List.Sums.{sum_by-append, sum_by-cons, sum_by-le-sum_by, sum_by-take-le, sum_by_more}
 use Rattle.std.proofs.lemmas.Option.{get_or_from_slice_get, none-some, same_Some, slice_get-get_or, slice_get_cases, slice_get_within}
-use Rattle.elf_addresses.specs.Differences.{AreDifferences, AreMerged, IsChange, IsMatch, all_sizes, change_of, change_order, distance, first_of, growth, have_one_name, name_order, new_size, news_of, old_size, olds_of, part_order, shown, shrinkage}
+use Rattle.elf_addresses.specs.Differences.{AreDifferences, AreMerged, IsChange, all_sizes, change_of, change_order, distance, first_of, growth, have_one_name, name_order, new_size, news_of, old_size, olds_of, part_order, shown, shrinkage}
 use Rattle.elf_addresses.specs.declared.difference.Change.{Change}
 use Rattle.elf_addresses.specs.declared.difference.Change.TheVariants.{Both, Gone, New}
 use Rattle.elf_addresses.specs.declared.difference.SizedPart.{SizedPart}

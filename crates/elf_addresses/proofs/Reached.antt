@@ -2,7 +2,7 @@
 use Rattle.std.proofs.Common.{◌≡◌, ℕ, ◌<◌, ◌≤◌, ◌+◌, ◌==◌, ◌||◌, min, nat_le, zero, suc, List, length, get_or, set, ◌⊎◌, inl, inr, refl, ap, subst, sym, ◌∙◌, arith, get_or-set_other, get_or-set_same}
 use Rattle.std.proofs.lemmas.Bool.{cases_Bool, cases_eq, cases_lt, eqb-true, lt-ltb, le-ltb}
 use Rattle.std.proofs.lemmas.Grind.{common_steps}
-use Rattle.elf_linking.specs.GnuHash.{bucket_count_of, bucket_word, first_symbol_of}
+use Rattle.elf_linking.specs.GnuHash.{gnu_bucket_count, bucket_word, first_symbol_of}
 use Rattle.elf_linking.specs.declared.gnu_hash.GnuHashTable.{GnuHashTable}
 use Rattle.elf_addresses.specs.Reached.{AreReached, AreStarts, GoesOn, IsLeast, Reaches, Starts, earlier, start_word, with_start}
 
@@ -41,7 +41,7 @@ start_large : (table : GnuHashTable) (b : ℕ) → first_symbol_of table ≤ buc
 start_large table b more = rw (le-ltb (bucket_word table b) (first_symbol_of table) more) refl
 
 -- the run of a bucket with such a word begins there
-starts_there : (table : GnuHashTable) (b i : ℕ) → b < bucket_count_of table → 0 < i → start_word table b ≡ i → Starts table i b
+starts_there : (table : GnuHashTable) (b i : ℕ) → b < gnu_bucket_count table → 0 < i → start_word table b ≡ i → Starts table i b
 starts_there table b i bucket above is = elim (cases_lt (bucket_word table b) (first_symbol_of table)) [
   | inl less ↦ let no : start_word table b ≡ 0 = start_small table b less in absurd (omega arith)
   | inr more ↦
@@ -82,7 +82,7 @@ written : (words : List ℕ) (i number : ℕ) → 0 < i → i < length words →
 written words i number above within empty = first_of (grind (arith, common_steps))
 
 -- one bucket more
-pub starts_next : (table : GnuHashTable) (words : List ℕ) (k : ℕ) → k < bucket_count_of table → AreStarts table k words → AreStarts table (k + 1) (with_start words (start_word table k) (k + 1))
+pub starts_next : (table : GnuHashTable) (words : List ℕ) (k : ℕ) → k < gnu_bucket_count table → AreStarts table k words → AreStarts table (k + 1) (with_start words (start_word table k) (k + 1))
 starts_next table words k bucket are i within =
     let inside : i < length words = subst (λ n. i < n) (length_start words (start_word table k) (k + 1)) within in
     step inside (get_or words i 0) refl (are i inside)
@@ -150,10 +150,10 @@ pub record Comes (table : GnuHashTable) (i b : ℕ) : Type 0 where
 -- the words before i are those of the buckets that reach them, the others those of the runs that begin there
 pub record Passed (table : GnuHashTable) (words : List ℕ) (i least : ℕ) : Type 0 where
   pub done : (j : ℕ) → j < i → j < length words → IsLeast (Reaches table j) (get_or words j 0)
-  pub rest : (j : ℕ) → i ≤ j → j < length words → IsLeast (λ b. (b < bucket_count_of table) × Starts table j b) (get_or words j 0)
+  pub rest : (j : ℕ) → i ≤ j → j < length words → IsLeast (λ b. (b < gnu_bucket_count table) × Starts table j b) (get_or words j 0)
   pub first : IsLeast (Comes table i) least
 
-pub passed_none : (table : GnuHashTable) (words : List ℕ) → AreStarts table (bucket_count_of table) words → Passed table words 0 0
+pub passed_none : (table : GnuHashTable) (words : List ℕ) → AreStarts table (gnu_bucket_count table) words → Passed table words 0 0
 passed_none table words are = record {
   done = λ j less _. absurd (omega arith);
   rest = λ j _ within. are j within;
@@ -161,11 +161,11 @@ passed_none table words are = record {
 }
 
 -- a bucket reaches a symbol from before it, or its run begins there
-reaches_by : (table : GnuHashTable) (i b : ℕ) → Comes table i b ⊎ ((b < bucket_count_of table) × Starts table i b) → Reaches table i b
+reaches_by : (table : GnuHashTable) (i b : ℕ) → Comes table i b ⊎ ((b < gnu_bucket_count table) × Starts table i b) → Reaches table i b
 reaches_by table i b (inl comes) = record { from = comes.from; starts = comes.starts; before = (let less : comes.from < i = comes.before in omega arith); goes_on = comes.goes_on }
 reaches_by table i b (inr (_, starts)) = record { from = i; starts = starts; before = omega arith; goes_on = λ j from to. absurd (omega arith) }
 
-by_reaches : (table : GnuHashTable) (i b : ℕ) → Reaches table i b → Comes table i b ⊎ ((b < bucket_count_of table) × Starts table i b)
+by_reaches : (table : GnuHashTable) (i b : ℕ) → Reaches table i b → Comes table i b ⊎ ((b < gnu_bucket_count table) × Starts table i b)
 by_reaches table i b reaches = elim (cases_eq reaches.from i) [
   | inl same ↦ let starts : Starts table i b = subst (λ k. Starts table k b) same reaches.starts in inr (starts.bucket, starts)
   | inr differ ↦ inl (record { from = reaches.from; starts = reaches.starts; before = (let le : reaches.from ≤ i = reaches.before in omega arith); goes_on = reaches.goes_on })
@@ -174,8 +174,8 @@ by_reaches table i b reaches = elim (cases_eq reaches.from i) [
 -- the word of the symbol that comes next
 reached_next : (table : GnuHashTable) (words : List ℕ) (i first : ℕ) → i < length words → Passed table words i first → IsLeast (Reaches table i) (earlier first (get_or words i 0))
 reached_next table words i first within passed =
-    least_of (λ b. Comes table i b ⊎ ((b < bucket_count_of table) × Starts table i b)) (Reaches table i) (earlier first (get_or words i 0)) (λ b either. reaches_by table i b either) (λ b reaches. by_reaches table i b reaches)
-    (least_of_either (Comes table i) (λ b. (b < bucket_count_of table) × Starts table i b) first (get_or words i 0) passed.first (passed.rest i (omega arith) within))
+    least_of (λ b. Comes table i b ⊎ ((b < gnu_bucket_count table) × Starts table i b)) (Reaches table i) (earlier first (get_or words i 0)) (λ b either. reaches_by table i b either) (λ b reaches. by_reaches table i b reaches)
+    (least_of_either (Comes table i) (λ b. (b < gnu_bucket_count table) × Starts table i b) first (get_or words i 0) passed.first (passed.rest i (omega arith) within))
 
 module _ (table : GnuHashTable) (words : List ℕ) (i first word : ℕ) (within : i < length words) (passed : Passed table words i first) (is : word ≡ earlier first (get_or words i 0)) where
   here : IsLeast (Reaches table i) word
@@ -196,9 +196,9 @@ module _ (table : GnuHashTable) (words : List ℕ) (i first word : ℕ) (within 
     | inr differ ↦ subst (λ w. IsLeast (Reaches table j) w) (sym (other j differ)) (passed.done j (omega arith) (shorter j inside))
   ]
 
-  rest_next : (j : ℕ) → i + 1 ≤ j → j < length (set words i word) → IsLeast (λ b. (b < bucket_count_of table) × Starts table j b) (get_or (set words i word) j 0)
+  rest_next : (j : ℕ) → i + 1 ≤ j → j < length (set words i word) → IsLeast (λ b. (b < gnu_bucket_count table) × Starts table j b) (get_or (set words i word) j 0)
   rest_next j from inside =
-      subst (λ w. IsLeast (λ b. (b < bucket_count_of table) × Starts table j b) w) (sym (other j (λ same. absurd (omega arith)))) (passed.rest j (omega arith) (shorter j inside))
+      subst (λ w. IsLeast (λ b. (b < gnu_bucket_count table) × Starts table j b) w) (sym (other j (λ same. absurd (omega arith)))) (passed.rest j (omega arith) (shorter j inside))
 
   -- the run goes on
   pub passed_on : GoesOn table i → Passed table (set words i word) (i + 1) word

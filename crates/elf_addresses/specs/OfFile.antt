@@ -1,6 +1,6 @@
 -- The symbols of a file that name addresses: those of its symbol table, or else those of its dynamic segment (gABI, "Symbol
 -- Table", SHT_SYMTAB, and "Dynamic Section", DT_SYMTAB; that the symbol table comes first is this project's own).
-use Rattle.std.specs.Prelude.{◌≡◌, ◌≢◌, ℕ, List, [], Ok, None, Some}
+use Rattle.std.specs.Prelude.{◌≡◌, ◌≢◌, ℕ, [], Ok, None, Some}
 use Rattle.elf_base.specs.FileHeader.{file_class}
 use Rattle.elf_base.specs.Table.{table_data}
 use Rattle.elf_addresses.specs.Symtab.{IsSymtab, IsSymtabFailed, IsSymtabSection, LieAsSymtab}

@@ -1,6 +1,6 @@
 -- The symbols that a GNU hash table reaches, bucket by bucket (the convention of GNU binutils and glibc).
 use Rattle.std.specs.Prelude.{◌≡◌, ◌≤◌, ◌<◌, ℕ, ◌+◌, ◌%◌, ◌^◌, ◌==◌, ◌||◌, min, nat_le, nat_lt, zero, suc, List, length, slice_index, slice_set, if◌then◌else◌}
-use Rattle.elf_linking.specs.GnuHash.{HasChain, bucket_count_of, bucket_word, chain_word, first_symbol_of}
+use Rattle.elf_linking.specs.GnuHash.{HasChain, gnu_bucket_count, bucket_word, chain_word, first_symbol_of}
 use Rattle.elf_linking.specs.declared.gnu_hash.GnuHashTable.{GnuHashTable}
 
 -- the chain word of symbol i is there and does not end a run, and the next index has 32 bits
@@ -11,7 +11,7 @@ pub record GoesOn (table : GnuHashTable) (i : ℕ) : Type 0 where
 
 -- the run of bucket b begins at symbol i
 pub record Starts (table : GnuHashTable) (i b : ℕ) : Type 0 where
-  pub bucket : b < bucket_count_of table
+  pub bucket : b < gnu_bucket_count table
   pub first : bucket_word table b ≡ i
   pub above : 0 < i
   pub begins : first_symbol_of table ≤ i

@@ -4,11 +4,8 @@ use Rattle.std.proofs.Math.Path.{fun_ext}
 use Rattle.std.proofs.lemmas.List.{length-map}
 use Rattle.std.proofs.lemmas.Option.{slice_get-get_or, slice_get-map, slice_get_within}
 use Rattle.std.specs.Option.{option_and_then}
-use Rattle.std.proofs.Common.{◌⊎◌, inl, inr, ◌^◌, drop, get_or, take, IfOk, IsOk, MatchResult, length-drop, length-take-le}
-use Rattle.std.proofs.lemmas.Bool.{cases_order}
-use Rattle.elf_addresses.specs.Index.{IsBuilt, listed, word_count}
-use Rattle.elf_addresses.specs.declared.error.IndexError.{IndexError}
-use Rattle.elf_addresses.specs.declared.error.IndexError.TheVariants.{FewWords, ManySymbols}
+use Rattle.std.proofs.Common.{◌⊎◌, ◌^◌, get_or, IfOk, MatchResult}
+use Rattle.elf_addresses.specs.Index.{IsBuilt, listed}
 use Rattle.elf_addresses.specs.SymbolAt.{TellsAt, claim_at}
 use Rattle.elf_addresses.specs.SymbolClaims.{claim_if, claim_of_symbols, has_claim, range_of_symbols, symbol_count, symbol_items, symbol_range}
 use Rattle.elf_addresses.specs.declared.claim.Claim.{Claim}

@@ -1,6 +1,6 @@
 -- The result of a call for a path of a debug file, and that of the check of a file.
-use Rattle.std.proofs.Common.{◌≡◌, ℕ, List, Option, None, Some, Result, Ok, Err, refl, ap, subst, sym, ◌∙◌, length}
-use Rattle.std.specs.Prelude.{min, option_map, slice_get}
+use Rattle.std.proofs.Common.{◌≡◌, ℕ, List, None, Some, Result, Ok, Err, refl, ap, subst, ◌∙◌, length}
+use Rattle.std.specs.Prelude.{min, slice_get}
 use Rattle.elf_debug.specs.Paths.{path_left, way_parts}
 use Rattle.elf_debug.specs.declared.paths.DebugPath.{DebugPath}
 use Rattle.elf_debug.specs.declared.wanted.DebugWanted.{DebugWanted}

@@ -1,6 +1,6 @@
 -- Pieces that an iterator returns, and that are stored in a slice.
 use Rattle.std.proofs.Common.{◌≡◌, ◌≢◌, ◌<◌, ◌≤◌, ◌+◌, ◌-◌, ◌^◌, ℕ, zero, suc, ◌⊎◌, inl, inr, Bool, true, false, ◌&&◌, List, [], ◌∷◌, ◌++◌, length, map, Option, Some, Result, Ok, Err, if◌then◌else◌, refl, sym, ap, subst, ◌∙◌, arith}
-use Rattle.std.proofs.lemmas.Bool.{cases_order, leb-false, leb-true, ltb-false, ltb-true}
+use Rattle.std.proofs.lemmas.Bool.{cases_order, leb-false, leb-true, ltb-false}
 use Rattle.std.proofs.lemmas.List.{length-append, length-map, length-set, map-append}
 use Rattle.std.specs.Iterator.{Count, Drains, IsFinite, MakesProgress, size}
 use Rattle.std.specs.Prelude.{OnSome, max, nat_le, nat_lt, slice_get, slice_set}

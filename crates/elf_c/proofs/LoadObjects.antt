@@ -1,26 +1,16 @@
 -- The objects of files, their places and their images, in a slice of an array.
-use Rattle.std.proofs.Common.{◌≡◌, ◌≢◌, ◌<◌, ◌≤◌, ◌+◌, ℕ, zero, suc, ◌⊎◌, ⊎_elim, inl, inr, List, [], ◌∷◌, get_or, length, take, Option, None, Some, Result, Ok, Err, refl, sym, ap, subst, ◌∙◌, arith}
+use Rattle.std.proofs.Common.{◌≡◌, ◌≢◌, ◌<◌, ◌≤◌, ◌+◌, ℕ, zero, suc, ◌⊎◌, ⊎_elim, inl, inr, List, [], ◌∷◌, get_or, length, take, Option, None, Some, refl, sym, ap, subst, ◌∙◌, arith}
 use Rattle.std.specs.Borrow.{Bor}
 use Rattle.std.specs.Fn.{Called, Mut}
-use Rattle.std.specs.Prelude.{IsSomeAnd, MatchResult, replicate, slice_get, slice_set}
+use Rattle.std.specs.Prelude.{IsSomeAnd, replicate, slice_get, slice_set}
 use Rattle.std.proofs.lemmas.Bool.{cases_order}
 use Rattle.std.proofs.lemmas.List.{length-replicate, length-set, length-take-le}
 use Rattle.std.proofs.lemmas.Option.{get_or_from_slice_get, slice_get_within}
-use Rattle.elf_base.specs.FileHeader.{header_of}
-use Rattle.elf_linking.specs.DynamicObject.{IsReachedObject, IsReachedError}
-use Rattle.elf_linking.specs.declared.error.LinkError.{LinkError}
-use Rattle.elf_linking.specs.declared.object.DynamicObject.{DynamicObject}
 use Rattle.elf_loading.specs.declared.relocate.Place.{Place}
-use Rattle.xmas_elf.specs.declared.ElfFile.{ElfFile}
 use Rattle.elf_c.proofs.Batches.{put_elsewhere, put_there}
-use Rattle.elf_c.specs.LoadObjects.{AreFirstMade, AreImagesOf, AreMade, ArePadded, ArePlacesOf, IsFirstUnmade, IsFirstUnmadeAt, IsObjectOfBytes, IsObjectErrorOf, no_object, load_place}
+use Rattle.elf_c.specs.LoadObjects.{AreFirstMade, AreImagesOf, AreMade, ArePadded, ArePlacesOf, IsFirstUnmade, IsFirstUnmadeAt, load_place}
 use Rattle.elf_c.specs.declared.load_objects.LoadObject.{LoadObject}
 use Rattle.elf_c.specs.declared.load_objects.TheConstants.{MOST_OBJECTS}
-
--- what is read of a file is read of its bytes
-pub object_or_failed : {E : Type 0} {r : _} (class size : ℕ) (bytes : List ℕ) (file : ElfFile) (result : Result (DynamicObject E r) LinkError) → file.input.now ≡ bytes → header_of bytes ≡ Ok file.header → MatchResult result (IsReachedObject class size file) (IsReachedError class size file) → MatchResult result (IsObjectOfBytes class size bytes) (IsObjectErrorOf class size bytes)
-object_or_failed class size bytes file (Ok object) input header is = record { file = file; bytes_are = input; header_is = header; object_is = is }
-object_or_failed class size bytes file (Err error) input header is = no_object file error input header is
 
 -- an item of a list that is long enough, by what is said of it with any other in its place where there is none
 pub some_at : {T : Type 0} (P : T → Type 0) (xs : List T) (i : ℕ) → i < length xs → ((other : T) → P (get_or xs i other)) → IsSomeAnd (slice_get xs i) P

@@ -49,13 +49,13 @@ module _ {E : Type 0} (P : ℕ × E → Type 0) (at : ℕ × E) where
   by_chain table symbols _ _ _ (gabi.reaches first last n more a comes none stop) is = in_chain table symbols last more a stop is
   by_chain table symbols _ _ _ (gabi.endless first n never) is = absurd (cc)
 
-  in_run : (h : ℕ) (table : GnuHashTable) (symbols : List E) (i n : ℕ) (a : Result (Option (ℕ × E)) LinkError) → gnu.Stops P h table symbols i a n → a ≡ Ok (Some at) → slice_get symbols at.0 ≡ Some at.1
+  in_run : (h : ℕ) (table : GnuHashTable) (symbols : List E) (i n : ℕ) (a : Result (Option (ℕ × E)) LinkError) → gnu.GnuStops P h table symbols i a n → a ≡ Ok (Some at) → slice_get symbols at.0 ≡ Some at.1
   in_run h table symbols i _ _ (gnu.found e hit) is =
       let same : (i, e) ≡ at = cc in subst (λ (p : ℕ × E). slice_get symbols p.0 ≡ Some p.1) same hit.symbol
   in_run h table symbols i _ _ (gnu.ended there ends none) is = absurd (cc)
   in_run h table symbols i _ _ (gnu.failed error lacks) is = absurd (cc)
 
-  by_run : (table : GnuHashTable) (symbols : List E) (name : List ℕ) (n : ℕ) (a : Result (Option (ℕ × E)) LinkError) → gnu.LooksWhere P table symbols name a n → a ≡ Ok (Some at) → slice_get symbols at.0 ≡ Some at.1
+  by_run : (table : GnuHashTable) (symbols : List E) (name : List ℕ) (n : ℕ) (a : Result (Option (ℕ × E)) LinkError) → gnu.GnuLooksWhere P table symbols name a n → a ≡ Ok (Some at) → slice_get symbols at.0 ≡ Some at.1
   by_run table symbols name _ _ (gnu.no_run none) is = absurd (cc)
   by_run table symbols name _ _ (gnu.too_early from starts early) is = absurd (cc)
   by_run table symbols name _ _ (gnu.goes from n a starts begins looks) is = in_run _ table symbols looks.last looks.here a looks.stop is

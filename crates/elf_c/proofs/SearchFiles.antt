@@ -1,5 +1,5 @@
 -- The names of the entries that ask for a library, entry by entry.
-use Rattle.std.proofs.Common.{◌≡◌, ℕ, List, [], ◌∷◌, Option, None, Some, Result, ap, ◌∙◌}
+use Rattle.std.proofs.Common.{◌≡◌, ℕ, List, [], ◌∷◌, None, Some, Result, ap, ◌∙◌}
 use Rattle.elf_records.specs.Dynamic.{dynamic_tag, dynamic_value}
 use Rattle.elf_records.specs.declared.dynamic.Dynamic.{Dynamic}
 use Rattle.elf_c.specs.DynamicTexts.{linked_name, range_in_strings}

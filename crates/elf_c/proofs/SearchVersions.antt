@@ -1,5 +1,5 @@
 -- The missing versions that are stored are those of two files.
-use Rattle.std.proofs.Common.{◌≡◌, ℕ, List, [], ◌∷◌, map, Result, Ok, sym, ap, subst}
+use Rattle.std.proofs.Common.{◌≡◌, ℕ, List, [], ◌∷◌, map, Result, Ok, sym, subst}
 use Rattle.elf_linking.specs.VersionTables.{VersionTables, needs_in}
 use Rattle.elf_search.specs.MissingVersions.{ProvidedParts, missing_in}
 use Rattle.xmas_elf.specs.declared.ElfFile.{ElfFile}

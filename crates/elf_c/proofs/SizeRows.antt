@@ -1,12 +1,12 @@
 -- Lists of parts as the caller has them, and the rows of their changes.
-use Rattle.std.proofs.Common.{◌≡◌, ℕ, ◌+◌, ◌<◌, false, List, [], ◌∷◌, Option, None, Some, Ordering, Less, Equal, Greater, is_lt, length, map, ap, subst, refl, ◌∙◌, IsSorted, arith}
+use Rattle.std.proofs.Common.{◌≡◌, ℕ, ◌+◌, ◌<◌, List, [], ◌∷◌, Option, None, Some, Ordering, Less, Equal, Greater, is_lt, length, map, ap, subst, refl, ◌∙◌, IsSorted, arith}
 use Rattle.std.proofs.lemmas.List.{get_or-map, length-map}
 use Rattle.std.proofs.lemmas.List.Sorted.{ranks_by}
 use Rattle.std.proofs.lemmas.Option.{get_or_from_slice_get, none-some, same_Some}
 use Rattle.std.specs.Cmp.{IsStrictWeakOrder}
 use Rattle.std.proofs.lemmas.List.Elements.{All-head, All-tail}
 use Rattle.std.specs.List.{All, AllZip, slice_get, slice_index_or}
-use Rattle.elf_addresses.specs.Differences.{change_of, change_order, first_of, name_order, part_order}
+use Rattle.elf_addresses.specs.Differences.{change_of, first_of, name_order, part_order}
 use Rattle.elf_addresses.specs.declared.difference.Change.{Change}
 use Rattle.elf_addresses.specs.declared.difference.Change.TheVariants.{Both, Gone, New}
 use Rattle.elf_addresses.specs.declared.difference.SizedPart.{SizedPart}

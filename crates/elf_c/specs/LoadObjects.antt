@@ -3,9 +3,9 @@ use Rattle.std.specs.Prelude.{◌≡◌, ℕ, ◌==◌, ◌<◌, Bool, true, fal
 use Rattle.std.specs.Borrow.{Bor}
 use Rattle.elf_base.specs.FileHeader.{file_class, header_of}
 use Rattle.elf_base.specs.declared.error.ElfError.{ElfError}
-use Rattle.elf_linking.specs.DynamicObject.{IsReachedObject, IsReachedError, object_file}
+use Rattle.elf_linking.specs.DynamicObject.{IsObjectErrorOf, IsObjectOfBytes, object_file}
 use Rattle.elf_linking.specs.declared.error.LinkError.{LinkError}
-use Rattle.elf_linking.specs.declared.error.LinkError.TheVariants.{Elf, ObjectIndex}
+use Rattle.elf_linking.specs.declared.error.LinkError.TheVariants.{ObjectIndex}
 use Rattle.elf_linking.specs.declared.object.DynamicObject.{DynamicObject}
 use Rattle.elf_loading.specs.FileCheck.{check_file}
 use Rattle.elf_loading.specs.Plan.{IsPlanOf}
@@ -17,7 +17,6 @@ use Rattle.elf_loading.specs.declared.word_error.WordError.{WordError}
 use Rattle.elf_loading.specs.declared.words.Binding.{Binding}
 use Rattle.elf_loading.specs.declared.words.Binding.TheVariants.{Lazy, Now}
 use Rattle.xmas_elf.specs.Types.{Header}
-use Rattle.xmas_elf.specs.declared.ElfFile.{ElfFile}
 use Rattle.elf_c.specs.LoadPlans.{default_limit}
 use Rattle.elf_c.specs.Status.{failure_number}
 use Rattle.elf_c.specs.declared.load_objects.Failure.{Failure}
@@ -39,19 +38,6 @@ is_narrow_load (Some load) = is_narrow_header (header_of load.file.now)
 -- the first file is of class 32
 abbrev pub is_first_narrow : List LoadObject → Bool
 is_first_narrow loads = is_narrow_load (slice_get loads 0)
-
--- the object is that of a file of this class, which these bytes are
-pub record IsObjectOfBytes {E : Type 0} {r : _} (class size : ℕ) (bytes : List ℕ) (object : DynamicObject E r) : Type 0 where
-  pub file : ElfFile
-  pub bytes_are : file.input.now ≡ bytes
-  pub header_is : header_of bytes ≡ Ok file.header
-  pub object_is : IsReachedObject class size file object
-
--- why bytes are no such file: an error of their header, or of what a dynamic linker reads of it
-pub data IsObjectErrorOf (class size : ℕ) (bytes : List ℕ) : LinkError → Type 0 where
-  no_header : (error : ElfError) → header_of bytes ≡ Err error → IsObjectErrorOf class size bytes (Elf error)
-  no_object : (file : ElfFile) (error : LinkError) → file.input.now ≡ bytes → header_of bytes ≡ Ok file.header
-      → IsReachedError class size file error → IsObjectErrorOf class size bytes error
 
 -- the first `count` of all are these, and each of all is one of these
 pub record ArePadded (loads all : List LoadObject) (count : ℕ) : Type 0 where

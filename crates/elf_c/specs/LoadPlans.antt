@@ -1,5 +1,5 @@
 -- The plan of a load and its mappings, as numbers (gABI, "Program Loading"; the plan is that of Linux and glibc).
-use Rattle.std.specs.Prelude.{ℕ, ◌==◌, Bool, List, length, map, Option, None, Some, option_map, is_some, Result, Ok, Err, if◌then◌else◌}
+use Rattle.std.specs.Prelude.{ℕ, ◌==◌, List, length, map, Option, None, Some, option_map, is_some, Result, Ok, Err, if◌then◌else◌}
 use Rattle.elf_base.specs.FileHeader.{file_class, header_fields}
 use Rattle.elf_base.specs.Text.{bytes_up_to_zero_of}
 use Rattle.elf_base.specs.declared.error.ElfError.{ElfError}

@@ -4,7 +4,7 @@ ghost use Rattle.std.specs.Prelude.{◌≡◌, ◌<◌, ◌≤◌, MatchResult, 
 ghost use Rattle.elf_base.specs.FileHeader.{header_of};
 ghost use Rattle.elf_c.specs.LoadObjects.{AreImagesOf, AreObjectsOf, ArePadded, ArePlacesOf};
 ghost use Rattle.elf_c.specs.LoadObjects.{ArePlansOf, GivesOrFails, IsFailedAt, IsUnplannedAt};
-ghost use Rattle.elf_c.specs.LoadObjects.{IsObjectOfBytes, IsPlanFor, IsObjectErrorOf, LacksPlan};
+ghost use Rattle.elf_c.specs.LoadObjects.{IsPlanFor, LacksPlan};
 ghost use Rattle.elf_c.specs.LoadObjects.{as_failure, failed_alone, failed_at, failed_in};
 ghost use Rattle.elf_c.specs.LoadObjects.{failed_words};
 ghost use Rattle.elf_c.specs.LoadObjects.{is_first_narrow, is_narrow_header, load_place, when_of};
@@ -162,17 +162,6 @@ fn is_narrow(bytes: &[u8]) -> bool
     }
 }
 
-// The object of a file.
-fn read_object<'a, E: LinkedSymbol>(bytes: &'a [u8]) -> Result<DynamicObject<'a, E>, LinkError>
-    ensures exact { MatchResult result (IsObjectOfBytes E.CLASS E.SIZE bytes.now)
-        (IsObjectErrorOf E.CLASS E.SIZE bytes.now) }
-{
-    match ElfFile::new(bytes) {
-        Ok(file) => DynamicObject::read_reached(&file),
-        Err(error) => Err(LinkError::Elf(error)),
-    }
-}
-
 // The objects in a room for the most; after them the first again.
 fn padded<'a>(loads: &[LoadObject<'a>]) -> [LoadObject<'a>; MOST_OBJECTS]
     requires some { 0 < length loads.now }
@@ -203,13 +192,13 @@ pub(crate) fn objects_of<'a, E: LinkedSymbol>(
         (λ objects. AreObjectsOf E.CLASS E.SIZE loads.now (take (length loads.now) objects.all))
         (λ failed. IsFailedAt {E = E} E.Record E.CLASS E.SIZE loads.now failed.0 failed.1) }
 {
-    let first = match read_object::<E>(loads[0].file) {
+    let first = match DynamicObject::<E>::of_bytes(loads[0].file) {
         Ok(first) => first,
         Err(error) => return Err((0, error)),
     };
     let mut objects = [first; MOST_OBJECTS];
     for index in 1..loads.len() {
-        match read_object(loads[index].file) {
+        match DynamicObject::of_bytes(loads[index].file) {
             Ok(object) => objects[index] = object,
             Err(error) => return Err((index, error)),
         }

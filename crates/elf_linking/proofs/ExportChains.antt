@@ -12,7 +12,7 @@ use Rattle.elf_base.specs.FirstError.{unless}
 use Rattle.elf_linking.specs.DynamicView.{as_link_error}
 use Rattle.elf_linking.specs.Exports.{HashChains, SymbolParts, chain_from, exports_below, exports_of, hash_chains, is_held, is_held_as, symbol_parts, symbols_from, symbols_of}
 use Rattle.elf_linking.specs.Find.{DynamicSymbols, Seeks, dynamic_symbols}
-use Rattle.elf_linking.specs.GnuHash.{EndsRun, IsHit, IsThere, LooksWhere, NoHit, Run, Stops, bucket_count_of, bucket_word, chain_word, ended, found, goes, may_hold, no_run, failed, start_at, start_of, symbol_end, too_early}
+use Rattle.elf_linking.specs.GnuHash.{EndsRun, IsHit, IsThere, GnuLooksWhere, NoHit, Run, GnuStops, gnu_bucket_count, bucket_word, chain_word, ended, found, goes, may_hold, no_run, failed, start_at, gnu_start_of, symbol_end, too_early}
 use Rattle.elf_linking.specs.Layouts.{gnu_hash_number}
 use Rattle.elf_linking.specs.VersionList.{VersionList}
 use Rattle.elf_linking.specs.declared.any_table.AnyTable.{AnyTable}
@@ -118,20 +118,20 @@ some_of true b z word from is = absurd (cc)
 some_of false true z word from is = refl
 some_of false false z word from is = absurd (cc)
 
-start_none : (table : GnuHashTable) (h : ℕ) → start_at table h ≡ None → (bucket_count_of table ≡ 0) ⊎ ((may_hold table h ≡ false) ⊎ (bucket_word table (h % bucket_count_of table) ≡ 0))
+start_none : (table : GnuHashTable) (h : ℕ) → start_at table h ≡ None → (gnu_bucket_count table ≡ 0) ⊎ ((may_hold table h ≡ false) ⊎ (bucket_word table (h % gnu_bucket_count table) ≡ 0))
 unfolding start_at
 start_none table h none =
-    let word : ℕ = bucket_word table (h % bucket_count_of table) in
-    elim (none_of (eqb (bucket_count_of table) 0) (may_hold table h) (eqb word 0) word none) [
-      | inl is ↦ inl (eqb_true (bucket_count_of table) 0 is)
+    let word : ℕ = bucket_word table (h % gnu_bucket_count table) in
+    elim (none_of (eqb (gnu_bucket_count table) 0) (may_hold table h) (eqb word 0) word none) [
+      | inl is ↦ inl (eqb_true (gnu_bucket_count table) 0 is)
       | inr other ↦ inr (elim other [ inl is ↦ inl is | inr is ↦ inr (eqb_true word 0 is) ])
     ]
 
 start_may : (table : GnuHashTable) (h from : ℕ) → start_at table h ≡ Some from → may_hold table h ≡ true
 unfolding start_at
 start_may table h from begun =
-    let word : ℕ = bucket_word table (h % bucket_count_of table) in
-    some_of (eqb (bucket_count_of table) 0) (may_hold table h) (eqb word 0) word from begun
+    let word : ℕ = bucket_word table (h % gnu_bucket_count table) in
+    some_of (eqb (gnu_bucket_count table) 0) (may_hold table h) (eqb word 0) word from begun
 
 module _ {E : Type 0} (table : GnuHashTable) (symbols : Symbols E) (versions : VersionList) (name : List ℕ) (P : ℕ × E → Type 0) (t : SymbolParts → Bool) (test : IsTestOf (dynamic_symbols (Gnu table) symbols versions) name P t) where
   abbrev file : DynamicSymbols E
@@ -153,15 +153,15 @@ module _ {E : Type 0} (table : GnuHashTable) (symbols : Symbols E) (versions : V
   hit_passes i e may hit =
       let passed : t (part (i, e)) ≡ true = test.tells i e hit.symbol hit.holds in
       let text : symbols.text e ≡ Some name = test.named (part (i, e)) passed in
-      let b : ℕ = gnu_hash_number name % bucket_count_of table in
+      let b : ℕ = gnu_hash_number name % gnu_bucket_count table in
       let held_by : is_held_as chains b i (Some name) ≡ true = and_true (eqb b b) (may_hold table (gnu_hash_number name) && eqb (chain_word table i / 2) (gnu_hash_number name / 2)) (eqb_same b) (and_true _ _ may (eq-eqb _ _ hit.agrees)) in
       and_true (is_held chains b (part (i, e))) (t (part (i, e))) (subst (λ n. is_held_as chains b i n ≡ true) (sym text) held_by) passed
 
   passes_hit : (i : ℕ) (e : E) → slice_get symbols.items i ≡ Some e → IsThere table symbols.items i → passes (part (i, e)) ≡ true → IsHit P (gnu_hash_number name) table symbols.items i e
   passes_hit i e at there is =
-      let (_, has) = held_name chains all name t test.named (gnu_hash_number name % bucket_count_of table) (part (i, e)) is in
+      let (_, has) = held_name chains all name t test.named (gnu_hash_number name % gnu_bucket_count table) (part (i, e)) is in
       let (may, agrees) = both_true (may_hold table (gnu_hash_number name)) (eqb (chain_word table i / 2) (gnu_hash_number name / 2)) has in
-      let (held_by, passed) = both_true (is_held chains (gnu_hash_number name % bucket_count_of table) (part (i, e))) (t (part (i, e))) is in
+      let (held_by, passed) = both_true (is_held chains (gnu_hash_number name % gnu_bucket_count table) (part (i, e))) (t (part (i, e))) is in
       record { there = there; symbol = at; agrees = eqb_true _ _ agrees; holds = test.told i e at passed }
 
   -- a symbol where there is one
@@ -177,17 +177,17 @@ module _ {E : Type 0} (table : GnuHashTable) (symbols : Symbols E) (versions : V
   last_index : (i : ℕ) → EndsRun table i → chains.next i ≡ 0
   last_index i ends = rw (eq-eqb (chain_word table i % 2) 1 ends) refl
 
-  no_run_finds : start_of table name ≡ None → find t (exports_of file) ≡ None
-  no_run_finds none = go (cases_eq (bucket_count_of table) 0) (start_none table (gnu_hash_number name) none)
+  no_run_finds : gnu_start_of table name ≡ None → find t (exports_of file) ≡ None
+  no_run_finds none = go (cases_eq (gnu_bucket_count table) 0) (start_none table (gnu_hash_number name) none)
     where
-      empty : bucket_count_of table ≡ 0 → find t (exports_of file) ≡ None
+      empty : gnu_bucket_count table ≡ 0 → find t (exports_of file) ≡ None
       empty is = ap (λ n. find t (exports_below chains all n)) is
 
-      go : (bucket_count_of table ≡ 0) ⊎ (bucket_count_of table ≡ 0 → ⊥) → (bucket_count_of table ≡ 0) ⊎ ((may_hold table (gnu_hash_number name) ≡ false) ⊎ (bucket_word table (gnu_hash_number name % bucket_count_of table) ≡ 0)) → find t (exports_of file) ≡ None
+      go : (gnu_bucket_count table ≡ 0) ⊎ (gnu_bucket_count table ≡ 0 → ⊥) → (gnu_bucket_count table ≡ 0) ⊎ ((may_hold table (gnu_hash_number name) ≡ false) ⊎ (bucket_word table (gnu_hash_number name % gnu_bucket_count table) ≡ 0)) → find t (exports_of file) ≡ None
       go (inl is) _ = empty is
       go (inr some) (inl is) = empty is
-      go (inr some) (inr (inl not_held)) = found_bucket chains all name t test.named some ∙ find_never passes (filter_map (slice_get all) (chain_from chains.next (length all) (chains.first (gnu_hash_number name % bucket_count_of table)))) (λ s. not_true (passes s) (λ is. (
-          let (_, has) = held_name chains all name t test.named (gnu_hash_number name % bucket_count_of table) s is in
+      go (inr some) (inr (inl not_held)) = found_bucket chains all name t test.named some ∙ find_never passes (filter_map (slice_get all) (chain_from chains.next (length all) (chains.first (gnu_hash_number name % gnu_bucket_count table)))) (λ s. not_true (passes s) (λ is. (
+          let (_, has) = held_name chains all name t test.named (gnu_hash_number name % gnu_bucket_count table) s is in
           let may = (both_true (may_hold table (gnu_hash_number name)) (eqb (chain_word table s.index / 2) (gnu_hash_number name / 2)) has).0 in
           cc)))
       go (inr some) (inr (inr no_word)) = found_bucket chains all name t test.named some ∙ ap (searched chains.next all passes (length all)) no_word ∙ searched_end chains.next all passes (length all)
@@ -202,7 +202,7 @@ module _ {E : Type 0} (table : GnuHashTable) (symbols : Symbols E) (versions : V
         let next : chains.next i ≡ from + suc d = next_index i (run.goes_on i (omega arith) (omega arith)) ∙ omega arith in
         step d i (from + suc d) (part (i, e)) (passes_to d (omega arith)) (omega arith) (symbol_at file i e at) (not_true (passes (part (i, e))) (λ is. missed i e (omega arith) (omega arith) (passes_hit i e at there is))) next
 
-    stop_first : may_hold table (gnu_hash_number name) ≡ true → (n : ℕ) (answer : Result (Option (ℕ × E)) LinkError) → Stops P (gnu_hash_number name) table symbols.items last answer n → (o : Option (ℕ × E)) → answer ≡ Ok o → searched chains.next all passes (length all) from ≡ option_map part o
+    stop_first : may_hold table (gnu_hash_number name) ≡ true → (n : ℕ) (answer : Result (Option (ℕ × E)) LinkError) → GnuStops P (gnu_hash_number name) table symbols.items last answer n → (o : Option (ℕ × E)) → answer ≡ Ok o → searched chains.next all passes (length all) from ≡ option_map part o
     stop_first may _ _ (failed error lacks) o is = absurd (cc)
     stop_first may _ _ (found e hit) o is = by (length all - (last - from) - 1) (omega (arith, length_of file, within last hit.there)) ∙ same
       where
@@ -229,7 +229,7 @@ module _ {E : Type 0} (table : GnuHashTable) (symbols : Symbols E) (versions : V
         same : None ≡ option_map part o
         same = let one : None ≡ o = cc in ap (option_map part) one
 
-  gnu_first : (n : ℕ) (answer : Result (Option (ℕ × E)) LinkError) → LooksWhere P table symbols.items name answer n → (o : Option (ℕ × E)) → answer ≡ Ok o → find t (exports_of file) ≡ option_map part o
+  gnu_first : (n : ℕ) (answer : Result (Option (ℕ × E)) LinkError) → GnuLooksWhere P table symbols.items name answer n → (o : Option (ℕ × E)) → answer ≡ Ok o → find t (exports_of file) ≡ option_map part o
   gnu_first _ _ (no_run none) o is = let one : None ≡ o = cc in no_run_finds none ∙ ap (option_map part) one
   gnu_first _ _ (too_early from begun early) o is = absurd (cc)
   gnu_first _ _ (goes from n answer begun begins looks) o is =

@@ -74,7 +74,7 @@ module _ {E : Type 0} (i : ℕ) (e : E) (name : List ℕ) where
         (is_name_some name (file.symbols.text d) named, eqb_true j i same));
   }
 
-  seeks_gnu : (table : GnuHashTable) (symbols : Symbols E) (versions : VersionList) → gnu.IsGood table symbols → gnu.IsExported table symbols i e name → Seeks (IsAt symbols) (dynamic_symbols (Gnu table) symbols versions) name (Ok (Some (i, e)))
+  seeks_gnu : (table : GnuHashTable) (symbols : Symbols E) (versions : VersionList) → gnu.IsGnuGood table symbols → gnu.IsExported table symbols i e name → Seeks (IsAt symbols) (dynamic_symbols (Gnu table) symbols versions) name (Ok (Some (i, e)))
   seeks_gnu table symbols versions good exported =
       let held : gnu.IsHeld table symbols.items name i = good.holds i e name exported in
       let (above, begins, ends) = start_ends table symbols.items (gnu_hash_number name) held.from good.buckets held.starts in (

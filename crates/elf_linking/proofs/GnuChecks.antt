@@ -2,7 +2,7 @@
 use Rattle.std.proofs.Common.{◌≡◌, ◌≢◌, ◌<◌, ◌/◌, ℕ, ◌⊎◌, inl, inr, List, Some, None, Result, Err, slice_get, refl, ap, subst, arith}
 use Rattle.std.proofs.lemmas.Bool.{cases_order}
 use Rattle.std.specs.Prelude.{IsOk}
-use Rattle.elf_linking.specs.GnuHash.{IsAtFault, IsBucketGood, IsCheck, IsExported, IsGood, IsHeld, before_first, bucket_word, cut, faulty, good, missing}
+use Rattle.elf_linking.specs.GnuHash.{IsAtFault, IsBucketGood, IsCheck, IsExported, IsGnuGood, IsHeld, before_first, bucket_word, cut, faulty, good, missing}
 use Rattle.elf_linking.specs.declared.error.LinkError.{LinkError}
 use Rattle.elf_linking.specs.declared.gnu_hash.GnuHashTable.{GnuHashTable}
 use Rattle.elf_linking.proofs.Runs.{cut_once, ends_cut}
@@ -38,12 +38,12 @@ module _ {E : Type 0} (table : GnuHashTable) (symbols : Symbols E) where
       reached name (subst (λ x. (symbols.fields x).info / 16 ≢ 0) same exported.global.binding) (subst (λ x. (symbols.fields x).shndx ≢ 0) same exported.defined) (subst (λ x. symbols.text x ≡ Some name) same exported.global.named)
 
   -- the result of the check is Ok exactly for a good table
-  pub ok_is_good : (r : Result (Unit {0}) LinkError) → IsCheck table symbols r → IsOk r → IsGood table symbols
+  pub ok_is_good : (r : Result (Unit {0}) LinkError) → IsCheck table symbols r → IsOk r → IsGnuGood table symbols
   ok_is_good _ (good h) ok = h
   ok_is_good _ (faulty k error below before fault) ok = absurd (cc)
   ok_is_good _ (missing i d name all exported lost) ok = absurd (cc)
 
-  pub good_is_ok : (r : Result (Unit {0}) LinkError) → IsCheck table symbols r → IsGood table symbols → IsOk r
+  pub good_is_ok : (r : Result (Unit {0}) LinkError) → IsCheck table symbols r → IsGnuGood table symbols → IsOk r
   good_is_ok _ (good h) sound = refl
   good_is_ok _ (faulty k error below before fault) sound = absurd (not_at_fault table symbols.items k error (sound.buckets k below) fault)
   good_is_ok _ (missing i d name all exported lost) sound = absurd (lost (sound.holds i d name exported))

@@ -1,7 +1,7 @@
 -- A search by GNU's table comes to an index: what a look-up for a property says there.
 use Rattle.std.proofs.Common.{◌≡◌, ℕ, ◌+◌, ◌-◌, ◌/◌, ◌≤◌, ◌⊎◌, inl, inr, List, Option, Some, None, Result, Ok, Err, refl, sym, subst, slice_get, arith}
 use Rattle.elf_linking.specs.Find.{DynamicSymbols, IsAsked, IsFound, Seeks, asked_first, dynamic_symbols, faulty}
-use Rattle.elf_linking.specs.GnuHash.{EndsRun, IsThere, Lacks, NoHit, Run, Stops, chain_word, ended, first_symbol_of, found, goes, failed, start_of}
+use Rattle.elf_linking.specs.GnuHash.{EndsRun, IsThere, Lacks, NoHit, Run, GnuStops, chain_word, ended, first_symbol_of, found, goes, failed, gnu_start_of}
 use Rattle.elf_linking.specs.Layouts.{gnu_hash_number}
 use Rattle.elf_linking.specs.Kept.{EndsAt, GoesOn, kept_alone}
 use Rattle.elf_linking.specs.VersionList.{VersionList}
@@ -33,8 +33,8 @@ module _ {E : Type 0} (table : GnuHashTable) (symbols : Symbols E) (versions : V
   pub missed_over : (i : ℕ) → (chain_word table i / 2 ≡ gnu_hash_number name / 2 → ⊥) → (P : ℕ × E → Type 0) → MissedUpTo i P → MissedUpTo (i + 1) P
   missed_over i differs P missed = missed_next table symbols.items P (gnu_hash_number name) from i missed (λ e hit. differs hit.agrees)
 
-  module _ (starts : start_of table name ≡ Some from) (begins : first_symbol_of table ≤ from) (i : ℕ) (run : Run table symbols.items from i) where
-    seeks_by : (P : ℕ × E → Type 0) (answer : Result (Option (ℕ × E)) LinkError) (here : ℕ) → MissedUpTo i P → Stops P (gnu_hash_number name) table symbols.items i answer here → Seeks P file name answer
+  module _ (starts : gnu_start_of table name ≡ Some from) (begins : first_symbol_of table ≤ from) (i : ℕ) (run : Run table symbols.items from i) where
+    seeks_by : (P : ℕ × E → Type 0) (answer : Result (Option (ℕ × E)) LinkError) (here : ℕ) → MissedUpTo i P → GnuStops P (gnu_hash_number name) table symbols.items i answer here → Seeks P file name answer
     seeks_by P answer here missed stop =
         (i - from + here, goes from (i - from + here) answer starts begins (record { last = i; here = here; run = run; missed = missed; stop = stop; counted = refl }))
 

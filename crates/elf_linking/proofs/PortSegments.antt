@@ -1,17 +1,17 @@
 -- The records of a whole table are the program headers that xmas_elf reads.
 use Rattle.std.proofs.Common.{◌≡◌, ℕ, zero, suc, ◌+◌, ◌-◌, ◌*◌, ◌<◌, ◌≤◌, ◌==◌, Bool, true, false, List, ◌∷◌, length, map, Result, Ok, refl, sym, ap, ◌∙◌, arith}
-use Rattle.std.proofs.lemmas.Bool.{and_parts, eqb-true, leb-true}
+use Rattle.std.proofs.lemmas.Bool.{and_parts, eqb-true}
 use Rattle.std.proofs.lemmas.Bool.Decides.{nat_tests}
 use Rattle.elf_base.specs.FileHeader.{file_class, file_order, header_fields}
 use Rattle.elf_base.specs.declared.bytes.Order.{Order}
 use Rattle.elf_base.specs.declared.error.ElfError.{ElfError}
 use Rattle.xmas_elf.specs.HeaderTable.{entry_place, headers_from}
-use Rattle.xmas_elf.specs.ProgramHeader.{HasProgram, program_at_place, program_list, program_of}
+use Rattle.xmas_elf.specs.ProgramHeader.{HasProgram, program_at_place, program_of}
 use Rattle.xmas_elf.specs.SectionHeader.{program_count_of}
 use Rattle.xmas_elf.specs.Types.{ElfFile, ProgramHeader}
 use Rattle.xmas_elf.proofs.ProgramLists.{programs}
 use Rattle.elf_linking.specs.PortSegments.{AreProgramHeaders, HasPlainTable, segment_by}
-use Rattle.elf_linking.specs.Segments.{segment_at, segment_size, segments_at, segments_of}
+use Rattle.elf_linking.specs.Segments.{segment_at, segment_size, segments_at}
 use Rattle.elf_linking.proofs.SegmentRecords.{all_segments, all_within}
 
 fields_at : (class : ℕ) (narrow : Bool) (order : Order) (input : List ℕ) (place : ℕ) → (class == 1) ≡ narrow → segment_by (program_at_place class order place input) ≡ segment_at narrow order input place

@@ -1,7 +1,7 @@
 -- The runs of a GNU hash table, index by index.
 use Rattle.std.proofs.Common.{◌≡◌, ◌+◌, ◌-◌, ◌<◌, ◌≤◌, ℕ, ◌⊎◌, inl, inr, List, Option, Some, Result, Ok, Err, slice_get, length, refl, sym, ap, subst, arith, below_more}
 use Rattle.std.proofs.lemmas.Bool.{cases_lt, cases_order}
-use Rattle.elf_linking.specs.GnuHash.{ComeFrom, Ends, EndsRun, IsCut, IsHit, IsThere, Lacks, LooksFrom, NoHit, Run, Stops, chain_place, ended, first_symbol_of, found, gnu_data, no_symbol, no_word, failed, symbol_end}
+use Rattle.elf_linking.specs.GnuHash.{ComeFrom, GnuEnds, EndsRun, IsCut, IsHit, IsThere, Lacks, GnuLooksFrom, NoHit, Run, GnuStops, chain_place, ended, first_symbol_of, found, gnu_data, no_symbol, no_word, failed, symbol_end}
 use Rattle.elf_linking.specs.declared.error.LinkError.{LinkError}
 use Rattle.elf_linking.specs.declared.error.LinkError.TheVariants.{SymbolIndex}
 use Rattle.elf_linking.specs.declared.gnu_hash.GnuHashTable.{GnuHashTable}
@@ -48,7 +48,7 @@ module _ {E : Type 0} (table : GnuHashTable) (symbols : List E) where
   lacks_once i _ _ (no_word below past) (no_word below' past') = refl
 
   -- a run that ends is not cut off
-  pub ends_cut : (from : ℕ) (error : LinkError) → Ends table symbols from → IsCut table symbols from error → ⊥
+  pub ends_cut : (from : ℕ) (error : LinkError) → GnuEnds table symbols from → IsCut table symbols from error → ⊥
   ends_cut from error e c = go (cases_order e.last c.last)
     where
       go : (e.last ≡ c.last) ⊎ ((e.last < c.last) ⊎ (c.last < e.last)) → ⊥
@@ -117,10 +117,10 @@ module _ {E : Type 0} (table : GnuHashTable) (symbols : List E) where
 
   module _ (P : ℕ × E → Type 0) (h : ℕ) where
     -- if there are no more symbols, a look-up has an error
-    pub looks_past : (from index n : ℕ) → Run table symbols from index → NoHit P h table symbols from index → symbol_end symbols ≤ index → (from ≤ symbol_end symbols → index ≤ symbol_end symbols) → n ≡ symbol_end symbols - from → LooksFrom P h table symbols from (Err SymbolIndex) n
+    pub looks_past : (from index n : ℕ) → Run table symbols from index → NoHit P h table symbols from index → symbol_end symbols ≤ index → (from ≤ symbol_end symbols → index ≤ symbol_end symbols) → n ≡ symbol_end symbols - from → GnuLooksFrom P h table symbols from (Err SymbolIndex) n
     looks_past from index n run missed past within counted = go (cases_lt (symbol_end symbols) from)
       where
-        go : (symbol_end symbols < from) ⊎ (from ≤ symbol_end symbols) → LooksFrom P h table symbols from (Err SymbolIndex) n
+        go : (symbol_end symbols < from) ⊎ (from ≤ symbol_end symbols) → GnuLooksFrom P h table symbols from (Err SymbolIndex) n
         go (inl out) = record {
           last = from;
           here = 0;
@@ -146,13 +146,13 @@ module _ {E : Type 0} (table : GnuHashTable) (symbols : List E) where
         below_more (λ j. (d : E) → from ≤ j → IsHit P h table symbols j d → ⊥) i (λ j under d over. missed j d over under) (λ d _. none d) k below e above hit
 
     -- a look-up doesn't continue from where it stops
-    pub stop_passed : (i n : ℕ) (a : Result (Option (ℕ × E)) LinkError) → Stops P h table symbols i a n → IsThere table symbols i → (EndsRun table i → ⊥) → ((e : E) → IsHit P h table symbols i e → ⊥) → ⊥
+    pub stop_passed : (i n : ℕ) (a : Result (Option (ℕ × E)) LinkError) → GnuStops P h table symbols i a n → IsThere table symbols i → (EndsRun table i → ⊥) → ((e : E) → IsHit P h table symbols i e → ⊥) → ⊥
     stop_passed i _ _ (found e hit) there on no_hit = no_hit e hit
     stop_passed i _ _ (ended there ends none) there' on no_hit = on ends
     stop_passed i _ _ (failed error lacks) there on no_hit = there_lacks i error there lacks
 
     -- a look-up has only one result where it stops
-    pub stops_once : (i n m : ℕ) (a b : Result (Option (ℕ × E)) LinkError) → Stops P h table symbols i a n → Stops P h table symbols i b m → (a ≡ b) × (n ≡ m)
+    pub stops_once : (i n m : ℕ) (a b : Result (Option (ℕ × E)) LinkError) → GnuStops P h table symbols i a n → GnuStops P h table symbols i b m → (a ≡ b) × (n ≡ m)
     stops_once i _ _ _ _ (found e hit) (found d hit') =
         let one : slice_get symbols i ≡ Some e = hit.symbol in
         let other : slice_get symbols i ≡ Some d = hit'.symbol in
@@ -168,12 +168,12 @@ module _ {E : Type 0} (table : GnuHashTable) (symbols : List E) where
     stops_once i _ _ _ _ (failed error lacks) (failed error' lacks') = (ap (λ x. Err x) (lacks_once i error error' lacks lacks'), refl)
 
     -- a look-up from an index on has only one result
-    pub looks_from_once : (from n m : ℕ) (a b : Result (Option (ℕ × E)) LinkError) → LooksFrom P h table symbols from a n → LooksFrom P h table symbols from b m → (a ≡ b) × (n ≡ m)
+    pub looks_from_once : (from n m : ℕ) (a b : Result (Option (ℕ × E)) LinkError) → GnuLooksFrom P h table symbols from a n → GnuLooksFrom P h table symbols from b m → (a ≡ b) × (n ≡ m)
     looks_from_once from n m a b l k = go (cases_order l.last k.last)
       where
         go : (l.last ≡ k.last) ⊎ ((l.last < k.last) ⊎ (k.last < l.last)) → (a ≡ b) × (n ≡ m)
         go (inl same) =
-            let both : (a ≡ b) × (l.here ≡ k.here) = stops_once k.last l.here k.here a b (subst (λ i. Stops P h table symbols i a l.here) same l.stop) k.stop in
+            let both : (a ≡ b) × (l.here ≡ k.here) = stops_once k.last l.here k.here a b (subst (λ i. GnuStops P h table symbols i a l.here) same l.stop) k.stop in
             let heres : l.here ≡ k.here = both.1 in
             let one : n ≡ l.last - from + l.here = l.counted in
             let other : m ≡ k.last - from + k.here = k.counted in

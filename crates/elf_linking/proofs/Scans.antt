@@ -1,14 +1,14 @@
 -- A pass over chain words that keeps the index after the last one that ends a run.
 use Rattle.std.proofs.Common.{◌+◌, ◌<◌, ◌≤◌, ℕ, ◌⊎◌, inl, inr, List, arith, below_more}
 use Rattle.std.proofs.lemmas.Bool.{cases_lt}
-use Rattle.elf_linking.specs.GnuHash.{Ends, EndsRun, IsThere, first_symbol_of}
+use Rattle.elf_linking.specs.GnuHash.{GnuEnds, EndsRun, IsThere, first_symbol_of}
 use Rattle.elf_linking.specs.declared.gnu_hash.GnuHashTable.{GnuHashTable}
 
 -- all symbols and words up to an index are there; runs from before `end` end; no word from `end` on ends one
 pub record Scanned {E : Type 0} (table : GnuHashTable) (symbols : List E) (end index : ℕ) : Type 0 where
   pub below : end ≤ index
   pub there : (i : ℕ) → first_symbol_of table ≤ i → i < index → IsThere table symbols i
-  pub ends : (from : ℕ) → first_symbol_of table ≤ from → from < end → Ends table symbols from
+  pub ends : (from : ℕ) → first_symbol_of table ≤ from → from < end → GnuEnds table symbols from
   pub last : (i : ℕ) → first_symbol_of table ≤ i → end ≤ i → i < index → EndsRun table i → ⊥
 
 module _ {E : Type 0} (table : GnuHashTable) (symbols : List E) where
@@ -33,7 +33,7 @@ module _ {E : Type 0} (table : GnuHashTable) (symbols : List E) where
     last = λ i begins above below h. omega arith;
   }
     where
-      go : (from : ℕ) → first_symbol_of table ≤ from → from < index + 1 → (from < end) ⊎ (end ≤ from) → Ends table symbols from
+      go : (from : ℕ) → first_symbol_of table ≤ from → from < index + 1 → (from < end) ⊎ (end ≤ from) → GnuEnds table symbols from
       go from begins below (inl before) = s.ends from begins before
       go from begins below (inr behind) =
           let ordered : from ≤ index = omega arith in

@@ -8,7 +8,7 @@ use Rattle.std.specs.Slice.{IsItemAt}
 use Rattle.elf_linking.specs.DynamicObject.{object_view}
 use Rattle.elf_linking.specs.DynamicView.{is_symbolic, view_entries}
 use Rattle.elf_linking.specs.Find.{DynamicSymbols}
-use Rattle.elf_linking.specs.Scope.{Gives, GivesAt, IsBoundBy, IsFirstGiven, NoneBefore, asked, fails, given, is_passed_over, lacks, nowhere, passed_over, failed, serves, serves_none, symbols_at}
+use Rattle.elf_linking.specs.Scope.{Gives, GivesAt, IsBoundBy, IsFirstGiven, NoneGivenBefore, asked, fails, given, is_passed_over, lacks, nowhere, passed_over, failed, serves, serves_none, symbols_at}
 use Rattle.elf_linking.specs.Serves.{if_serving, serves_others}
 use Rattle.elf_linking.specs.VersionTables.{result_map}
 use Rattle.elf_linking.specs.declared.error.LinkError.{LinkError}
@@ -26,7 +26,7 @@ at_object index (Err error) = Err error
 
 module _ {E : Type 0} (Gives : ℕ → Result (Option (ℕ × E)) LinkError → Type 0) (count from : ℕ) where
   -- the object at an index, before which none gives a symbol or an error
-  module _ (symbolic : Bool) (index : ℕ) (below : index < count) (none : NoneBefore Gives symbolic from index) (result : Result (Option (ℕ × E)) LinkError) (gives : Gives index result) where
+  module _ (symbolic : Bool) (index : ℕ) (below : index < count) (none : NoneGivenBefore Gives symbolic from index) (result : Result (Option (ℕ × E)) LinkError) (gives : Gives index result) where
     pub first_some : (at : ℕ × E) → result ≡ Ok (Some at) → IsFirstGiven Gives count symbolic from (at_object index (Ok (Some at)))
     first_some at is = given _ below none (subst (Gives index) is gives)
 
@@ -34,12 +34,12 @@ module _ {E : Type 0} (Gives : ℕ → Result (Option (ℕ × E)) LinkError → 
     first_error error is = failed index error below none (subst (Gives index) is gives)
 
   -- no object comes before one that is asked first
-  pub none_before : NoneBefore Gives true from from
+  pub none_before : NoneGivenBefore Gives true from from
   none_before i before = absurd (before.0 refl)
 
   -- one that gives nothing changes nothing: the first by index is the first
   module _ (gives : Gives from (Ok None)) where
-    before_all : (index : ℕ) → NoneBefore Gives false from index → NoneBefore Gives true from index
+    before_all : (index : ℕ) → NoneGivenBefore Gives false from index → NoneGivenBefore Gives true from index
     before_all index none i (differs, less) = go (cases_eq i from)
       where
         go : (i ≡ from) ⊎ (i ≡ from → ⊥) → Gives i (Ok None)

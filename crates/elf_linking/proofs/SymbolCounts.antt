@@ -5,7 +5,7 @@ use Rattle.std.specs.Prelude.{ok_or}
 use Rattle.elf_base.specs.FirstError.{and_then}
 use Rattle.elf_linking.specs.GnuCount.{CountStops, GoesTo, IsGnuCount, IsLastRun, counted, ended, no_run, failed, too_long}
 use Rattle.elf_linking.specs.DynamicView.{AreSymbols, IsSymbolCount, by_gnu, by_hash, gnu_hash_table_of, no_table, number_with}
-use Rattle.elf_linking.specs.GnuHash.{EndsRun, HasChain, bucket_count_of, bucket_word, chain_of, chain_place, chain_word, first_symbol_of, gnu_class, gnu_data, gnu_order}
+use Rattle.elf_linking.specs.GnuHash.{EndsRun, HasChain, gnu_bucket_count, bucket_word, chain_of, chain_place, chain_word, first_symbol_of, gnu_class, gnu_data, gnu_order}
 use Rattle.elf_linking.specs.Loaded.{bytes_at_of}
 use Rattle.elf_linking.specs.declared.error.LinkError.{LinkError}
 use Rattle.elf_linking.specs.declared.error.LinkError.TheVariants.{NoEntry}
@@ -19,7 +19,7 @@ module _ (one other : GnuHashTable) (bytes : gnu_data one ≡ gnu_data other) (c
   same_first : first_symbol_of one ≡ first_symbol_of other
   same_first = cc
 
-  same_buckets : bucket_count_of one ≡ bucket_count_of other
+  same_buckets : gnu_bucket_count one ≡ gnu_bucket_count other
   same_buckets = cc
 
   same_bucket : (k : ℕ) → bucket_word one k ≡ bucket_word other k

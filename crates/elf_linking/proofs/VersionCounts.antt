@@ -1,5 +1,5 @@
 -- The numbers of needs and parts that a file tells, need by need.
-use Rattle.std.proofs.Common.{◌≡◌, ℕ, ◌&&◌, Bool, true, false, List, [], ◌∷◌, Result, Ok, Err, if◌then◌else◌, refl, sym, ap, ◌∙◌}
+use Rattle.std.proofs.Common.{◌≡◌, ℕ, ◌&&◌, true, false, List, [], ◌∷◌, Result, Ok, Err, if◌then◌else◌, refl, sym, ap, ◌∙◌}
 use Rattle.elf_linking.specs.VersionList.{VersionList, versions_in}
 use Rattle.elf_linking.specs.VersionTables.{VersionRecords, VersionTables, has_told_parts, have_told_parts, is_counted}
 use Rattle.elf_linking.specs.Versions.{count_error}

@@ -34,7 +34,7 @@ pub data IsLinkedTable (file : ElfFile) (entries : List (Dynamic ℕ)) : Result 
 -- look-ups in the table find what they must
 abbrev pub IsGoodBy : {E : Type 0} → AnyTable → Symbols E → Type 0
 IsGoodBy (Sysv table) symbols = gabi.IsGood table symbols
-IsGoodBy (Gnu table) symbols = gnu.IsGood table symbols
+IsGoodBy (Gnu table) symbols = gnu.IsGnuGood table symbols
 
 -- the result of the table's check
 abbrev pub IsCheckBy : {E : Type 0} → AnyTable → Symbols E → Result (Unit {0}) LinkError → Type 0
@@ -48,7 +48,7 @@ IsCheckBy (Gnu table) symbols answer = gnu.IsCheck table symbols answer
 abbrev pub LooksWhereBy : {E : Type 0} → (ℕ × E → Type 0) → AnyTable → List E → List ℕ → Result (Option (ℕ × E)) LinkError → ℕ → Type 0
 LooksWhereBy {E} P (Sysv table) symbols name answer count = (found : Result (Option (ℕ × E)) ElfError)
     × gabi.LooksWhere P table symbols name found count × (answer ≡ as_link_error found)
-LooksWhereBy P (Gnu table) symbols name answer count = gnu.LooksWhere P table symbols name answer count
+LooksWhereBy P (Gnu table) symbols name answer count = gnu.GnuLooksWhere P table symbols name answer count
 
 -- the result of a look-up for the name and P, a property of a symbol, and the number of symbols or chain words
 -- read

@@ -1,14 +1,15 @@
 -- One value with the dynamic symbols of a file: the entries of its dynamic segment, its hash table, its
 -- symbols, the string table of their names, and its version tables.
-use Rattle.std.specs.Prelude.{◌≡◌, ◌≢◌, ◌/◌, ℕ, true, List, Option, Some, None, Result, Ok, Err, IfOk, MatchOption, MatchResult, length, ok_or, slice_get}
+use Rattle.std.specs.Prelude.{◌≡◌, ◌≢◌, ◌/◌, ℕ, true, List, Option, Some, None, Result, Ok, Err, MatchOption, MatchResult, length, ok_or, slice_get}
 use Rattle.std.specs.Borrow.{Bor}
 use Rattle.std.specs.Result.{result_ok}
-use Rattle.elf_base.specs.FileHeader.{file_class, file_order, header_fields, machine_number}
+use Rattle.elf_base.specs.FileHeader.{file_class, file_order, header_fields, header_of, machine_number}
 use Rattle.elf_base.specs.FirstError.{and_then}
 use Rattle.elf_base.specs.Table.{records, table_bytes, table_data, table_items, table_order}
 use Rattle.elf_base.specs.Text.{bytes_up_to_zero_of}
 use Rattle.elf_base.specs.declared.bytes.Order.{Order}
 use Rattle.elf_base.specs.declared.bytes.table.Table.{Table}
+use Rattle.elf_base.specs.declared.error.ElfError.{ElfError}
 use Rattle.elf_linking.specs.AnyTable.{IsLinkedTable}
 use Rattle.elf_linking.specs.DynamicView.{AreSymbols, LieAsSymbols, LiesAsStrings, bytes_in_strings, counted_symbols_of, dynamic_entries_of, strings_by, text_in_strings, view_entries}
 use Rattle.elf_linking.specs.Find.{DynamicSymbols}
@@ -18,7 +19,7 @@ use Rattle.elf_linking.specs.VersionTables.{VersionTables, version_tables_of}
 use Rattle.elf_linking.specs.Versions.{version_list, version_tables}
 use Rattle.elf_linking.specs.declared.any_table.AnyTable.{AnyTable}
 use Rattle.elf_linking.specs.declared.error.LinkError.{LinkError}
-use Rattle.elf_linking.specs.declared.error.LinkError.TheVariants.{SymbolIndex, UnknownClass}
+use Rattle.elf_linking.specs.declared.error.LinkError.TheVariants.{Elf, SymbolIndex, UnknownClass}
 use Rattle.elf_linking.specs.declared.object.DynamicObject.{DynamicObject}
 use Rattle.elf_linking.specs.declared.versions.Versions.{Versions}
 use Rattle.elf_linking.specs.declared.view.dynamic.DynamicView.{DynamicView}
@@ -162,6 +163,22 @@ pub data IsReachedError (class size : ℕ) (file : ElfFile) : LinkError → Type
   no_part : (entries : List (Dynamic ℕ)) (count : ℕ) (error : LinkError) → dynamic_entries_of file ≡ Ok entries
       → IsReachedCount file entries (Ok count) → IsObjectErrorFor (Some count) class size file error
       → IsReachedError class size file error
+
+-- a file is that in these bytes
+abbrev pub IsFileOf : List ℕ → ElfFile → Type 0
+IsFileOf bytes file = (file.input.now ≡ bytes) × (header_of bytes ≡ Ok file.header)
+
+-- the object is that of the file in these bytes, which is of this class
+pub record IsObjectOfBytes {E : Type 0} {r : _} (class size : ℕ) (bytes : List ℕ) (object : DynamicObject E r) : Type 0 where
+  pub file : ElfFile
+  pub file_is : IsFileOf bytes file
+  pub object_is : IsReachedObject class size file object
+
+-- why these bytes are no such file: an error of their header, or of what a dynamic linker reads of it
+pub data IsObjectErrorOf (class size : ℕ) (bytes : List ℕ) : LinkError → Type 0 where
+  no_header : (error : ElfError) → header_of bytes ≡ Err error → IsObjectErrorOf class size bytes (Elf error)
+  no_object : (file : ElfFile) (error : LinkError) → IsFileOf bytes file → IsReachedError class size file error
+      → IsObjectErrorOf class size bytes error
 
 -- the name of the symbol at an index of an object, or why there is none
 abbrev pub object_name : {E : Type 0} → {r : _} → (E → SymbolFields) → DynamicObject E r → ℕ → Result (List ℕ) LinkError

@@ -106,7 +106,7 @@ hash_chains (Sysv table) = record {
   has = λ name index. true;
 }
 hash_chains (Gnu table) = record {
-  buckets = gnu.bucket_count_of table;
+  buckets = gnu.gnu_bucket_count table;
   first = gnu.bucket_word table;
   next = λ index. if gnu.chain_word table index % 2 == 1 then 0 else index + 1;
   hash = gnu_hash_number;

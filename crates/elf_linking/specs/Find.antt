@@ -1,6 +1,6 @@
 -- The symbol of a file that a reference by a name and a version gets (LSB, "Symbol Versioning"; which symbols
 -- serve a use, and that a hidden version is no default, as glibc's linker has it).
-use Rattle.std.specs.Prelude.{◌≡◌, ◌≢◌, ℕ, ◌%◌, ◌==◌, ◌&&◌, ◌||◌, nat_lt, not, Bool, true, false, List, length, slice_get, Option, Some, None, Result, Ok, Err, IsOkAnd, option_map, unwrap_or, if◌then◌else◌}
+use Rattle.std.specs.Prelude.{◌≡◌, ◌≢◌, ℕ, ◌%◌, ◌==◌, ◌&&◌, ◌||◌, nat_lt, not, Bool, true, false, List, length, Option, Some, None, Result, Ok, Err, IsOkAnd, option_map, unwrap_or, if◌then◌else◌}
 use Rattle.std.specs.Borrow.{Bor}
 use Rattle.std.specs.Str.{bytes_eq}
 use Rattle.elf_base.specs.FirstError.{and_then}

@@ -1,7 +1,7 @@
 -- The number of symbols of a GNU hash table, as a dynamic linker counts them from the table alone (the
 -- convention of GNU binutils and glibc; the errors of the count are this project's own).
 use Rattle.std.specs.Prelude.{◌≡◌, ◌≢◌, ℕ, ◌+◌, ◌^◌, ◌≤◌, ◌<◌, Result, Ok, Err}
-use Rattle.elf_linking.specs.GnuHash.{EndsRun, HasChain, bucket_count_of, bucket_word, chain_of, first_symbol_of}
+use Rattle.elf_linking.specs.GnuHash.{EndsRun, HasChain, gnu_bucket_count, bucket_word, chain_of, first_symbol_of}
 use Rattle.elf_linking.specs.declared.error.LinkError.{LinkError}
 use Rattle.elf_linking.specs.declared.error.LinkError.TheVariants.{SymbolIndex}
 use Rattle.elf_linking.specs.declared.gnu_hash.GnuHashTable.{GnuHashTable}
@@ -15,15 +15,15 @@ pub record GoesTo (table : GnuHashTable) (from last : ℕ) : Type 0 where
 -- the run of some bucket reaches index i, which has a chain word
 pub record IsReachedByRun (table : GnuHashTable) (i : ℕ) : Type 0 where
   pub bucket : ℕ
-  pub below : bucket < bucket_count_of table
+  pub below : bucket < gnu_bucket_count table
   pub begins : bucket_word table bucket ≢ 0
   pub goes : GoesTo table (bucket_word table bucket) i
   pub word : HasChain table i
 
 -- `from` is the greatest index at which the run of a bucket begins; 0 if no bucket has a run
 pub record IsLastRun (table : GnuHashTable) (from : ℕ) : Type 0 where
-  pub each : (k : ℕ) → k < bucket_count_of table → bucket_word table k ≤ from
-  pub begins : from ≢ 0 → (k : ℕ) × (k < bucket_count_of table) × (bucket_word table k ≡ from)
+  pub each : (k : ℕ) → k < gnu_bucket_count table → bucket_word table k ≤ from
+  pub begins : from ≢ 0 → (k : ℕ) × (k < gnu_bucket_count table) × (bucket_word table k ≡ from)
 
 -- a count stops at index i, with the next index at the end of the run, or with the error there
 pub data CountStops (table : GnuHashTable) (i : ℕ) : Result ℕ LinkError → Type 0 where

@@ -28,8 +28,8 @@ abbrev pub gnu_order : GnuHashTable → Order
 gnu_order table = table.order
 
 -- the number of buckets
-abbrev pub bucket_count_of : GnuHashTable → ℕ
-bucket_count_of table = bucket_count_in table.order table.bytes.now
+abbrev pub gnu_bucket_count : GnuHashTable → ℕ
+gnu_bucket_count table = bucket_count_in table.order table.bytes.now
 
 -- the index of the first symbol: the second of the four words
 abbrev pub first_symbol_of : GnuHashTable → ℕ
@@ -75,7 +75,7 @@ bloom_of table k =
 -- the word of bucket k, or why there is none
 unfoldable pub bucket_of : GnuHashTable → ℕ → Result ℕ LinkError
 bucket_of table k =
-    unless ((nat_le (bucket_count_of table) k, BucketIndex) ∷ []) (bucket_word table k)
+    unless ((nat_le (gnu_bucket_count table) k, BucketIndex) ∷ []) (bucket_word table k)
 
 -- the chain word of symbol i, or the first reason why there is none
 unfoldable pub chain_of : GnuHashTable → ℕ → Result ℕ LinkError
@@ -94,13 +94,13 @@ may_hold table h = let width = 8 * bloom_size table.class in
 -- the index of the first symbol of a look-up by the hash number, which is the word of its bucket; None if
 -- there are no buckets, no such name is in the table, or the bucket has no run
 unfoldable pub start_at : GnuHashTable → ℕ → Option ℕ
-start_at table h = if bucket_count_of table == 0 || not (may_hold table h) then None
-    else (let word = bucket_word table (h % bucket_count_of table) in
+start_at table h = if gnu_bucket_count table == 0 || not (may_hold table h) then None
+    else (let word = bucket_word table (h % gnu_bucket_count table) in
     if word == 0 then None else Some word)
 
 -- the index of the first symbol of a look-up by the name
-abbrev pub start_of : GnuHashTable → List ℕ → Option ℕ
-start_of table name = start_at table (gnu_hash_number name)
+abbrev pub gnu_start_of : GnuHashTable → List ℕ → Option ℕ
+gnu_start_of table name = start_at table (gnu_hash_number name)
 
 -- the chain word of symbol i ends a run
 abbrev pub EndsRun : GnuHashTable → ℕ → Type 0
@@ -150,41 +150,41 @@ NoHit {E} P h table symbols from last =
 
 -- a look-up for P stops at index i, with a result and the number of chain words read there: at a hit, at the
 -- end of the run, or where a symbol or a chain word is missing
-pub data Stops {E : Type 0} (P : ℕ × E → Type 0) (h : ℕ) (table : GnuHashTable) (symbols : List E) (i : ℕ) : Result (Option (ℕ × E)) LinkError → ℕ → Type 0 where
-  found : (e : E) → IsHit P h table symbols i e → Stops P h table symbols i (Ok (Some (i, e))) 1
+pub data GnuStops {E : Type 0} (P : ℕ × E → Type 0) (h : ℕ) (table : GnuHashTable) (symbols : List E) (i : ℕ) : Result (Option (ℕ × E)) LinkError → ℕ → Type 0 where
+  found : (e : E) → IsHit P h table symbols i e → GnuStops P h table symbols i (Ok (Some (i, e))) 1
   ended : IsThere table symbols i → EndsRun table i → ((e : E) → IsHit P h table symbols i e → ⊥)
-      → Stops P h table symbols i (Ok None) 1
-  failed : (error : LinkError) → Lacks table symbols i error → Stops P h table symbols i (Err error) 0
+      → GnuStops P h table symbols i (Ok None) 1
+  failed : (error : LinkError) → Lacks table symbols i error → GnuStops P h table symbols i (Err error) 0
 
 -- the result of a look-up for P from an index on, and the number of chain words read: that of the stop that
 -- its run comes to
-pub record LooksFrom {E : Type 0} (P : ℕ × E → Type 0) (h : ℕ) (table : GnuHashTable) (symbols : List E) (from : ℕ) (answer : Result (Option (ℕ × E)) LinkError) (n : ℕ) : Type 0 where
+pub record GnuLooksFrom {E : Type 0} (P : ℕ × E → Type 0) (h : ℕ) (table : GnuHashTable) (symbols : List E) (from : ℕ) (answer : Result (Option (ℕ × E)) LinkError) (n : ℕ) : Type 0 where
   pub last : ℕ
   pub here : ℕ
   pub run : Run table symbols from last
   pub missed : NoHit P h table symbols from last
-  pub stop : Stops P h table symbols last answer here
+  pub stop : GnuStops P h table symbols last answer here
   pub counted : n ≡ last - from + here
 
 -- the result of a look-up for the name and P, a property of a symbol and its index, and the number of chain words
 -- read
-pub data LooksWhere {E : Type 0} (P : ℕ × E → Type 0) (table : GnuHashTable) (symbols : List E) (name : List ℕ) : Result (Option (ℕ × E)) LinkError → ℕ → Type 0 where
-  no_run : start_of table name ≡ None → LooksWhere P table symbols name (Ok None) 0
-  too_early : (from : ℕ) → start_of table name ≡ Some from → from < first_symbol_of table
-      → LooksWhere P table symbols name (Err ChainIndex) 0
+pub data GnuLooksWhere {E : Type 0} (P : ℕ × E → Type 0) (table : GnuHashTable) (symbols : List E) (name : List ℕ) : Result (Option (ℕ × E)) LinkError → ℕ → Type 0 where
+  no_run : gnu_start_of table name ≡ None → GnuLooksWhere P table symbols name (Ok None) 0
+  too_early : (from : ℕ) → gnu_start_of table name ≡ Some from → from < first_symbol_of table
+      → GnuLooksWhere P table symbols name (Err ChainIndex) 0
   goes : (from n : ℕ) (answer : Result (Option (ℕ × E)) LinkError)
-      → start_of table name ≡ Some from → first_symbol_of table ≤ from
-      → LooksFrom P (gnu_hash_number name) table symbols from answer n
-      → LooksWhere P table symbols name answer n
+      → gnu_start_of table name ≡ Some from → first_symbol_of table ≤ from
+      → GnuLooksFrom P (gnu_hash_number name) table symbols from answer n
+      → GnuLooksWhere P table symbols name answer n
 
 -- the result of a look-up for the name and P, a property of a symbol, and the number of chain words read
 abbrev pub Looks : {E : Type 0} → (E → Type 0) → GnuHashTable → List E → List ℕ → Result (Option (ℕ × E)) LinkError → ℕ → Type 0
-Looks P table symbols name = LooksWhere (λ at. P at.1) table symbols name
+Looks P table symbols name = GnuLooksWhere (λ at. P at.1) table symbols name
 
 -- Tables whose runs end and contain every symbol that a search must find.
 
 -- the run from an index on ends, at a word with its lowest bit set
-pub record Ends {E : Type 0} (table : GnuHashTable) (symbols : List E) (from : ℕ) : Type 0 where
+pub record GnuEnds {E : Type 0} (table : GnuHashTable) (symbols : List E) (from : ℕ) : Type 0 where
   pub last : ℕ
   pub run : Run table symbols from last
   pub there : IsThere table symbols last
@@ -199,7 +199,7 @@ pub record IsCut {E : Type 0} (table : GnuHashTable) (symbols : List E) (from : 
 -- bucket k has no run, or one that begins at the first symbol or later and ends
 abbrev pub IsBucketGood : {E : Type 0} → GnuHashTable → List E → ℕ → Type 0
 IsBucketGood table symbols k = let from = bucket_word table k in
-    (from ≡ 0) ⊎ ((first_symbol_of table ≤ from) × Ends table symbols from)
+    (from ≡ 0) ⊎ ((first_symbol_of table ≤ from) × GnuEnds table symbols from)
 
 -- the buckets below n are good
 abbrev pub AreGoodBelow : {E : Type 0} → GnuHashTable → List E → ℕ → Type 0
@@ -223,25 +223,25 @@ pub record IsExported {E : Type 0} (table : GnuHashTable) (symbols : Symbols E) 
 -- index i is found for the name: the run of the name comes to it, and its chain word has the hash number
 pub record IsHeld {E : Type 0} (table : GnuHashTable) (symbols : List E) (name : List ℕ) (i : ℕ) : Type 0 where
   pub from : ℕ
-  pub starts : start_of table name ≡ Some from
+  pub starts : gnu_start_of table name ≡ Some from
   pub run : Run table symbols from i
   pub there : IsThere table symbols i
   pub agrees : chain_word table i / 2 ≡ gnu_hash_number name / 2
 
 -- each bucket is good, and every exported symbol is found for its name
-pub record IsGood {E : Type 0} (table : GnuHashTable) (symbols : Symbols E) : Type 0 where
-  pub buckets : AreGoodBelow table symbols.items (bucket_count_of table)
+pub record IsGnuGood {E : Type 0} (table : GnuHashTable) (symbols : Symbols E) : Type 0 where
+  pub buckets : AreGoodBelow table symbols.items (gnu_bucket_count table)
   pub holds : (i : ℕ) (e : E) (name : List ℕ) → IsExported table symbols i e name
       → IsHeld table symbols.items name i
 
 -- the result of the check: the error of the least bucket at fault; otherwise whether a symbol is missing
 pub data IsCheck {E : Type 0} (table : GnuHashTable) (symbols : Symbols E) : Result (Unit {0}) LinkError → Type 0 where
-  good : IsGood table symbols → IsCheck table symbols (Ok tt)
-  faulty : (k : ℕ) (error : LinkError) → k < bucket_count_of table
+  good : IsGnuGood table symbols → IsCheck table symbols (Ok tt)
+  faulty : (k : ℕ) (error : LinkError) → k < gnu_bucket_count table
       → AreGoodBelow table symbols.items k
       → IsAtFault table symbols.items k error → IsCheck table symbols (Err error)
   missing : (i : ℕ) (e : E) (name : List ℕ)
-      → AreGoodBelow table symbols.items (bucket_count_of table)
+      → AreGoodBelow table symbols.items (gnu_bucket_count table)
       → IsExported table symbols i e name → ¬ IsHeld table symbols.items name i
       → IsCheck table symbols (Err Missing)
 

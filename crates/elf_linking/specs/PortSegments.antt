@@ -1,5 +1,5 @@
 -- The segments of a file beside the program headers that xmas_elf reads.
-use Rattle.std.specs.Prelude.{◌≡◌, ◌≢◌, true, List, map}
+use Rattle.std.specs.Prelude.{◌≡◌, ◌≢◌, true, map}
 use Rattle.elf_base.specs.FileHeader.{file_class, header_fields}
 use Rattle.elf_records.specs.ProgramNumbers.{ph_type_number}
 use Rattle.xmas_elf.specs.HeaderTable.{IsKnownClass}

@@ -1,5 +1,5 @@
 -- The relocations of a file that name a symbol (gABI, "Relocation" and "Dynamic Section").
-use Rattle.std.specs.Prelude.{◌≡◌, ℕ, ◌+◌, ◌*◌, ◌/◌, ◌%◌, ◌^◌, nat_le, nat_lt, ◌==◌, ◌&&◌, ◌||◌, not, Bool, true, false, List, [], ◌∷◌, ◌++◌, length, filter, Option, None, Some, ok_or, option_map, unwrap_or, Result, Ok, Err, if◌then◌else◌}
+use Rattle.std.specs.Prelude.{◌≡◌, ℕ, ◌+◌, ◌*◌, ◌/◌, ◌%◌, ◌^◌, nat_le, nat_lt, ◌==◌, ◌&&◌, ◌||◌, not, Bool, true, false, List, [], ◌∷◌, ◌++◌, length, filter, Option, Some, ok_or, option_map, unwrap_or, Result, Ok, Err, if◌then◌else◌}
 use Rattle.elf_base.specs.FileHeader.{file_class, file_order, header_fields, machine_number}
 use Rattle.elf_base.specs.Number.{number}
 use Rattle.elf_base.specs.FirstError.{and_then, unless}

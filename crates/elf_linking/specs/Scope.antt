@@ -120,16 +120,16 @@ pub data GivesAt {E : Type 0} {r : _} (Finds : DynamicSymbols E → List ℕ →
 -- The symbol that a reference gets.
 
 -- the objects that are asked before the one at an index give nothing
-abbrev pub NoneBefore : {E : Type 0} → (ℕ → Result (Option (ℕ × E)) LinkError → Type 0) → Bool → ℕ → ℕ → Type 0
-NoneBefore AtIndex symbolic from index = (i : ℕ) → ComesBefore symbolic from i index → AtIndex i (Ok None)
+abbrev pub NoneGivenBefore : {E : Type 0} → (ℕ → Result (Option (ℕ × E)) LinkError → Type 0) → Bool → ℕ → ℕ → Type 0
+NoneGivenBefore AtIndex symbolic from index = (i : ℕ) → ComesBefore symbolic from i index → AtIndex i (Ok None)
 
 -- what the first object gives that gives a symbol or an error; nothing if there is no such object
 pub data IsFirstGiven {E : Type 0} (AtIndex : ℕ → Result (Option (ℕ × E)) LinkError → Type 0) (count : ℕ) (symbolic : Bool) (from : ℕ) : Result (Option (Bound E)) LinkError → Type 0 where
-  given : (bound : Bound E) → bound.object < count → NoneBefore AtIndex symbolic from bound.object
+  given : (bound : Bound E) → bound.object < count → NoneGivenBefore AtIndex symbolic from bound.object
       → AtIndex bound.object (Ok (Some (bound.index, bound.symbol)))
       → IsFirstGiven AtIndex count symbolic from (Ok (Some bound))
   nowhere : ((i : ℕ) → i < count → AtIndex i (Ok None)) → IsFirstGiven AtIndex count symbolic from (Ok None)
-  failed : (index : ℕ) (error : LinkError) → index < count → NoneBefore AtIndex symbolic from index
+  failed : (index : ℕ) (error : LinkError) → index < count → NoneGivenBefore AtIndex symbolic from index
       → AtIndex index (Err error) → IsFirstGiven AtIndex count symbolic from (Err error)
 
 -- the symbol that the objects give for a name, a version and a use, where `Finds` says what a search in an object finds:

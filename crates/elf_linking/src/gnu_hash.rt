@@ -92,7 +92,7 @@ pub struct GnuHashTable<'a> {
 
 impl<'a> GnuHashTable<'a> {
     ghost use Rattle.elf_linking.specs.GnuHash.{HasChain, bloom_count_of, bloom_of};
-    ghost use Rattle.elf_linking.specs.GnuHash.{bloom_shift_of, bloom_word, bucket_count_of};
+    ghost use Rattle.elf_linking.specs.GnuHash.{bloom_shift_of, bloom_word, gnu_bucket_count};
     ghost use Rattle.elf_linking.specs.GnuHash.{bucket_of, bucket_word, chain_of, chain_place};
     ghost use Rattle.elf_linking.specs.GnuHash.{chain_word, first_symbol_of, gnu_class, gnu_data};
     ghost use Rattle.elf_linking.specs.GnuHash.{gnu_order, may_hold, start_at};
@@ -134,7 +134,7 @@ impl<'a> GnuHashTable<'a> {
     /// The number of buckets.
     #[inline(always)]
     pub fn bucket_count(&self) -> u32
-        ensures { result ≡ bucket_count_of self.now }
+        ensures { result ≡ gnu_bucket_count self.now }
     {
         read_u32(self.bytes, 0, self.order)
     }
@@ -202,7 +202,7 @@ impl<'a> GnuHashTable<'a> {
     /// Error: `BucketIndex` if the index is not below `bucket_count`.
     #[tactic(auto, unfolding(crate::specs::GnuHash::bucket_of))]
     pub fn get_bucket(&self, index: u32) -> Result<u32, LinkError>
-        ensures readable { IsOk result ↔ (index < bucket_count_of self.now) }
+        ensures readable { IsOk result ↔ (index < gnu_bucket_count self.now) }
         ensures value { IfOk result (λ word. word ≡ bucket_word self.now index) }
         ensures exact { result ≡ bucket_of self.now index }
     {
@@ -216,7 +216,7 @@ impl<'a> GnuHashTable<'a> {
     #[tactic(auto, unfolding(crate::specs::GnuHash::bucket_word))]
     #[inline(always)]
     fn bucket(&self, index: u32) -> u32
-        requires { index < bucket_count_of self.now }
+        requires { index < gnu_bucket_count self.now }
         ensures { result ≡ bucket_word self.now index }
     {
         let buckets = 16 + bloom_size(self.class) * self.bloom_count() as usize;

@@ -62,6 +62,7 @@ impl<'a, E: LinkedSymbol> DynamicObject<'a, E> {
     ghost use Rattle.elf_linking.specs.DynamicObject.{IsObject, object_name, object_view};
     ghost use Rattle.elf_linking.specs.DynamicObject.{IsObjectFor, object_machine, object_versions};
     ghost use Rattle.elf_linking.specs.DynamicObject.{IsObjectErrorFor, object_dynamic_symbols};
+    ghost use Rattle.elf_linking.specs.DynamicObject.{IsObjectErrorOf, IsObjectOfBytes};
     ghost use Rattle.elf_linking.specs.DynamicObject.{IsReachedError, object_name_bytes};
     ghost use Rattle.elf_linking.specs.DynamicObject.{object_records, object_strings, object_table};
     ghost use Rattle.elf_linking.specs.Find.{AreReadable, FindsRight, IsFound};
@@ -112,6 +113,20 @@ impl<'a, E: LinkedSymbol> DynamicObject<'a, E> {
         let view = DynamicView::read(file)?;
         let count = view.reached_count(file)?;
         Self::read_counted(file, count)
+    }
+
+    /// Reads the same of the file in these bytes.
+    ///
+    /// Errors, the first of these: those of `ElfFile::new`; those of `read_reached`.
+    pub fn of_bytes(bytes: &'a [u8]) -> Result<Self, LinkError>
+        ensures exact { MatchResult result (IsObjectOfBytes E.CLASS E.SIZE bytes.now)
+            (IsObjectErrorOf E.CLASS E.SIZE bytes.now) }
+        ensures place { IfOk result (λ object. (object_file object).input ≡ bytes.entry) }
+    {
+        match ElfFile::new(bytes) {
+            Ok(file) => Self::read_reached(&file),
+            Err(error) => Err(LinkError::Elf(error)),
+        }
     }
 
     // Reads the dynamic segment of a file with as many symbols as are given, otherwise with as many

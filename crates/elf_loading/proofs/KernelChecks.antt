@@ -1,15 +1,14 @@
 -- Linux maps a program that passes `check_load`.
-use Rattle.std.proofs.Common.{◌≡◌, ℕ, ◌+◌, ◌-◌, ◌%◌, ◌^◌, ◌==◌, ◌<◌, ◌≤◌, ◌&&◌, ◌||◌, bit_and, min, not, nat_lt, nat_le, Bool, true, false, List, [], ◌∷◌, ◌++◌, length, Option, Some, None, Result, Ok, Err, if◌then◌else◌, refl, sym, ap, subst, ◌∙◌, arith}
+use Rattle.std.proofs.Common.{◌≡◌, ℕ, ◌+◌, ◌-◌, ◌%◌, ◌^◌, ◌==◌, ◌<◌, ◌≤◌, ◌&&◌, ◌||◌, bit_and, min, not, nat_lt, nat_le, Bool, true, false, List, [], ◌∷◌, ◌++◌, length, Option, Some, None, Result, Ok, Err, if◌then◌else◌, refl, ap, ◌∙◌, arith}
 use Rattle.std.proofs.lemmas.Bool.{and_left, and_right, eq-eqb, eqb-false, eqb-true, le-ltb, leb-true, ltb-false, ne_eqb, or_from, or_parts}
 use Rattle.std.specs.Prelude.{IsOk}
-use Rattle.std.specs.List.{list_all}
 use Rattle.elf_base.specs.FileHeader.{header_fields}
 use Rattle.elf_base.specs.FirstError.{and_then, unless}
 use Rattle.elf_linking.specs.Segments.{table_size}
 use Rattle.xmas_elf.specs.Types.{ElfFile}
 use Rattle.elf_loading.specs.Types.{LoadError, Segment}
-use Rattle.elf_loading.specs.FileCheck.{NoneApplies, all_rows, check_file, has_no_load, header_rows, is_no_path, kind_of, segment_rows}
-use Rattle.elf_loading.specs.LoadCheck.{is_empty_load, is_inside_page, load_end, load_rows, load_start, loads_rows}
+use Rattle.elf_loading.specs.FileCheck.{NoneApplies, check_file, header_rows, is_no_path, kind_of}
+use Rattle.elf_loading.specs.LoadCheck.{is_inside_page, load_end, load_rows, load_start, loads_rows}
 use Rattle.elf_loading.specs.LoaderCheck.{are_nothing, check_by, check_each, check_program, has_lost_zeros, is_misaligned, is_nothing_at, is_past_offsets, kernel_rows, start_rows}
 use Rattle.elf_loading.specs.Pages.{down, up}
 use Rattle.elf_loading.specs.Segments.{interpreter_of, loads_of}

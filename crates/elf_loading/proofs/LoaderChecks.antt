@@ -1,8 +1,8 @@
 -- The checks of one loader, load by load.
-use Rattle.std.proofs.Common.{◌≡◌, ℕ, Bool, true, false, not, nat_lt, List, [], ◌∷◌, length, Option, Some, None, Result, Ok, Err, if◌then◌else◌, refl, ap, ◌∙◌, sym}
+use Rattle.std.proofs.Common.{◌≡◌, ℕ, Bool, true, false, List, [], ◌∷◌, length, Option, Some, None, Ok, Err, if◌then◌else◌, refl, ap, ◌∙◌}
 use Rattle.std.specs.List.{last_or, list_all, list_any}
 use Rattle.std.specs.Prelude.{slice_get}
-use Rattle.elf_base.specs.FirstError.{and_then, unless}
+use Rattle.elf_base.specs.FirstError.{unless}
 use Rattle.elf_loading.specs.FileCheck.{has_no_load}
 use Rattle.elf_loading.specs.LoaderCheck.{are_nothing, check_each, is_nothing_at}
 use Rattle.elf_loading.specs.LoadCheck.{load_start}

@@ -1,5 +1,5 @@
 -- Which relocation has an error.
-use Rattle.std.proofs.Common.{◌≡◌, ℕ, Bool, false, List, Some, Result, Ok, Err, length, sym, ap, ◌∙◌, subst, refl}
+use Rattle.std.proofs.Common.{◌≡◌, ℕ, Bool, false, List, Some, Result, Ok, Err, sym, ap, ◌∙◌, subst, refl}
 use Rattle.std.specs.Borrow.{Bor}
 use Rattle.std.specs.Prelude.{IfErr, MatchResult, slice_get}
 use Rattle.std.proofs.lemmas.List.Elements.{All-weaker}

@@ -31,7 +31,7 @@ use Rattle.xmas_elf.specs.Types.{ElfFile}
 abbrev pub hash_size : ElfFile → AnyTable → ℕ → ℕ
 hash_size file (Sysv table) count = 8 + 4 * (gabi.bucket_count_of table + gabi.chain_count_of table)
 hash_size file (Gnu table) count = 16 + address_size file * gnu.bloom_count_of table
-    + 4 * (gnu.bucket_count_of table + (count - gnu.first_symbol_of table))
+    + 4 * (gnu.gnu_bucket_count table + (count - gnu.first_symbol_of table))
 
 -- the entry with the address of the hash table
 abbrev pub hash_tag : AnyTable → ℕ

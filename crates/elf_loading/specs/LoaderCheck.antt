@@ -1,6 +1,6 @@
 -- Which files one loader maps: a program by Linux (`load_elf_binary` of its `fs/binfmt_elf.c`, version 6.18), a library by
 -- glibc 2.36 (`_dl_map_object_from_fd` of its `elf/dl-load.c`). Sums are exact, where both loaders compute modulo 2 to the 64.
-use Rattle.std.specs.Prelude.{ℕ, ◌+◌, ◌-◌, ◌*◌, ◌%◌, ◌==◌, ◌&&◌, ◌||◌, bit_and, not, nat_le, nat_lt, Bool, true, false, List, [], ◌∷◌, length, slice_get, Option, Some, None, option_map, Result, Ok, Err}
+use Rattle.std.specs.Prelude.{ℕ, ◌+◌, ◌-◌, ◌*◌, ◌%◌, ◌==◌, ◌&&◌, ◌||◌, bit_and, not, nat_le, nat_lt, Bool, false, List, [], ◌∷◌, length, slice_get, Option, Some, None, option_map, Result, Ok, Err}
 use Rattle.std.specs.Int.{is_power_of_two}
 use Rattle.std.specs.List.{last_or, list_all, list_any}
 use Rattle.elf_base.specs.FirstError.{and_then, unless}

@@ -1,5 +1,5 @@
 -- Which relocation has the error of a check or of a relocation (this project's own).
-use Rattle.std.specs.Prelude.{◌≡◌, ℕ, ◌^◌, ◌-◌, min, Bool, false, List, [], ◌∷◌, ◌++◌, All, map, length, slice_get, Option, None, Some, Result, Ok, Err, IsOk, MatchResult}
+use Rattle.std.specs.Prelude.{◌≡◌, ℕ, ◌^◌, ◌-◌, min, Bool, false, List, [], ◌∷◌, ◌++◌, All, map, length, slice_get, None, Some, Result, Ok, Err, IsOk, MatchResult}
 use Rattle.std.specs.Borrow.{Bor}
 use Rattle.elf_linking.specs.DynamicObject.{object_file, object_view}
 use Rattle.elf_linking.specs.DynamicView.{view_entries}

@@ -1,6 +1,6 @@
 -- Lemmas on the entries of a cache that compare equal, and on those used among them.
 use Rattle.std.proofs.Common.{◌≡◌, ℕ, zero, suc, ◌+◌, ◌-◌, ◌*◌, ◌<◌, ◌≤◌, ◌&&◌, Bool, true, false, List, [], ◌∷◌, length, drop, take, refl, Option, None, Some, IfSome, arith, add-one}
-use Rattle.std.specs.Prelude.{nat_le, nat_lt, option_map, unwrap_or, is_none, if◌then◌else◌, Ok, Err}
+use Rattle.std.specs.Prelude.{nat_le, nat_lt, unwrap_or, is_none, if◌then◌else◌, Ok, Err}
 use Rattle.std.proofs.lemmas.Grind.{common_steps}
 use Rattle.std.proofs.lemmas.Bool.{ltb-false, ltb-true}
 use Rattle.std.specs.declared.cmp.Ordering.{Ordering}

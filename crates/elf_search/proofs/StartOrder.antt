@@ -4,10 +4,10 @@ use Rattle.std.specs.Prelude.{◌||◌, eqb}
 use Rattle.std.proofs.lemmas.Bool.{both_ways, eq-eqb, eqb-true}
 use Rattle.std.proofs.lemmas.List.{append_assoc}
 use Rattle.std.proofs.lemmas.List.Folds.{list_any-append}
-use Rattle.elf_search.specs.Starts.{IsBefore, Needs, NeedsFirst, Starts, Visits, back_from, is_marked}
+use Rattle.elf_search.specs.Starts.{IsBefore, Needs, NeedsFirst, Starts, Visits, is_marked}
 use Rattle.elf_search.specs.Starts.Needs.{itself, through}
 use Rattle.elf_search.specs.Starts.Visits.{done, pass, visit}
-use Rattle.elf_search.specs.Order.{before_of, edges_of, last_of}
+use Rattle.elf_search.specs.Order.{edges_of}
 use Rattle.elf_search.specs.declared.order.Order.{Order}
 use Rattle.elf_search.proofs.Starting.{marked_head, marked_tail, or_left}
 

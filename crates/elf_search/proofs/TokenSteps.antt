@@ -1,7 +1,7 @@
 -- Tokens at the front of a text, and texts with their tokens replaced, byte by byte.
 use Rattle.std.proofs.Common.{◌≡◌, ◌≢◌, ℕ, zero, suc, List, [], ◌∷◌, ◌++◌, Some, None, true, false, length, drop, refl, ap, arith, ◌∙◌, sym}
 use Rattle.std.proofs.lemmas.Bool.{eq-eqb, ne_eqb}
-use Rattle.elf_search.specs.Tokens.{TokenParts, Values, is_known, is_unknown_at, replaced, token_at, token_length, value_of}
+use Rattle.elf_search.specs.Tokens.{TokenParts, Values, is_known, is_unknown_at, replaced, token_at, value_of}
 
 pub known_end : (values : Values) (text : List ℕ) → text ≡ [] → is_known values text ≡ true
 known_end values text is = ap (is_known values) is

@@ -5,7 +5,8 @@ use Rattle.std.proofs.lemmas.Slice.Zip.{AllZip-left}
 use Rattle.elf_base.specs.FileHeader.{header_of}
 use Rattle.elf_linking.specs.declared.object.DynamicObject.{DynamicObject}
 use Rattle.elfbind.specs.Files.{AreAccepted}
-use Rattle.linking_programs.specs.Files.{AreObjectsOf, IsObjectOfBytes}
+use Rattle.elf_linking.specs.DynamicObject.{IsObjectOfBytes}
+use Rattle.linking_programs.specs.Files.{AreObjectsOf}
 use Rattle.linking_programs.specs.declared.Input.{Input}
 
 -- inputs with objects are accepted
@@ -14,7 +15,7 @@ accepted_by {E} {r} class size inputs objects all i = go (slice_get inputs i) (A
   where
     with_object : (input : Input) (found : Option (DynamicObject E r)) → IsSomeAnd found (IsObjectOfBytes class size input.bytes.items) → IsOk (header_of input.bytes.items)
     with_object input None never = absurd never
-    with_object input (Some object) is = subst IsOk (sym is.header_is) refl
+    with_object input (Some object) is = subst IsOk (sym is.file_is.2) refl
 
     go : (found : Option Input) → MatchOption found (Unit {0}) (λ input. IsSomeAnd (slice_get objects i) (IsObjectOfBytes class size input.bytes.items)) → IfSome found (λ input. IsOk (header_of input.bytes.items))
     go None none = tt

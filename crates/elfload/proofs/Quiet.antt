@@ -1,5 +1,5 @@
 -- The status of a program whose output may be closed.
-use Rattle.std.proofs.Common.{◌≡◌, ◌≢◌, ◌≤◌, ℕ, Bool, true, false, Result, Ok, Err, refl, arith}
+use Rattle.std.proofs.Common.{◌≡◌, ◌≢◌, ◌≤◌, Bool, true, false, Result, Ok, Err, refl, arith}
 use Rattle.std.specs.Prelude.{IsTrue}
 use Rattle.program_ends.specs.Ends.{quiet_status_of, status_of}
 use Rattle.program_ends.specs.declared.Fault.{Fault}

@@ -1,7 +1,6 @@
 -- The steps of a start so far.
 use Rattle.std.proofs.Common.{◌≡◌, ◌<◌, ◌+◌, ◌++◌, ◌∷◌, [], ℕ, List, drop, length, get_or, take, ap, sym, ◌∙◌, append_assoc, append-nil}
 use Rattle.std.proofs.lemmas.List.{take_more}
-use Rattle.std.specs.List.{flat_map}
 use Rattle.elfload.proofs.WordLines.{flat_map_more}
 use Rattle.elfload.specs.Starts.{library_steps, own_steps, place_in, start_steps, step}
 use Rattle.elfload.specs.declared.steps.Part.TheVariants.{Entry, Preinit}

@@ -1,5 +1,5 @@
 -- The values of an array, and its functions.
-use Rattle.std.proofs.Common.{◌≡◌, ◌<◌, ◌+◌, ◌++◌, ◌∷◌, [], ℕ, List, Option, Some, None, Result, Ok, Err, All, map, length, get_or, take, suc, true, false, refl, ap, sym, subst, ◌∙◌, append_assoc, append-nil, arith}
+use Rattle.std.proofs.Common.{◌≡◌, ◌<◌, ◌+◌, ◌++◌, ◌∷◌, [], ℕ, List, Some, None, Result, Ok, Err, All, map, length, get_or, take, suc, true, false, refl, ap, sym, subst, ◌∙◌, append_assoc, append-nil, arith}
 use Rattle.std.specs.Borrow.{Bor}
 use Rattle.std.specs.Prelude.{IsOk, MatchResult, if◌then◌else◌, slice_get, slice_set, ⊤}
 use Rattle.std.proofs.lemmas.List.{length-take-le, length_push, map-append, take_more}
@@ -14,7 +14,7 @@ use Rattle.elf_loading.specs.declared.value.Value.TheVariants.{Sum}
 use Rattle.elf_loading.specs.declared.words.Binding.TheVariants.{Now}
 use Rattle.elfload.proofs.WordLines.{same_then}
 use Rattle.elfload.specs.Starts.{AreInPlace, AreRelocated, AreSet, AreValues, IsArrayError, IsSlotError, by_words, more_in_place, none_in_place, numbered, slot_address, slot_at, start_of, with_items, with_value, with_word}
-use Rattle.elfload.specs.Types.{DynamicObject, ElfFile, LinkError, LoadError, Relocated, Relocation, Stop, Value, Word, Words}
+use Rattle.elfload.specs.Types.{DynamicObject, ElfFile, LinkError, LoadError, Relocated, Stop, Value, Word, Words}
 use Rattle.elfload.specs.Words.{HasKnownWord, IsTextError, IsWordError, by_word, is_unchanged}
 use Rattle.elfload.specs.declared.arrays.Slots.{Slots}
 use Rattle.elfload.specs.declared.starts.Start.{Start}

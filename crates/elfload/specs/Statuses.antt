@@ -1,5 +1,5 @@
 -- The exit status for several files (this project's own).
-use Rattle.std.specs.Prelude.{◌≡◌, ℕ, List, Result, Ok, Err, if◌then◌else◌, is_err}
+use Rattle.std.specs.Prelude.{◌≡◌, ℕ, List, Result, if◌then◌else◌, is_err}
 use Rattle.std.specs.Borrow.{Bor}
 use Rattle.std.specs.List.{AllZip, list_any}
 use Rattle.elfload.specs.Ends.{IsEnd, IsWordsEnd}

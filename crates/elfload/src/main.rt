@@ -22,6 +22,7 @@ ghost use Rattle.elfload.specs.Images.{AreImagesGood};
 ghost use Rattle.elfload.specs.Plans.{IsInputLoaded, IsInputPlan, IsInputError};
 ghost use Rattle.elfload.specs.Statuses.{ArePlanEnds, IsRunStatus};
 ghost use Rattle.elfload.specs.Symbols.{AreSymbolsFound, is_now};
+ghost use Rattle.linking_programs.specs.Numbers.{AreNumbersKnown};
 ghost use Rattle.elfload.specs.declared.plans.AnyError.{AnyError};
 ghost use Rattle.program_ends.specs.Appended.{AppendsSome};
 ghost use Rattle.program_ends.specs.Ends.{quiet_status_of};
@@ -37,7 +38,7 @@ use crate::steps::{Step, early_starts, start_steps};
 use crate::symbols::say_unresolved;
 use elf_base::bytes::Record;
 use elf_loading::Binding;
-use linking_programs::Input;
+use linking_programs::{Input, say_past_numbers};
 use program_ends::json::Form;
 use program_ends::{
     CLOSED, Fault, Watched, exit_code, fault_of, quiet_status_of, say, write_buffered,
@@ -139,10 +140,11 @@ pub fn run<W: Write, E: Write>(
 /// libraries and versions are missing; returns the exit status.
 ///
 /// The status is that of `run` for the files of the program and its libraries, in the order in which names
-/// are looked up. It is 1 if that is 0 and a library or a version is missing, or, unless jump slots get their
-/// symbols later, a symbol; and if there is no memory for the list of the files. By the contract it is 0 only if each
-/// name that these files ask for, other than by an auxiliary entry, found an object, if what `run` says of the
-/// status 0 is so, and if each reference that isn't weak gets a symbol.
+/// are looked up. It is 1 if that is 0 and a library or a version is missing, a symbol has a version number past those
+/// of all versions, or, unless jump slots get their symbols later, a symbol is missing; and if there is no memory for
+/// the list of the files. By the contract it is 0 only if each name that these files ask for, other than by an auxiliary
+/// entry, found an object, if what `run` says of the status 0 is so, if each version number is known, and if each
+/// reference that isn't weak gets a symbol.
 pub fn run_found<W: Write, E: Write>(
     alloc: Global,
     asked: Options<'_>,
@@ -167,8 +169,9 @@ pub fn run_found<W: Write, E: Write>(
 
 /// Writes what `run` does of a program and its libraries, of which some may be missing, and returns the exit status.
 ///
-/// The status is that of `run`. It is 1 if that is 0 and a library is missing; and, unless jump slots get their
-/// symbols later, if none is missing and a reference that isn't weak gets no symbol, which `err` says of the first.
+/// The status is that of `run`. It is 1 if that is 0 and a library is missing; and, if none is missing, if a symbol has a
+/// version number past those of all versions, or, unless jump slots get their symbols later, a reference that isn't
+/// weak gets no symbol. `err` says of the first which it is.
 pub(crate) fn run_together<W: Write, E: Write>(
     alloc: Global,
     asked: Options<'_>,
@@ -201,8 +204,8 @@ fn is_now(when: Binding) -> bool
     }
 }
 
-// The status of files that had this one, of which some may be missing: 1 if it was 0 and one is, or, where that is
-// asked for, a symbol.
+// The status of files that had this one, of which some may be missing: 1 if it was 0 and one is, a symbol has a
+// version number past those of all versions, or, where that is asked for, a symbol is missing.
 fn with_symbols<E: Write>(
     alloc: Global,
     status: u8,
@@ -213,13 +216,21 @@ fn with_symbols<E: Write>(
 ) -> u8
     ensures kept { result ≡ 0 → status ≡ 0 }
     ensures whole { result ≡ 0 → IsFalse missing }
+    ensures known { result ≡ 0
+        → AreNumbersKnown ⟦<DynEntry32 as Record>⟧ ⟦<DynEntry64 as Record>⟧ inputs.now }
     ensures found { result ≡ 0 → IsTrue wanted
         → AreSymbolsFound ⟦<DynEntry32 as Record>⟧ ⟦<DynEntry64 as Record>⟧ inputs.now }
     ensures bound { (status ≢ CLOSED → status ≤ 1) → result ≢ CLOSED → result ≤ 1 }
     ensures closed { result ≡ CLOSED → status ≡ CLOSED }
 {
-    if status != 0 || missing || !wanted {
+    if status != 0 || missing {
         return with_missing(missing, status);
+    }
+    if say_past_numbers(alloc, NAME, inputs, &mut *err) {
+        return 1;
+    }
+    if !wanted {
+        return 0;
     }
     say_unresolved(alloc, inputs, err)
 }
@@ -228,10 +239,10 @@ fn with_symbols<E: Write>(
 /// libraries and versions are missing; returns the exit status.
 ///
 /// The functions are those of the files of the program and its libraries, after the checks of `run_words` with pages of
-/// a size. The status is that of `run_words`; it is 1 if that is 0 and a library, a version or a symbol is missing, and if
-/// there is no memory for the lists of the files and of the steps. By the contract it is 0 only if each name that these
-/// files ask for, other than by an auxiliary entry, found an object, if these checks pass, and if each reference that isn't
-/// weak gets a symbol.
+/// a size. The status is that of `run_words`; it is 1 if that is 0 and a library, a version or a symbol is missing, or a
+/// symbol has a version number past those of all versions, and if there is no memory for the lists of the files and of the
+/// steps. By the contract it is 0 only if each name that these files ask for, other than by an auxiliary entry, found an
+/// object, if these checks pass, if each version number is known, and if each reference that isn't weak gets a symbol.
 pub fn run_start<W: Write, E: Write>(
     alloc: Global,
     form: Form,

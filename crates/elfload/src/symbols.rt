@@ -1,17 +1,16 @@
 //! Whether each reference gets a symbol, unless it is weak.
 
-ghost use Rattle.std.specs.Prelude.{◌≡◌, ◌≤◌, IfOk, length, map};
-ghost use Rattle.elf_linking.specs.Exports.{object_parts};
+ghost use Rattle.std.specs.Prelude.{◌≡◌, ◌≤◌};
 ghost use Rattle.elfload.specs.Symbols.{AreInputsBound, AreSymbolsFound};
 
 use crate::NAME;
 use crate::printing::{load_stop, words_fault_of};
 use elf_base::bytes::Record;
+use elf_linking::DynamicObject;
 use elf_linking::checked::{CheckedBinding, CheckedScope};
 use elf_linking::view::LinkedSymbol;
-use elf_linking::{CheckedObject, DynamicObject, LinkError};
-use linking_programs::{Failed, Input, failure_at, is_first_narrow, read_objects};
-use program_ends::{Stop, say, write_name};
+use linking_programs::{Input, checked_objects, is_first_narrow, read_objects};
+use program_ends::{say, write_name};
 use std::alloc::Global;
 use std::io;
 use std::io::Write;
@@ -49,29 +48,6 @@ fn say_first<E: LinkedSymbol, W: Write>(alloc: Global, inputs: &[Input<'_>], err
         Some(item) => say_symbol(inputs, &objects, item, err),
         None => 0,
     }
-}
-
-// The objects, which have passed their checks once.
-fn checked_objects<'s, 'a, E: LinkedSymbol>(
-    alloc: Global,
-    inputs: &'s [Input<'_>],
-    objects: &[DynamicObject<'a, E>],
-) -> Result<Vec<CheckedObject<'a, E>>, Stop<Failed<'s, LinkError>>>
-    requires { length objects.now ≡ length inputs.now }
-    ensures { IfOk result (λ checked. checked.items ≡ map (object_parts E.fields) objects.now) }
-{
-    let mut checked = Vec::new(alloc);
-    for index in 0..objects.len() {
-        match CheckedObject::of(objects[index]) {
-            Ok(object) => {
-                if checked.push(object).is_err() {
-                    return Err(Stop::Memory);
-                }
-            }
-            Err(error) => return Err(failure_at(inputs, index, error)),
-        }
-    }
-    Ok(checked)
 }
 
 // Says which symbol a reference doesn't get, in the words of `ld.so`.

@@ -1,6 +1,6 @@
 -- What the program writes of two files (this project's own): a line for each part whose size differs, and the bytes by
 -- kind of part.
-use Rattle.std.specs.Prelude.{◌≡◌, ℕ, ◌+◌, ◌-◌, ◌/◌, ◌%◌, ◌++◌, ◌==◌, ◌⊎◌, Bool, false, true, List, [], Option, None, Some, Result, Ok, Err, codes, decimal, if◌then◌else◌, length, nat_lt, ⊤}
+use Rattle.std.specs.Prelude.{◌≡◌, ℕ, ◌+◌, ◌-◌, ◌/◌, ◌%◌, ◌++◌, ◌==◌, ◌⊎◌, Bool, false, true, List, [], Option, None, Some, Result, Ok, Err, codes, decimal, if◌then◌else◌, length, nat_lt}
 use Rattle.std.specs.Borrow.{Bor}
 use Rattle.std.specs.List.{AllZip, flat_map, sum_by}
 use Rattle.elf_addresses.specs.Differences.{AreDifferences, all_sizes, distance, growth, new_size, old_size, shown, shrinkage}

@@ -1,5 +1,5 @@
 -- The symbols that own the bytes of a file: its own, or those of its separate debug file, if they are asked for.
-use Rattle.std.specs.Prelude.{◌≡◌, ℕ, ◌⊎◌, List, Result, Err, IsOkAnd, IsSome, ⊤}
+use Rattle.std.specs.Prelude.{◌≡◌, ℕ, ◌⊎◌, List, Err, IsOkAnd, IsSome, ⊤}
 use Rattle.std.specs.Borrow.{Bor}
 use Rattle.elf_base.specs.FileHeader.{header_of}
 use Rattle.elfsize.specs.Symbols.{AreSymbols, IsSymbolsError}

@@ -2,9 +2,8 @@
 use Rattle.std.proofs.Common.{◌≡◌, ◌<◌, ℕ, List, get_or, length, take, Option, Result, Ok, Err, refl, subst}
 use Rattle.std.specs.Prelude.{IfOk, MatchResult, ⊤}
 use Rattle.std.proofs.lemmas.Option.{slice_get_read}
-use Rattle.elf_base.specs.FileHeader.{header_of}
 use Rattle.elf_linking.specs.Checked.{AreChecked}
-use Rattle.elf_linking.specs.DynamicObject.{IsReachedObject, object_dynamic_symbols}
+use Rattle.elf_linking.specs.DynamicObject.{IsObjectOfBytes, object_dynamic_symbols}
 use Rattle.elf_linking.specs.Exports.{ObjectParts, object_parts}
 use Rattle.elf_linking.specs.VersionTables.{result_map}
 use Rattle.elf_linking.specs.declared.error.LinkError.{LinkError}
@@ -21,20 +20,18 @@ use Rattle.program_ends.specs.declared.json.Form.{Form}
 use Rattle.program_ends.specs.declared.Stop.{Stop}
 use Rattle.program_ends.specs.declared.Stop.TheVariants.{Memory, Failed, Write}
 use Rattle.xmas_elf.specs.Symbol.{SymbolFields}
-use Rattle.xmas_elf.specs.Types.{ElfFile}
 
 -- the object of a file after its checks, or why there is none
-pub checked_by : {E : Type 0} {r : _} (fields : E → SymbolFields) (class size : ℕ) (bytes : List ℕ) (file : ElfFile) (object : DynamicObject E r) (result : Result ObjectParts LinkError) → file.input.now ≡ bytes → header_of bytes ≡ Ok file.header → IsReachedObject class size file object
+pub checked_by : {E : Type 0} {r : _} (fields : E → SymbolFields) (class size : ℕ) (bytes : List ℕ) (object : DynamicObject E r) (result : Result ObjectParts LinkError) → IsObjectOfBytes class size bytes object
     → IfOk result (λ parts. parts ≡ object_parts fields object) → AreChecked (object_dynamic_symbols fields object) (result_map (λ _. tt) result)
     → MatchResult result (IsScopeObject r fields class size bytes) (IsUnreadObject r fields class size bytes)
-checked_by fields class size bytes file object (Ok parts) input header is same checked = record {
+checked_by fields class size bytes object (Ok parts) is same checked = record {
   object = object;
-  object_is = record { file = file; bytes_are = input; header_is = header; object_is = is };
+  object_is = is;
   checked = checked;
   parts_are = same;
 }
-checked_by fields class size bytes file object (Err error) input header is same checked =
-    by_check object (record { file = file; bytes_are = input; header_is = header; object_is = is }) checked
+checked_by fields class size bytes object (Err error) is same checked = by_check object is checked
 
 pub unread_at : {E : Type 0} (r : _) (fields : E → SymbolFields) (class size : ℕ) (inputs : List Input) (index : ℕ) (input : Input) (objects : List ObjectParts) (error : LinkError) → index < length inputs → input ≡ get_or inputs index input
     → AreScopeObjects r fields class size (take index inputs) objects → IsUnreadObject r fields class size input.bytes.items error → IsScopeFault r fields class size inputs (faults.Failed input.path error)

@@ -1,12 +1,12 @@
 -- What the program writes of names that are looked up in a program and its libraries (this project's own): a line for
 -- each, with the value and the size of its symbol and the path of the file that has it.
-use Rattle.std.specs.Prelude.{◌≡◌, ℕ, ◌++◌, ◌∷◌, [], Bool, true, false, List, Option, None, Some, Result, Ok, Err, codes, option_map, slice_get, take}
+use Rattle.std.specs.Prelude.{◌≡◌, ℕ, ◌++◌, ◌∷◌, [], true, false, List, Option, None, Some, Result, Ok, Err, codes, option_map, slice_get, take}
 use Rattle.std.specs.Borrow.{Bor}
 use Rattle.std.specs.Fmt.{digits}
 use Rattle.std.specs.List.{AllZip, concat}
 use Rattle.elf_linking.specs.Checked.{AreChecked}
 use Rattle.elf_linking.specs.CheckedScope.{looked_up}
-use Rattle.elf_linking.specs.DynamicObject.{object_dynamic_symbols}
+use Rattle.elf_linking.specs.DynamicObject.{IsObjectErrorOf, IsObjectOfBytes, object_dynamic_symbols}
 use Rattle.elf_linking.specs.Exports.{ObjectParts, object_parts}
 use Rattle.elf_linking.specs.declared.error.LinkError.{LinkError}
 use Rattle.elf_linking.specs.declared.find.Use.TheVariants.{Any}
@@ -15,7 +15,7 @@ use Rattle.elf_linking.specs.declared.object.DynamicObject.{DynamicObject}
 use Rattle.elf_linking.specs.declared.scope.Bound.{Bound}
 use Rattle.elfsym.specs.Lines.{Asks}
 use Rattle.elfsym.specs.declared.scope.Target.{Target}
-use Rattle.linking_programs.specs.Files.{IsObjectOfBytes, IsObjectErrorOf, is_first_narrow}
+use Rattle.linking_programs.specs.Files.{is_first_narrow}
 use Rattle.linking_programs.specs.declared.Input.{Input}
 use Rattle.program_ends.specs.Json.{json_line, member, text_value}
 use Rattle.program_ends.specs.declared.Fault.{Fault}

@@ -39,7 +39,6 @@ use std::convert::AsStr;
 use std::fmt::Display;
 use std::io::Write;
 use std::{fmt, io};
-use xmas_elf::ElfFile;
 use xmas_elf::symbol_table::{DynEntry32, DynEntry64, Entry};
 
 /// Writes a line for each reference, which is looked up in a program and its libraries that were found, to
@@ -163,11 +162,7 @@ fn checked_object<'a, E: LinkedSymbol>(bytes: &'a [u8]) -> Result<CheckedObject<
         (IsScopeObject E.Record E.fields E.CLASS E.SIZE bytes.now)
         (IsUnreadObject E.Record E.fields E.CLASS E.SIZE bytes.now) }
 {
-    let file = match ElfFile::new(bytes) {
-        Ok(file) => file,
-        Err(error) => return Err(LinkError::Elf(error)),
-    };
-    match DynamicObject::read_reached(&file) {
+    match DynamicObject::of_bytes(bytes) {
         Ok(object) => CheckedObject::of(object),
         Err(error) => Err(error),
     }

@@ -1,5 +1,5 @@
 -- Whether each reference gets a symbol, reference by reference.
-use Rattle.std.proofs.Common.{◌≡◌, ℕ, inr, Bool, true, false, List, ◌∷◌, Result, Ok, Err, sym, subst}
+use Rattle.std.proofs.Common.{◌≡◌, ℕ, inr, Bool, true, List, ◌∷◌, Result, Ok, Err, sym, subst}
 use Rattle.elf_linking.specs.Bindings.{IsItemOf, reference_of_item}
 use Rattle.elf_linking.specs.declared.error.LinkError.{LinkError}
 use Rattle.elf_linking.specs.declared.object.DynamicObject.{DynamicObject}

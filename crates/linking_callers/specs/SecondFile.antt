@@ -1,33 +1,21 @@
 -- Whether a name of a program is bound to a symbol of its second file, by the bytes of the files (this project's
 -- own).
 use Rattle.std.specs.Prelude.{◌≡◌, ℕ, ◌==◌, Bool, false, List, [], ◌∷◌, Option, Some, None, Result, Ok, Err, IsOkAnd, MatchResult, length}
-use Rattle.std.specs.Borrow.{Bor}
-use Rattle.elf_base.specs.FileHeader.{header_of}
 use Rattle.elf_linking.specs.AnyTable.{IsCheckBy, IsGoodBy}
-use Rattle.elf_linking.specs.DynamicObject.{IsObject, IsObjectError, object_dynamic_symbols, object_file, object_name_bytes, object_symbols, object_table, object_versions, object_view}
+use Rattle.elf_linking.specs.DynamicObject.{IsObjectErrorOf, IsObjectOfBytes, object_dynamic_symbols, object_file, object_name_bytes, object_symbols, object_table, object_versions, object_view}
 use Rattle.elf_linking.specs.DynamicView.{view_entries}
 use Rattle.elf_linking.specs.Find.{AreReadable}
 use Rattle.elf_linking.specs.References.{references_of}
 use Rattle.elf_linking.specs.Scope.{BindsReference}
 use Rattle.elf_linking.specs.Versions.{version_list, versions_error}
 use Rattle.elf_linking.specs.declared.error.LinkError.{LinkError}
-use Rattle.elf_linking.specs.declared.error.LinkError.TheVariants.{Elf}
 use Rattle.elf_linking.specs.declared.object.DynamicObject.{DynamicObject}
 use Rattle.elf_linking.specs.declared.references.Reference.{Reference}
 use Rattle.elf_linking.specs.declared.scope.Bound.{Bound}
 use Rattle.xmas_elf.specs.First.{FindsFirst}
 use Rattle.xmas_elf.specs.Symbol.{SymbolFields}
-use Rattle.xmas_elf.specs.Types.{ElfFile}
 
--- the dynamic symbols of the file that these bytes are, of a class whose symbols have this size; or why they can't
--- be read
-abbrev pub IsRead : {E : Type 0} → {r : _} → ℕ → ℕ → Bor (List ℕ) → Result (DynamicObject E r) LinkError → Type 0
-IsRead class size bytes answer = MatchResult (header_of bytes.now) (λ header.
-    let file : ElfFile = record { input = bytes; header = header } in
-    MatchResult answer (IsObject class size file) (IsObjectError class size file))
-    (λ error. answer ≡ Err (Elf error))
-
--- they are checked: look-ups in them find what they must, and their versions can be read; or the first error
+-- the object that was read, if look-ups in it find what they must and its versions can be read; or the first error
 pub data IsChecked {E : Type 0} {r : _} (fields : E → SymbolFields) : Result (DynamicObject E r) LinkError → Result (DynamicObject E r) LinkError → Type 0 where
   unread : (error : LinkError) → IsChecked fields (Err error) (Err error)
   faulty : (object : DynamicObject E r) (error : LinkError)
@@ -40,10 +28,10 @@ pub data IsChecked {E : Type 0} {r : _} (fields : E → SymbolFields) : Result (
   passed : (object : DynamicObject E r) → IsGoodBy (object_table object) (object_symbols fields object)
       → AreReadable (object_dynamic_symbols fields object) → IsChecked fields (Ok object) (Ok object)
 
--- the checked symbols of a file, by its bytes, or the first error
-abbrev pub IsLoaded : {E : Type 0} → {r : _} → (E → SymbolFields) → ℕ → ℕ → Bor (List ℕ) → Result (DynamicObject E r) LinkError → Type 0
+-- the checked object of the file in these bytes, of a class whose symbols have this size; or the first error
+abbrev pub IsLoaded : {E : Type 0} → {r : _} → (E → SymbolFields) → ℕ → ℕ → List ℕ → Result (DynamicObject E r) LinkError → Type 0
 IsLoaded {E} {r} fields class size bytes answer = (read : Result (DynamicObject E r) LinkError)
-    × IsRead class size bytes read × IsChecked fields read answer
+    × MatchResult read (IsObjectOfBytes class size bytes) (IsObjectErrorOf class size bytes) × IsChecked fields read answer
 
 -- a reference is to a symbol with this name
 abbrev pub IsTo : {E : Type 0} → {r : _} → (E → SymbolFields) → DynamicObject E r → List ℕ → Reference → Type 0

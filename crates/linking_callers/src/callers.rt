@@ -6,7 +6,7 @@ ghost use Rattle.std.specs.Prelude.{◌≡◌, ◌↔◌, ◌<◌, ◌≤◌};
 ghost use Rattle.std.specs.Prelude.{ℕ, Contains, IsTrue, MatchOption};
 ghost use Rattle.std.specs.Prelude.{None, Option, Some, slice_get, true};
 ghost use Rattle.elf_base.specs.Table.{table_items};
-ghost use Rattle.elf_linking.specs.GnuHash.{IsExported, IsGood, first_symbol_of};
+ghost use Rattle.elf_linking.specs.GnuHash.{IsExported, IsGnuGood, first_symbol_of};
 ghost use Rattle.xmas_elf.specs.Symbols.{Decides, symbols_of};
 
 pub mod bindings;
@@ -30,7 +30,7 @@ pub fn finds_all<E: Entry + Record>(
     file: &ElfFile<'_>,
 ) -> bool
     ensures { IsTrue result
-        ↔ IsGood table.now (symbols_of E.fields E.text_in symbols.now file.now) }
+        ↔ IsGnuGood table.now (symbols_of E.fields E.text_in symbols.now file.now) }
 {
     table.check(symbols, file).is_ok()
 }
@@ -48,7 +48,7 @@ pub fn symbol_that<E: Entry + Record, F: Fn(&E) -> bool>(
 ) -> Option<(u32, E)>
     requires callable { (e : Bor E) → Contains (table_items symbols.now) e.now → F.pre f e }
     requires decides { Decides (symbols_of E.fields E.text_in symbols.now file.now) F.Fn f }
-    requires good { IsGood table.now (symbols_of E.fields E.text_in symbols.now file.now) }
+    requires good { IsGnuGood table.now (symbols_of E.fields E.text_in symbols.now file.now) }
     ensures { let all = symbols_of E.fields E.text_in symbols.now file.now in MatchOption result
         ((i : ℕ) (e : E) → IsExported table.now all i e name.now → FnReturnsAt F.Fn f e true → ⊥)
         (λ found. (0 < found.0) × (first_symbol_of table.now ≤ found.0)
@@ -70,7 +70,7 @@ pub fn symbol_with_name<E: Entry + Record>(
     symbols: &Table<'_, E>,
     file: &ElfFile<'_>,
 ) -> Option<(u32, E)>
-    requires good { IsGood table.now (symbols_of E.fields E.text_in symbols.now file.now) }
+    requires good { IsGnuGood table.now (symbols_of E.fields E.text_in symbols.now file.now) }
     ensures { let all = symbols_of E.fields E.text_in symbols.now file.now in MatchOption result
         ((i : ℕ) (e : E) → ¬ IsExported table.now all i e name.now)
         (λ found. (0 < found.0) × (first_symbol_of table.now ≤ found.0)

@@ -4,10 +4,10 @@ use Rattle.std.specs.Borrow.{Bor}
 use Rattle.std.specs.Prelude.{IfErr, IsOkAnd, IsSomeAnd, MatchResult, slice_get, ⊤}
 use Rattle.std.proofs.lemmas.Option.{slice_get_read}
 use Rattle.elf_base.specs.FileHeader.{header_of}
-use Rattle.elf_linking.specs.DynamicObject.{IsReachedObject, IsReachedError}
+use Rattle.elf_linking.specs.DynamicObject.{IsObjectErrorOf}
 use Rattle.elf_linking.specs.declared.error.LinkError.{LinkError}
 use Rattle.elf_linking.specs.declared.object.DynamicObject.{DynamicObject}
-use Rattle.linking_programs.specs.Files.{AreObjectsOf, IsInputError, IsObjectOfBytes, IsObjectErrorOf, OfHeader, no_object}
+use Rattle.linking_programs.specs.Files.{AreObjectsOf, IsInputError, OfHeader}
 use Rattle.linking_programs.specs.declared.Input.{Input}
 use Rattle.linking_programs.specs.declared.Failed as reasons
 use Rattle.program_ends.proofs.Ends.{stop_so}
@@ -26,11 +26,6 @@ of_header P input file same header holds =
 pub at_index : {A : Type 0} (P : A → Type 0) (items : List A) (index : ℕ) (item : A) → index < length items → item ≡ get_or items index item → P item → IsSomeAnd (slice_get items index) P
 at_index P items index item below is holds =
     subst (λ found. IsSomeAnd found P) (sym (slice_get_read items (length items) index item refl below is)) holds
-
--- what is read of a file is read of its bytes
-pub object_or_failed : {E : Type 0} {r : _} (class size : ℕ) (bytes : List ℕ) (file : ElfFile) (result : Result (DynamicObject E r) LinkError) → file.input.now ≡ bytes → header_of bytes ≡ Ok file.header → MatchResult result (IsReachedObject class size file) (IsReachedError class size file) → MatchResult result (IsObjectOfBytes class size bytes) (IsObjectErrorOf class size bytes)
-object_or_failed class size bytes file (Ok object) input header is = record { file = file; bytes_are = input; header_is = header; object_is = is }
-object_or_failed class size bytes file (Err error) input header is = no_object file error input header is
 
 -- the reason of a result, where that implies another
 pub if_err_so : {A E : Type 0} (Was : A → Type 0) (WasFailed IsFailed : E → Type 0) (WasWritten IsWritten WasShort IsShort : Type 0) (result : Result A (Stop E)) → ((error : E) → WasFailed error → IsFailed error) → (WasWritten → IsWritten) → (WasShort → IsShort)

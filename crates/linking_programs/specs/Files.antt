@@ -4,9 +4,8 @@ use Rattle.std.specs.Borrow.{Bor}
 use Rattle.std.specs.List.{AllZip}
 use Rattle.elf_base.specs.FileHeader.{file_class, header_of}
 use Rattle.elf_base.specs.declared.error.ElfError.{ElfError}
-use Rattle.elf_linking.specs.DynamicObject.{IsReachedObject, IsReachedError}
+use Rattle.elf_linking.specs.DynamicObject.{IsObjectErrorOf, IsObjectOfBytes}
 use Rattle.elf_linking.specs.declared.error.LinkError.{LinkError}
-use Rattle.elf_linking.specs.declared.error.LinkError.TheVariants.{Elf}
 use Rattle.elf_linking.specs.declared.object.DynamicObject.{DynamicObject}
 use Rattle.linking_programs.specs.declared.Input.{Input}
 use Rattle.linking_programs.specs.declared.Failed as reasons
@@ -20,19 +19,6 @@ use Rattle.xmas_elf.specs.declared.ElfFile.{ElfFile}
 -- an input is the file of its header, with a property
 abbrev pub OfHeader : Bor (List ℕ) → (ElfFile → Type 0) → Type 0
 OfHeader input P = IsOkAnd (header_of input.now) (λ header. P (record { input = input; header = header }))
-
--- the object is that of a file of this class, which these bytes are
-pub record IsObjectOfBytes {E : Type 0} {r : _} (class size : ℕ) (bytes : List ℕ) (object : DynamicObject E r) : Type 0 where
-  pub file : ElfFile
-  pub bytes_are : file.input.now ≡ bytes
-  pub header_is : header_of bytes ≡ Ok file.header
-  pub object_is : IsReachedObject class size file object
-
--- why bytes are no such file: an error of their header, or of what a dynamic linker reads of it
-pub data IsObjectErrorOf (class size : ℕ) (bytes : List ℕ) : LinkError → Type 0 where
-  no_header : (error : ElfError) → header_of bytes ≡ Err error → IsObjectErrorOf class size bytes (Elf error)
-  no_object : (file : ElfFile) (error : LinkError) → file.input.now ≡ bytes → header_of bytes ≡ Ok file.header
-      → IsReachedError class size file error → IsObjectErrorOf class size bytes error
 
 -- the objects are those of the inputs, in order
 abbrev pub AreObjectsOf : {E : Type 0} → {r : _} → ℕ → ℕ → List Input → List (DynamicObject E r) → Type 0

@@ -6,9 +6,8 @@ ghost use Rattle.elf_base.specs.FileHeader.{header_of};
 ghost use Rattle.elf_linking.specs.Checked.{AreChecked};
 ghost use Rattle.elf_linking.specs.DynamicObject.{object_dynamic_symbols};
 ghost use Rattle.linking_programs.specs.Checks.{IsGood};
-ghost use Rattle.linking_programs.specs.Files.{AreObjectsOf, IsInputError, IsObjectOfBytes};
-ghost use Rattle.linking_programs.specs.Files.{IsOfInput, IsObjectErrorOf, is_first_narrow};
-ghost use Rattle.linking_programs.specs.Files.{is_narrow_header, failed_fault_of};
+ghost use Rattle.linking_programs.specs.Files.{AreObjectsOf, IsInputError, IsOfInput};
+ghost use Rattle.linking_programs.specs.Files.{failed_fault_of, is_first_narrow, is_narrow_header};
 ghost use Rattle.program_ends.specs.Stops.{IsStop};
 ghost use Rattle.program_ends.specs.declared.Stop.TheVariants as stops_are;
 
@@ -93,7 +92,7 @@ pub fn read_objects<'a, E: LinkedSymbol>(
 {
     let mut objects = Vec::new(alloc);
     for input in inputs {
-        match read_object(&input.bytes) {
+        match DynamicObject::of_bytes(&input.bytes) {
             Ok(object) => {
                 if objects.push(object).is_err() {
                     return Err(Stop::Memory);
@@ -103,17 +102,6 @@ pub fn read_objects<'a, E: LinkedSymbol>(
         }
     }
     Ok(objects)
-}
-
-// The object of a file.
-fn read_object<'a, E: LinkedSymbol>(bytes: &'a [u8]) -> Result<DynamicObject<'a, E>, LinkError>
-    ensures exact { MatchResult result (IsObjectOfBytes E.CLASS E.SIZE bytes.now)
-        (IsObjectErrorOf E.CLASS E.SIZE bytes.now) }
-{
-    match ElfFile::new(bytes) {
-        Ok(file) => DynamicObject::read_reached(&file),
-        Err(error) => Err(LinkError::Elf(error)),
-    }
 }
 
 /// The result of the checks of an object: that of its hash table and, if that passes, of its versions.

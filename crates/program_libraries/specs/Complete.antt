@@ -1,6 +1,6 @@
 -- Whether a program gets all libraries that it needs (this project's own).
 use Rattle.std.specs.Prelude.{◌≡◌, ◌<◌, ◌&&◌, ◌==◌, ℕ, Bool, true, false, List, [], ◌∷◌, Option, None, Some, Ok, Err, IfSome, cond, length, nat_lt, slice_get}
-use Rattle.elf_base.specs.FileHeader.{header_of}
+use Rattle.elf_linking.specs.DynamicObject.{IsFileOf}
 use Rattle.elf_linking.specs.DynamicView.{dynamic_entries_of, strings_by, view_entries, view_strings}
 use Rattle.elf_linking.specs.declared.error.LinkError.TheVariants.{NoDynamic}
 use Rattle.elf_linking.specs.declared.view.dynamic.DynamicView.{DynamicView}
@@ -10,10 +10,6 @@ use Rattle.elf_search.specs.declared.names.NameKind.TheVariants.{Auxiliary, Filt
 use Rattle.program_libraries.specs.declared.objects.Object.{Object}
 use Rattle.program_libraries.specs.declared.store.StoredFile.{StoredFile}
 use Rattle.xmas_elf.specs.Types.{ElfFile}
-
--- the file is that in these bytes
-abbrev pub IsFileOf : List ℕ → ElfFile → Type 0
-IsFileOf bytes file = (file.input.now ≡ bytes) × (header_of bytes ≡ Ok file.header)
 
 -- the dynamic segment of the file in these bytes, or that it has none
 abbrev pub IsViewOf : List ℕ → Option DynamicView → Type 0

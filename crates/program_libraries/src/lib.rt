@@ -12,6 +12,7 @@ mod missing;
 mod objects;
 mod options;
 mod processor;
+mod records;
 mod rooted;
 mod search;
 mod store;

@@ -65,9 +65,13 @@ fn write_said<W: Write>(program: &str, lacked: &LackedVersion<'_>, err: &mut W) 
     write_lacked(lacked, err)
 }
 
-/// Writes that a version is missing, in the words of `ld.so`.
+/// Writes that a version is missing, or which version number the record has at which the search for it ends, in
+/// the words of `ld.so`.
 pub fn write_lacked<W: Write>(lacked: &LackedVersion<'_>, out: &mut W) -> io::Result<()> {
     write_name(lacked.library.as_bytes(), out)?;
+    if let Some(number) = lacked.record {
+        return writeln!(out, ": unsupported version {number} of Verdef record");
+    }
     match lacked.lack {
         Lack::NoInformation => write!(out, ": no version information available")?,
         Lack::Weak => write_version(": weak version `", lacked.version, out)?,

@@ -1,12 +1,13 @@
 //! The versions that objects need and that the libraries they get lack.
 
 use crate::contents::bytes_in;
-use crate::error::{FindError, error_in};
+use crate::error::{FindError, error_in, need_record};
 use crate::objects::{Object, view_of};
+use crate::records::{OtherRecord, is_passed, other_definition, other_need};
 use crate::store::StoredFile;
 use crate::trees::Tree;
 use elf_linking::LinkError;
-use elf_linking::versions::Versions;
+use elf_linking::versions::{Need, Versions};
 use elf_linking::view::DT_VERDEF;
 use elf_search::SearchError;
 use elf_search::versions::{Lack, MissingVersion, Provided, Provider, missing_versions};
@@ -24,12 +25,15 @@ pub struct LackedVersion<'t> {
     pub by: &'t str,
     /// Why it is missing.
     pub lack: Lack,
+    /// The version number of the record at which `ld.so` ends its search for the version, since it is not 1.
+    pub record: Option<u16>,
 }
 
-/// The versions that are missing, in the order of the objects that need them.
+/// The versions that are missing, in the order of the objects that need them: first those for which `ld.so`
+/// comes to a record that it doesn't support.
 ///
-/// Errors: `InFile` for the first object with a version that can't be read or that is of a file which
-/// nothing asked for; `Memory`.
+/// Errors: for the first object with one `NeedRecord` if its first need has another version number than 1,
+/// and `InFile` if a version can't be read or is of a file which nothing asked for; `Memory`.
 pub fn lacked_versions<'t>(
     alloc: Global,
     files: &'t [StoredFile],
@@ -37,10 +41,20 @@ pub fn lacked_versions<'t>(
 ) -> Result<Vec<LackedVersion<'t>>, FindError> {
     let all = all_names(alloc, tree)?;
     let providers = all_providers(alloc, files, tree, &all)?;
+    let others = all_others(alloc, files, tree, &all)?;
     let mut lacked = Vec::new(alloc);
     for number in &tree.list {
         if let Some(object) = tree.object(*number) {
-            push_all_lacked(alloc, files, tree, &all, &providers, object, &mut lacked)?;
+            push_all_lacked(
+                alloc,
+                files,
+                tree,
+                &all,
+                &providers,
+                &others,
+                object,
+                &mut lacked,
+            )?;
         }
     }
     Ok(lacked)
@@ -145,6 +159,20 @@ fn all_providers<'s, 't>(
     Ok(providers)
 }
 
+// For each the first record of its definitions that `ld.so` doesn't support.
+fn all_others(
+    alloc: Global,
+    files: &[StoredFile],
+    tree: &Tree,
+    all: &[Named<'_>],
+) -> Result<Vec<Option<OtherRecord>>, AllocError> {
+    let mut others = Vec::new(alloc);
+    for named in all {
+        others.push(other_definition(files, tree, named.0))?;
+    }
+    Ok(others)
+}
+
 // What an object provides; `None` is a missing one.
 fn provided_of<'t>(
     alloc: Global,
@@ -167,21 +195,92 @@ fn push_all_lacked<'t>(
     tree: &'t Tree,
     all: &[Named<'t>],
     providers: &[Provider<'_, 't>],
+    others: &[Option<OtherRecord>],
     object: &'t Object,
     lacked: &mut Vec<LackedVersion<'t>>,
 ) -> Result<(), FindError> {
-    let versions = match versions_in(bytes_in(files, object.file)) {
+    let bytes = bytes_in(files, object.file);
+    let versions = match versions_in(bytes) {
         Ok(Some(versions)) => versions,
         Ok(None) => return Ok(()),
         Err(error) => return Err(error_in(alloc, &object.path, SearchError::Link(error))),
     };
+    if let Some(number) = other_need(bytes) {
+        return Err(need_record(alloc, &object.path, number));
+    }
+    push_all_stopped(tree, all, providers, others, object, &versions, lacked)?;
     for item in missing_versions(versions.needs(), providers) {
         match item {
+            Ok(missing) if has_other(others, missing.provider) => {}
             Ok(missing) => lacked.push(lacked_version(tree, all, object, &missing))?,
             Err(error) => return Err(error_in(alloc, &object.path, error)),
         }
     }
     Ok(())
+}
+
+// Whether a provider has a record that `ld.so` doesn't support.
+fn has_other(others: &[Option<OtherRecord>], provider: usize) -> bool {
+    matches!(others.get(provider), Some(Some(_)))
+}
+
+// The versions that an object needs for which `ld.so` comes to a record that it doesn't support.
+fn push_all_stopped<'t>(
+    tree: &'t Tree,
+    all: &[Named<'t>],
+    providers: &[Provider<'_, 't>],
+    others: &[Option<OtherRecord>],
+    object: &'t Object,
+    versions: &Versions<'t>,
+    lacked: &mut Vec<LackedVersion<'t>>,
+) -> Result<(), AllocError> {
+    if others.iter().all(|other| other.is_none()) {
+        return Ok(());
+    }
+    for item in versions.needs() {
+        let Ok(need) = item else {
+            return Ok(());
+        };
+        if let Some((provider, number)) = stop_of(providers, others, &need) {
+            lacked.push(LackedVersion {
+                library: library_path(tree, all, provider),
+                version: need.name().unwrap_or(""),
+                by: &object.path,
+                lack: Lack::Strong,
+                record: Some(number),
+            })?;
+        }
+    }
+    Ok(())
+}
+
+// The place of the provider of a need, and the version number of the record at which the search for the
+// version ends, if there is one.
+fn stop_of(
+    providers: &[Provider<'_, '_>],
+    others: &[Option<OtherRecord>],
+    need: &Need<'_>,
+) -> Option<(usize, u16)> {
+    let Ok(file) = need.file() else {
+        return None;
+    };
+    let place = providers
+        .iter()
+        .position(|provider| has_name(provider, file.as_bytes()))?;
+    let (Some(provider), Some(Some(record))) = (providers.get(place), others.get(place)) else {
+        return None;
+    };
+    match provider.provided {
+        Provided::Versions(versions) if is_passed(*record, &versions, need) => {
+            Some((place, record.number))
+        }
+        _ => None,
+    }
+}
+
+// Whether a provider has a name.
+fn has_name(provider: &Provider<'_, '_>, name: &[u8]) -> bool {
+    provider.names.iter().any(|own| *own == name)
 }
 
 // The paths and the name of a missing version.
@@ -196,6 +295,7 @@ fn lacked_version<'t>(
         version: missing.need.name().unwrap_or(""),
         by: &object.path,
         lack: missing.lack,
+        record: None,
     }
 }
 

@@ -1,7 +1,7 @@
 //! The symbols that a GNU hash table reaches (the convention of GNU binutils and glibc).
 
 ghost use Rattle.std.specs.Prelude.{◌≡◌, ◌<◌, ◌↔◌, length, IsTrue};
-ghost use Rattle.elf_linking.specs.GnuHash.{bucket_count_of};
+ghost use Rattle.elf_linking.specs.GnuHash.{gnu_bucket_count};
 ghost use Rattle.elf_addresses.specs.Reached.{AreReached, AreStarts, GoesOn, earlier, start_word};
 ghost use Rattle.elf_addresses.specs.Reached.{with_start};
 
@@ -31,7 +31,7 @@ pub fn fill_reached(table: &GnuHashTable<'_>, words: &mut [u32])
 // Writes for each symbol the number of the first bucket whose run begins there.
 fn fill_starts(table: &GnuHashTable<'_>, words: &mut [u32])
     ensures length { length words.new ≡ length words.old }
-    ensures starts { AreStarts table.now (bucket_count_of table.now) words.new }
+    ensures starts { AreStarts table.now (gnu_bucket_count table.now) words.new }
 {
     words.fill(0);
     for bucket in 0..table.bucket_count() {
@@ -43,7 +43,7 @@ fn fill_starts(table: &GnuHashTable<'_>, words: &mut [u32])
 // The symbol at which the run of a bucket begins, or 0 if it has none.
 #[inline(always)]
 fn start_of(table: &GnuHashTable<'_>, bucket: u32) -> u32
-    requires { bucket < bucket_count_of table.now }
+    requires { bucket < gnu_bucket_count table.now }
     ensures { result ≡ start_word table.now bucket }
 {
     match table.get_bucket(bucket) {

@@ -5,7 +5,7 @@ use Rattle.std.specs.Prelude.{IfSome}
 use Rattle.elf_linking.specs.DynamicObject.{object_view}
 use Rattle.elf_linking.specs.DynamicView.{is_symbolic, view_entries}
 use Rattle.elf_linking.specs.Find.{DynamicSymbols, IsFound}
-use Rattle.elf_linking.specs.Scope.{IsBoundFor, ComesBefore, Gives, GivesAt, IsBound, IsFirstGiven, IsProtectedBound, IsReferenceBound, NoneBefore, asked, asked_of, at_home, elsewhere, fails, given, lacks, nowhere, passed_over, failed, serves, serves_none, undefined, unfound, unread}
+use Rattle.elf_linking.specs.Scope.{IsBoundFor, ComesBefore, Gives, GivesAt, IsBound, IsFirstGiven, IsProtectedBound, IsReferenceBound, NoneGivenBefore, asked, asked_of, at_home, elsewhere, fails, given, lacks, nowhere, passed_over, failed, serves, serves_none, undefined, unfound, unread}
 use Rattle.elf_linking.specs.Serves.{if_serving}
 use Rattle.elf_linking.specs.VersionTables.{result_map}
 use Rattle.elf_linking.specs.declared.error.LinkError.{LinkError}
@@ -60,7 +60,7 @@ module _ {E : Type 0} (AtIndex : ℕ → Result (Option (ℕ × E)) LinkError �
       go (inr (inr more)) (inr one) (inr other) = inr (inr (one, λ _. more))
 
   -- two that give a symbol or an error, and before which none does, are one
-  same_first : (i j : ℕ) (a b : Result (Option (ℕ × E)) LinkError) → AtIndex i a → AtIndex j b → a ≢ Ok None → b ≢ Ok None → NoneBefore AtIndex symbolic from i → NoneBefore AtIndex symbolic from j → at_object i a ≡ at_object j b
+  same_first : (i j : ℕ) (a b : Result (Option (ℕ × E)) LinkError) → AtIndex i a → AtIndex j b → a ≢ Ok None → b ≢ Ok None → NoneGivenBefore AtIndex symbolic from i → NoneGivenBefore AtIndex symbolic from j → at_object i a ≡ at_object j b
   same_first i j a b gives gives' some some' none none' = go (order_of symbolic i j)
     where
       go : (i ≡ j) ⊎ (ComesBefore symbolic from i j ⊎ ComesBefore symbolic from j i) → at_object i a ≡ at_object j b

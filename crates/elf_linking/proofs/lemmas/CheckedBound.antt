@@ -1,16 +1,16 @@
 -- For callers of `Scope`: the symbol that a reference gets in a scope of objects whose checks passed, by their exports.
-use Rattle.std.proofs.Common.{◌≡◌, ◌≢◌, ◌<◌, ◌≤◌, ℕ, zero, suc, ◌+◌, ◌⊎◌, inl, inr, ◌==◌, Bool, true, false, List, length, map, Option, Some, None, Result, Ok, Err, IsOk, MatchOption, MatchResult, slice_get, refl, sym, ap, subst, ◌∙◌, if◌then◌else◌, not, add-one, arith}
+use Rattle.std.proofs.Common.{◌≡◌, ◌≢◌, ◌<◌, ◌≤◌, ℕ, zero, suc, ◌+◌, ◌⊎◌, inl, inr, ◌==◌, Bool, true, false, List, length, map, Option, Some, None, Result, Ok, Err, IsOk, MatchOption, MatchResult, slice_get, refl, sym, ap, subst, ◌∙◌, if◌then◌else◌, add-one, arith}
 use Rattle.std.proofs.lemmas.Bool.{cases_eq, eq-eqb, ne_eqb}
 use Rattle.std.proofs.lemmas.Option.{slice_get-map, slice_get_within}
 use Rattle.std.proofs.lemmas.List.{length-map}
 use Rattle.std.specs.Option.{option_or}
-use Rattle.std.specs.Prelude.{IfSome, option_and_then, option_map}
+use Rattle.std.specs.Prelude.{option_and_then, option_map}
 use Rattle.std.specs.Result.{result_ok}
 use Rattle.elf_base.specs.FirstError.{and_then}
 use Rattle.elf_base.specs.Table.{table_items}
 use Rattle.elf_linking.specs.AnyTable.{IsCheckBy, IsGoodBy}
 use Rattle.elf_linking.specs.Checked.{AreChecked, found_fields, found_in, found_parts}
-use Rattle.elf_linking.specs.CheckedScope.{asked_in, bound_fields, bound_for, bound_in, first_given, given_at, given_first, looked_up, protected_bound, serving}
+use Rattle.elf_linking.specs.CheckedScope.{asked_in, bound_fields, bound_for, bound_in, first_given, given_at, looked_up, protected_bound, serving}
 use Rattle.elf_linking.specs.DynamicObject.{object_dynamic_symbols, object_records, object_view}
 use Rattle.elf_linking.specs.DynamicView.{is_symbolic, view_entries}
 use Rattle.elf_linking.specs.Exports.{ObjectParts, SymbolParts, exports_of, object_parts, symbol_parts}

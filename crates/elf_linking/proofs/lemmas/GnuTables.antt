@@ -3,7 +3,7 @@
 use Rattle.std.proofs.Common.{◌≡◌, ℕ, List, Option, None, Result, Ok, Bool, true, refl, subst}
 use Rattle.std.specs.Borrow.{Bor}
 use Rattle.std.specs.Fn.{Shared, FnReturnsAt}
-use Rattle.elf_linking.specs.GnuHash.{FindsAll, IsExported, IsHit, Looks, LooksFrom, LooksWhere, Stops, ended, found, goes, no_run, failed, too_early}
+use Rattle.elf_linking.specs.GnuHash.{FindsAll, IsExported, IsHit, Looks, GnuLooksFrom, GnuLooksWhere, GnuStops, ended, found, goes, no_run, failed, too_early}
 use Rattle.elf_linking.specs.Layouts.{gnu_hash_number}
 use Rattle.elf_linking.specs.declared.error.LinkError.{LinkError}
 use Rattle.elf_linking.specs.declared.gnu_hash.GnuHashTable.{GnuHashTable}
@@ -33,12 +33,12 @@ module _ {E : Type 0} (h : ℕ) (table : GnuHashTable) (symbols : List E) (P Q :
   hit_so to i e hit = record { there = hit.there; symbol = hit.symbol; agrees = hit.agrees; holds = to (i, e) hit.holds }
 
 module _ {E : Type 0} (h : ℕ) (table : GnuHashTable) (symbols : List E) (P Q : ℕ × E → Type 0) (to : (at : ℕ × E) → P at → Q at) (back : (at : ℕ × E) → Q at → P at) where
-  stops_so : (i n : ℕ) (a : Result (Option (ℕ × E)) LinkError) → Stops P h table symbols i a n → Stops Q h table symbols i a n
+  stops_so : (i n : ℕ) (a : Result (Option (ℕ × E)) LinkError) → GnuStops P h table symbols i a n → GnuStops Q h table symbols i a n
   stops_so i _ _ (found e hit) = found e (hit_so h table symbols P Q to i e hit)
   stops_so i _ _ (ended there ends none) = ended there ends (λ e hit. none e (hit_so h table symbols Q P back i e hit))
   stops_so i _ _ (failed error lacks) = failed error lacks
 
-  from_so : (from n : ℕ) (a : Result (Option (ℕ × E)) LinkError) → LooksFrom P h table symbols from a n → LooksFrom Q h table symbols from a n
+  from_so : (from n : ℕ) (a : Result (Option (ℕ × E)) LinkError) → GnuLooksFrom P h table symbols from a n → GnuLooksFrom Q h table symbols from a n
   from_so from n a looks = record {
     last = looks.last;
     here = looks.here;
@@ -49,14 +49,14 @@ module _ {E : Type 0} (h : ℕ) (table : GnuHashTable) (symbols : List E) (P Q :
   }
 
 -- a look-up for one of two properties that are true together is a look-up for the other
-pub looks_alike : {E : Type 0} (P Q : ℕ × E → Type 0) → ((at : ℕ × E) → P at → Q at) → ((at : ℕ × E) → Q at → P at) → (table : GnuHashTable) (symbols : List E) (name : List ℕ) (a : Result (Option (ℕ × E)) LinkError) (n : ℕ) → LooksWhere P table symbols name a n → LooksWhere Q table symbols name a n
+pub looks_alike : {E : Type 0} (P Q : ℕ × E → Type 0) → ((at : ℕ × E) → P at → Q at) → ((at : ℕ × E) → Q at → P at) → (table : GnuHashTable) (symbols : List E) (name : List ℕ) (a : Result (Option (ℕ × E)) LinkError) (n : ℕ) → GnuLooksWhere P table symbols name a n → GnuLooksWhere Q table symbols name a n
 looks_alike P Q to back table symbols name _ _ (no_run none) = no_run none
 looks_alike P Q to back table symbols name _ _ (too_early from starts early) = too_early from starts early
 looks_alike P Q to back table symbols name _ _ (goes from n a starts begins looks) =
     goes from n a starts begins (from_so (gnu_hash_number name) table symbols P Q to back from n a looks)
 
 -- a look-up by a test of an index and a symbol that has the results of a test of the symbol is one by the latter
-pub looks_by_symbol : {F G E : Type 0} (test : Shared F (Bor E × Unit {0}) Bool) (f : F) (wrapped : Shared G (ℕ × (Bor E × Unit {0})) Bool) (g : G) (table : GnuHashTable) (symbols : Symbols E) (name : List ℕ) (a : Result (Option (ℕ × E)) LinkError) (n : ℕ) → (DecidesWhere symbols wrapped g → LooksWhere (IsMatchWhere symbols wrapped g name) table symbols.items name a n) → ((i : ℕ) (e : Bor E) (r : Bool) → wrapped.post g (i, (e, tt)) r → FnReturnsAt test f e.now r) → ((i : ℕ) (e : Bor E) (r : Bool) → FnReturnsAt test f e.now r → wrapped.post g (i, (e, tt)) r) → Decides symbols test f → Looks (IsMatch symbols test f name) table symbols.items name a n
+pub looks_by_symbol : {F G E : Type 0} (test : Shared F (Bor E × Unit {0}) Bool) (f : F) (wrapped : Shared G (ℕ × (Bor E × Unit {0})) Bool) (g : G) (table : GnuHashTable) (symbols : Symbols E) (name : List ℕ) (a : Result (Option (ℕ × E)) LinkError) (n : ℕ) → (DecidesWhere symbols wrapped g → GnuLooksWhere (IsMatchWhere symbols wrapped g name) table symbols.items name a n) → ((i : ℕ) (e : Bor E) (r : Bool) → wrapped.post g (i, (e, tt)) r → FnReturnsAt test f e.now r) → ((i : ℕ) (e : Bor E) (r : Bool) → FnReturnsAt test f e.now r → wrapped.post g (i, (e, tt)) r) → Decides symbols test f → Looks (IsMatch symbols test f name) table symbols.items name a n
 looks_by_symbol test f wrapped g table symbols name a n looks from to d =
     looks_alike (IsMatchWhere symbols wrapped g name) (λ at. IsMatch symbols test f name at.1)
     (λ at. (match_where test f wrapped g from to symbols name at).0)

@@ -1,10 +1,11 @@
 -- For callers of `DynamicObject::read`: the dynamic symbols of an object are those of its file, and it has only one
 -- error.
-use Rattle.std.proofs.Common.{◌≡◌, ℕ, List, None, Result, Ok, Err, MatchResult, ap, subst}
+use Rattle.std.proofs.Common.{◌≡◌, ◌∙◌, ℕ, List, None, Result, Ok, Err, IfOk, MatchResult, ap, subst}
+use Rattle.std.specs.Borrow.{Bor}
 use Rattle.elf_base.proofs.lemmas.RecordLemmas.{length-records}
 use Rattle.elf_base.specs.FileHeader.{file_class}
 use Rattle.elf_base.specs.Table.{table_data, table_order}
-use Rattle.elf_linking.specs.DynamicObject.{AreDynamicSymbols, AreOfClassFor, AreVersionedSymbols, IsObject, IsObjectError, object_dynamic_symbols, object_records, object_strings, object_table, object_versions, object_view, same_class, symbols_with}
+use Rattle.elf_linking.specs.DynamicObject.{AreDynamicSymbols, AreOfClassFor, AreVersionedSymbols, IsFileOf, IsObject, IsObjectError, IsObjectErrorOf, IsObjectOfBytes, IsReachedError, IsReachedObject, no_object, object_dynamic_symbols, object_file, object_records, object_strings, object_table, object_versions, object_view, same_class, symbols_with}
 use Rattle.elf_linking.specs.DynamicView.{AreSymbols, view_entries}
 use Rattle.elf_linking.specs.VersionTables.{version_tables_of}
 use Rattle.elf_linking.specs.Versions.{version_tables}
@@ -57,3 +58,13 @@ object_once {E} {r} class file (Ok object) error is failed =
     (subst (λ n. version_tables_of file entries (Ok strings) n ≡ Ok (version_tables (object_versions object))) (length-records r.SIZE (r.value (table_order (object_records object))) bytes) is.versions_are)
     failed)
 object_once {E} {r} class file (Err other) error is failed = ap (λ e. Err e) (failed_once class r.SIZE file other error is failed)
+
+-- what is read of a file is read of its bytes
+pub object_of_bytes : {E : Type 0} {r : _} (class size : ℕ) (bytes : List ℕ) (file : ElfFile) (answer : Result (DynamicObject E r) LinkError) → IsFileOf bytes file → MatchResult answer (IsReachedObject class size file) (IsReachedError class size file) → MatchResult answer (IsObjectOfBytes class size bytes) (IsObjectErrorOf class size bytes)
+object_of_bytes class size bytes file (Ok object) same is = record { file = file; file_is = same; object_is = is }
+object_of_bytes class size bytes file (Err error) same is = no_object file error same is
+
+-- the object of a file has its input
+pub input_of_object : {E : Type 0} {r : _} (class size : ℕ) (input : Bor (List ℕ)) (file : ElfFile) (answer : Result (DynamicObject E r) LinkError) → file.input ≡ input → MatchResult answer (IsReachedObject class size file) (IsReachedError class size file) → IfOk answer (λ object. (object_file object).input ≡ input)
+input_of_object class size input file (Ok object) same is = ap (λ (f : ElfFile). f.input) is.object_is.file_is ∙ same
+input_of_object class size input file (Err error) same is = tt

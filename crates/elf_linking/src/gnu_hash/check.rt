@@ -14,9 +14,9 @@ use xmas_elf::ElfFile;
 use xmas_elf::symbol_table::{Entry, SymbolTable};
 
 impl<'a> GnuHashTable<'a> {
-    ghost use Rattle.elf_linking.specs.GnuHash.{AreGoodBelow, bucket_count_of, first_symbol_of};
+    ghost use Rattle.elf_linking.specs.GnuHash.{AreGoodBelow, gnu_bucket_count, first_symbol_of};
     ghost use Rattle.elf_linking.specs.GnuHash.{ComeFrom, EndsRun, HasChain, IsCheck, start_at};
-    ghost use Rattle.elf_linking.specs.GnuHash.{Ends, IsCut, IsGood, IsHeld, IsThere};
+    ghost use Rattle.elf_linking.specs.GnuHash.{GnuEnds, IsCut, IsGnuGood, IsHeld, IsThere};
     ghost use Rattle.elf_linking.specs.GnuHash.{IsAtFault, IsBucketGood, IsExported, chain_word};
 
     /// Checks that the runs of all buckets end, and that `lookup` finds every exported symbol: each
@@ -36,7 +36,7 @@ impl<'a> GnuHashTable<'a> {
         file: &ElfFile<'_>,
     ) -> Result<(), LinkError>
         ensures accepts { IsOk result
-            ↔ IsGood self.now (symbols_of E.fields E.text_in symbols.now file.now) }
+            ↔ IsGnuGood self.now (symbols_of E.fields E.text_in symbols.now file.now) }
         ensures exact { IsCheck self.now
             (symbols_of E.fields E.text_in symbols.now file.now) result }
     {
@@ -45,7 +45,7 @@ impl<'a> GnuHashTable<'a> {
 
     /// The result of `check` for a symbol table that carries its names.
     pub fn check_in<E: Entry + Record>(&self, symbols: &SymbolTable<'_, E>) -> Result<(), LinkError>
-        ensures accepts { IsOk result ↔ IsGood self.now (table_symbols symbols.now) }
+        ensures accepts { IsOk result ↔ IsGnuGood self.now (table_symbols symbols.now) }
         ensures exact { IsCheck self.now (table_symbols symbols.now) result }
     {
         match self.check_buckets(symbols) {
@@ -62,8 +62,8 @@ impl<'a> GnuHashTable<'a> {
         symbols: &SymbolTable<'_, E>,
     ) -> Result<(), LinkError>
         ensures { let items = (table_symbols symbols.now).items in MatchResult result
-            (λ _. AreGoodBelow self.now items (bucket_count_of self.now))
-            (λ error. (k : ℕ) × (k < bucket_count_of self.now) × AreGoodBelow self.now items k
+            (λ _. AreGoodBelow self.now items (gnu_bucket_count self.now))
+            (λ error. (k : ℕ) × (k < gnu_bucket_count self.now) × AreGoodBelow self.now items k
             × IsAtFault self.now items k error) }
     {
         let runs_end = self.runs_end(symbols);
@@ -80,9 +80,9 @@ impl<'a> GnuHashTable<'a> {
         runs_end: u64,
         symbols: &SymbolTable<'_, E>,
     ) -> Result<(), LinkError>
-        requires below { bucket < bucket_count_of self.now }
+        requires below { bucket < gnu_bucket_count self.now }
         requires ends { (from : ℕ) → first_symbol_of self.now ≤ from → from < runs_end
-            → Ends self.now (table_symbols symbols.now).items from }
+            → GnuEnds self.now (table_symbols symbols.now).items from }
         requires last { (i : ℕ) → first_symbol_of self.now ≤ i → runs_end ≤ i
             → IsThere self.now (table_symbols symbols.now).items i → EndsRun self.now i → ⊥ }
         ensures { let items = (table_symbols symbols.now).items in MatchResult result
@@ -106,7 +106,7 @@ impl<'a> GnuHashTable<'a> {
     // have a symbol; 0 if there is none.
     fn runs_end<E: Entry + Record>(&self, symbols: &SymbolTable<'_, E>) -> u64
         ensures ends { (from : ℕ) → first_symbol_of self.now ≤ from → from < result
-            → Ends self.now (table_symbols symbols.now).items from }
+            → GnuEnds self.now (table_symbols symbols.now).items from }
         ensures last { (i : ℕ) → first_symbol_of self.now ≤ i → result ≤ i
             → IsThere self.now (table_symbols symbols.now).items i → EndsRun self.now i → ⊥ }
     {

@@ -62,8 +62,8 @@ fn symbol_at<E: Entry + Record, F: Fn(u32, &E) -> bool>(
 }
 
 impl<'a> GnuHashTable<'a> {
-    ghost use Rattle.elf_linking.specs.GnuHash.{FindsAll, FindsAllWhere, IsGood, Looks, LooksFrom};
-    ghost use Rattle.elf_linking.specs.GnuHash.{LooksWhere, first_symbol_of};
+    ghost use Rattle.elf_linking.specs.GnuHash.{FindsAll, FindsAllWhere, IsGnuGood, Looks, GnuLooksFrom};
+    ghost use Rattle.elf_linking.specs.GnuHash.{GnuLooksWhere, first_symbol_of};
     ghost use Rattle.elf_linking.specs.Layouts.{gnu_hash_number};
 
     /// The first symbol in the run of a name that has the name's hash number, has the name and
@@ -92,7 +92,7 @@ impl<'a> GnuHashTable<'a> {
             Decides all F.Fn f → (count : ℕ)
             × Looks (IsMatch all F.Fn f name.now) self.now all.items name.now result count }
         ensures good { let all = symbols_of E.fields E.text_in symbols.now file.now in
-            Decides all F.Fn f → IsGood self.now all
+            Decides all F.Fn f → IsGnuGood self.now all
             → FindsAll self.now all name.now (IsMatch all F.Fn f name.now) result }
     {
         self.lookup_in(name, &SymbolTable::new(*symbols, file), f)
@@ -113,7 +113,7 @@ impl<'a> GnuHashTable<'a> {
         ensures answer { let all = table_symbols symbols.now in Decides all F.Fn f → (count : ℕ)
             × Looks (IsMatch all F.Fn f name.now) self.now all.items name.now result count }
         ensures good { let all = table_symbols symbols.now in Decides all F.Fn f
-            → IsGood self.now all
+            → IsGnuGood self.now all
             → FindsAll self.now all name.now (IsMatch all F.Fn f name.now) result }
     {
         self.lookup_counted_in(name, symbols, f).0
@@ -133,7 +133,7 @@ impl<'a> GnuHashTable<'a> {
         ensures answer { let all = table_symbols symbols.now in Decides all F.Fn f
             → Looks (IsMatch all F.Fn f name.now) self.now all.items name.now result.0 result.1 }
         ensures good { let all = table_symbols symbols.now in Decides all F.Fn f
-            → IsGood self.now all
+            → IsGnuGood self.now all
             → FindsAll self.now all name.now (IsMatch all F.Fn f name.now) result.0 }
     {
         // The test of a symbol as a test of its index, which it leaves out.
@@ -160,10 +160,10 @@ impl<'a> GnuHashTable<'a> {
         requires callable { (index : ℕ) (e : Bor E) → index < 2 ^ 32
             → slice_get (table_symbols symbols.now).items index ≡ Some e.now → F.pre f index e }
         ensures answer { let all = table_symbols symbols.now in DecidesWhere all F.Fn f
-            → (count : ℕ) × LooksWhere (IsMatchWhere all F.Fn f name.now) self.now all.items
+            → (count : ℕ) × GnuLooksWhere (IsMatchWhere all F.Fn f name.now) self.now all.items
             name.now result count }
         ensures good { let all = table_symbols symbols.now in DecidesWhere all F.Fn f
-            → IsGood self.now all
+            → IsGnuGood self.now all
             → FindsAllWhere self.now all name.now (IsMatchWhere all F.Fn f name.now) result }
     {
         self.search(name, symbols, &f).0
@@ -182,7 +182,7 @@ impl<'a> GnuHashTable<'a> {
             → F.pre f.now index e }
         ensures in_symbols { result.1 ≤ length (table_symbols symbols.now).items }
         ensures answer { let all = table_symbols symbols.now in DecidesWhere all F.Fn f.now
-            → LooksWhere (IsMatchWhere all F.Fn f.now name.now)
+            → GnuLooksWhere (IsMatchWhere all F.Fn f.now name.now)
             self.now all.items name.now result.0 result.1 }
     {
         let hash = gnu_hash(name);
@@ -212,7 +212,7 @@ impl<'a> GnuHashTable<'a> {
             → F.pre f.now index e }
         ensures in_symbols { result.1 ≤ length (table_symbols symbols.now).items }
         ensures answer { let all = table_symbols symbols.now in DecidesWhere all F.Fn f.now
-            → LooksFrom (IsMatchWhere all F.Fn f.now name.now) hash
+            → GnuLooksFrom (IsMatchWhere all F.Fn f.now name.now) hash
             self.now all.items from result.0 result.1 }
     {
         let end = symbol_end(symbols);

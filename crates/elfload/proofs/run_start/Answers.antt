@@ -2,6 +2,7 @@ use Rattle.std.proofs.Common.{◌≡◌, ℕ, List, refl, subst}
 use Rattle.elfload.specs.Images.{AreImagesGood}
 use Rattle.elfload.specs.Symbols.{AreSymbolsFound}
 use Rattle.elfload.proofs.run_start.Goals as goal
+use Rattle.linking_programs.specs.Numbers.{AreNumbersKnown}
 use Rattle.linking_programs.specs.declared.Input.{Input}
 
 -- the checks of the same inputs, and their symbols
@@ -10,6 +11,9 @@ same_good narrow_record wide_record page one other same is = subst (λ (inputs :
 
 same_found : (narrow_record wide_record : _) (one other : List Input) → one ≡ other → AreSymbolsFound narrow_record wide_record one → AreSymbolsFound narrow_record wide_record other
 same_found narrow_record wide_record one other same is = subst (λ (inputs : List Input). AreSymbolsFound narrow_record wide_record inputs) same is
+
+same_known : (narrow_record wide_record : _) (one other : List Input) → one ≡ other → AreNumbersKnown narrow_record wide_record one → AreNumbersKnown narrow_record wide_record other
+same_known narrow_record wide_record one other same is = subst (λ (inputs : List Input). AreNumbersKnown narrow_record wide_record inputs) same is
 
 pub returns-in-Some-clause-bound : goal.returns-in-Some-clause-bound
 returns-in-Some-clause-bound g c = c.with_symbols.ensures.bound c.run_steps-status.ensures.bound
@@ -26,5 +30,6 @@ returns-in-Some-clause-good g c = λ zero.
       inputs = c.in-Some.inputs.items;
       inputs_are = c.in-Some.ensures;
       checked = same_good _ _ c.args.page _ _ c.deref.ensures.value (c.run_steps-status.ensures.checked (c.with_symbols.ensures.kept zero));
+      known = same_known _ _ _ _ c.deref-in-Some.ensures.value (c.with_symbols.ensures.known zero);
       found = same_found _ _ _ _ c.deref-in-Some.ensures.value (c.with_symbols.ensures.found zero refl);
     }

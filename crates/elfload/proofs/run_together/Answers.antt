@@ -7,5 +7,6 @@ returns-clause-good g c = λ zero.
     record {
       loaded = c.run-status.ensures.loaded kept;
       checked = c.run-status.ensures.checked kept;
+      known = inr (c.with_symbols.ensures.known zero);
       found = λ now. inr (c.with_symbols.ensures.found zero (c.is_now.ensures ∙ now));
     }

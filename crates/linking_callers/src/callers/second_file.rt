@@ -6,7 +6,7 @@ ghost use Rattle.elf_linking.specs.References.{references_left};
 ghost use Rattle.elf_linking.specs.Scope.{AreGood, BindsReference, HasNamedSymbol, scope_objects};
 ghost use Rattle.elf_linking.specs.declared.error.LinkError.{LinkError};
 ghost use Rattle.elf_linking.specs.declared.object.DynamicObject.{DynamicObject};
-ghost use Rattle.linking_callers.specs.SecondFile.{FindsReference, IsChecked, IsLoaded, IsRead};
+ghost use Rattle.linking_callers.specs.SecondFile.{FindsReference, IsChecked, IsLoaded};
 ghost use Rattle.linking_callers.specs.SecondFile.{IsSecond, IsSecondOf, IsTo, is_of_second};
 ghost use Rattle.xmas_elf.specs.First.{FindsFirst};
 
@@ -14,19 +14,8 @@ use elf_linking::references::{Reference, References};
 use elf_linking::scope::{Bound, Scope};
 use elf_linking::view::LinkedSymbol;
 use elf_linking::{DynamicObject, LinkError};
-use xmas_elf::ElfFile;
 
-// The dynamic symbols of the file that these bytes are.
-fn read_object<E: LinkedSymbol>(bytes: &[u8]) -> Result<DynamicObject<'_, E>, LinkError>
-    ensures { IsRead E.CLASS E.SIZE bytes.entry result }
-{
-    match ElfFile::new(bytes) {
-        Ok(file) => DynamicObject::read(&file),
-        Err(error) => Err(LinkError::Elf(error)),
-    }
-}
-
-// The same object, if look-ups in it find what they must and its versions can be read.
+// The object that was read, if look-ups in it find what they must and its versions can be read.
 fn checked<'a, E: LinkedSymbol>(
     read: Result<DynamicObject<'a, E>, LinkError>,
 ) -> Result<DynamicObject<'a, E>, LinkError>
@@ -48,12 +37,12 @@ fn checked<'a, E: LinkedSymbol>(
 /// The dynamic symbols of the file that these bytes are, if look-ups in them find what they must and
 /// their versions can be read.
 ///
-/// Errors, the first of these: those of `ElfFile::new`; those of `DynamicObject::read`; that of
-/// `check`; that of `check_versions`.
+/// Errors, the first of these: those of `DynamicObject::of_bytes`; that of `check`; that of
+/// `check_versions`.
 pub fn loaded_object<E: LinkedSymbol>(bytes: &[u8]) -> Result<DynamicObject<'_, E>, LinkError>
-    ensures { IsLoaded E.fields E.CLASS E.SIZE bytes.entry result }
+    ensures { IsLoaded E.fields E.CLASS E.SIZE bytes.now result }
 {
-    checked(read_object(bytes))
+    checked(DynamicObject::of_bytes(bytes))
 }
 
 // Whether the symbol at an index has a name that can be read and is this.
@@ -153,9 +142,9 @@ pub fn is_of_second_file<E: LinkedSymbol>(
     ensures { (one : Result (DynamicObject E E.Record) LinkError)
         × (two : Result (DynamicObject E E.Record) LinkError)
         × (three : Result (DynamicObject E E.Record) LinkError)
-        × IsLoaded E.fields E.CLASS E.SIZE program.entry one
-        × IsLoaded E.fields E.CLASS E.SIZE second.entry two
-        × IsLoaded E.fields E.CLASS E.SIZE third.entry three
+        × IsLoaded E.fields E.CLASS E.SIZE program.now one
+        × IsLoaded E.fields E.CLASS E.SIZE second.now two
+        × IsLoaded E.fields E.CLASS E.SIZE third.now three
         × IsSecondOf E.fields one two three name.now result }
 {
     let one = loaded_object::<E>(program);

@@ -1,9 +1,9 @@
 use Rattle.std.proofs.Common.{rules, ◌≡◌, ◌<◌, ◌+◌, ◌++◌, ◌∷◌, [], List, ℕ, length, take, sym, ap, subst, ◌∙◌, arith}
 use Rattle.std.proofs.lemmas.List.{length_push, take_more}
-use Rattle.linking_programs.specs.Files.{AreObjectsOf, IsObjectOfBytes}
+use Rattle.elf_linking.specs.DynamicObject.{IsObjectErrorOf, IsObjectOfBytes}
+use Rattle.linking_programs.specs.Files.{AreObjectsOf}
 use Rattle.linking_programs.specs.declared.Input.{Input}
 use Rattle.program_ends.proofs.LineLists.{zip_one_more}
-use Rattle.linking_programs.specs.Files.{IsObjectErrorOf}
 use Rattle.linking_programs.proofs.Objects.{input_stops}
 use Rattle.linking_programs.proofs.read_objects.Goals as goal
 

@@ -1,4 +1,4 @@
-use Rattle.std.proofs.Common.{◌≡◌, ◌≤◌, ◌+◌, ◌-◌, length, drop}
+use Rattle.std.proofs.Common.{◌≡◌, ◌≤◌, ◌+◌, ◌-◌, length}
 use Rattle.elf_loading.specs.LoadScope.{loaded_objects, loaded_plans}
 use Rattle.elf_c.specs.LoadAll.{AreRelocated, begin_at}
 use Rattle.elf_c.proofs.load_all.relocate_each.Given as goal

@@ -1,6 +1,4 @@
-use Rattle.std.proofs.Common.{ap, subst, ◌≡◌}
-use Rattle.std.specs.Prelude.{MatchResult, ⊤}
-use Rattle.elf_linking.specs.DynamicObject.{object_file}
+use Rattle.std.proofs.Common.{subst, ◌≡◌}
 use Rattle.elfload.specs.Starts.{AreInPlace, IsSlotError, by_slot}
 use Rattle.elfload.proofs.StartValues.{values_end}
 use Rattle.elfload.proofs.arrays.read_values.Goals as goal

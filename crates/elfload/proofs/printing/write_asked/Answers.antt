@@ -1,4 +1,3 @@
-use Rattle.std.proofs.Common.{sym}
 use Rattle.elfload.proofs.StartParts.{written_so}
 use Rattle.elfload.proofs.printing.write_asked.Goals as goal
 

@@ -1,4 +1,4 @@
-use Rattle.std.proofs.Common.{◌≡◌, ◌<◌, ◌∙◌, length, take, refl, ap, arith}
+use Rattle.std.proofs.Common.{◌≡◌, ◌<◌, ◌∙◌, length, refl, ap, arith}
 use Rattle.std.proofs.lemmas.List.{take_all}
 use Rattle.elfload.specs.Starts.{numbered}
 use Rattle.elfload.proofs.StartValues.{one_numbered}

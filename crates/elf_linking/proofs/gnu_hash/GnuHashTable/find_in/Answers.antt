@@ -1,6 +1,6 @@
 use Rattle.std.proofs.Common.{◌≡◌, ◌≤◌, ◌<◌, ◌%◌, ◌/◌, None, Some, Ok, Err, inl, inr, refl, sym, ◌∙◌, subst, arith}
 use Rattle.elf_linking.specs.Find.{IsFound, dynamic_symbols, faulty}
-use Rattle.elf_linking.specs.GnuHash.{EndsRun, HasChain, IsThere, Run, chain_of, chain_word, no_run, no_symbol, start_of, symbol_end, too_early}
+use Rattle.elf_linking.specs.GnuHash.{EndsRun, HasChain, IsThere, Run, chain_of, chain_word, no_run, no_symbol, gnu_start_of, symbol_end, too_early}
 use Rattle.elf_linking.specs.Kept.{GoesOn}
 use Rattle.elf_linking.specs.Layouts.{gnu_hash_number}
 use Rattle.elf_linking.specs.Versions.{version_list}
@@ -17,12 +17,12 @@ use Rattle.elf_linking.proofs.gnu_hash.GnuHashTable.find_in.Goals.{then-word-has
 
 pub returns-in_default : goal.returns-in_default
 returns-in_default g c =
-    let none : start_of c.args.self.now c.args.name.now ≡ None = cc in
+    let none : gnu_start_of c.args.self.now c.args.name.now ≡ None = cc in
     found_none _ _ _ _ (λ P. (0, no_run none))
 
 pub returns-then-from-first_symbol : goal.returns-then-from-first_symbol
 returns-then-from-first_symbol g c =
-    let starts : start_of c.args.self.now c.args.name.now ≡ Some c.in-Some.from = cc in
+    let starts : gnu_start_of c.args.self.now c.args.name.now ≡ Some c.in-Some.from = cc in
     faulty ChainIndex (0, too_early c.in-Some.from starts (omega arith))
 
 pub loop-index-init : goal.loop-index-init
@@ -39,7 +39,7 @@ loop-index-init g c =
 pub returns-in-Err : goal.returns-in-Err
 returns-in-Err g c =
     let items = (table_symbols c.args.symbols.now).items in
-    let starts : start_of c.args.self.now c.args.name.now ≡ Some c.in-Some.from = cc in
+    let starts : gnu_start_of c.args.self.now c.args.name.now ≡ Some c.in-Some.from = cc in
     let ordered : c.in-Some.from ≤ c.loop-index.index = c.loop-index.invariant.run.ordered in
     let below : c.loop-index.index < symbol_end items = omega arith in
     let fails : chain_of c.args.self.now c.loop-index.index ≡ Err c.in-Err.error = sym c.get_chain.ensures.exact ∙ c.in-Err.is in
@@ -48,7 +48,7 @@ returns-in-Err g c =
 
 pub returns-in-End : goal.returns-in-End
 returns-in-End g c =
-    let starts : start_of c.args.self.now c.args.name.now ≡ Some c.in-Some.from = cc in
+    let starts : gnu_start_of c.args.self.now c.args.name.now ≡ Some c.in-Some.from = cc in
     let word : HasChain c.args.self.now c.loop-index.index = c.in-Ok.ensures.readable.0 refl in
     let there : IsThere c.args.self.now (table_symbols c.args.symbols.now).items c.loop-index.index = record { symbol = omega arith; word = word } in
     let same : c.in-Ok.word ≡ chain_word c.args.self.now c.loop-index.index = c.in-Ok.ensures.value in
@@ -58,7 +58,7 @@ returns-in-End g c =
 
 pub returns-then-word-eq1 : goal.returns-then-word-eq1
 returns-then-word-eq1 g c =
-    let starts : start_of c.args.self.now c.args.name.now ≡ Some c.in-Some.from = cc in
+    let starts : gnu_start_of c.args.self.now c.args.name.now ≡ Some c.in-Some.from = cc in
     let word : HasChain c.args.self.now c.loop-index.index = c.in-Ok.ensures.readable.0 refl in
     let there : IsThere c.args.self.now (table_symbols c.args.symbols.now).items c.loop-index.index = record { symbol = omega arith; word = word } in
     let same : c.in-Ok.word ≡ chain_word c.args.self.now c.loop-index.index = c.in-Ok.ensures.value in
@@ -75,7 +75,7 @@ returns-then-word-eq1 g c =
 
 pub loop-index-preserved : goal.loop-index-preserved
 loop-index-preserved g c =
-    let starts : start_of c.args.self.now c.args.name.now ≡ Some c.in-Some.from = cc in
+    let starts : gnu_start_of c.args.self.now c.args.name.now ≡ Some c.in-Some.from = cc in
     let word : HasChain c.args.self.now c.loop-index.index = c.in-Ok.ensures.readable.0 refl in
     let there : IsThere c.args.self.now (table_symbols c.args.symbols.now).items c.loop-index.index = record { symbol = omega arith; word = word } in
     let same : c.in-Ok.word ≡ chain_word c.args.self.now c.loop-index.index = c.in-Ok.ensures.value in
@@ -93,5 +93,5 @@ loop-index-preserved g c =
 
 pub returns : goal.returns
 returns g c =
-    let starts : start_of c.args.self.now c.args.name.now ≡ Some c.in-Some.from = cc in
+    let starts : gnu_start_of c.args.self.now c.args.name.now ≡ Some c.in-Some.from = cc in
     found_fault _ _ _ _ _ starts (omega arith) _ c.loop-index.invariant.run _ _ _ c.loop-index.invariant.comes SymbolIndex (no_symbol (omega arith))

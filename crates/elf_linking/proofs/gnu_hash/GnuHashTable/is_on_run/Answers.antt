@@ -1,6 +1,6 @@
 use Rattle.std.proofs.Common.{◌≡◌, ◌≤◌, ◌<◌, ◌/◌, Some, refl, sym, subst, arith}
 use Rattle.std.proofs.lemmas.Bool.{eq-eqb, eqb-true}
-use Rattle.elf_linking.specs.GnuHash.{HasChain, chain_word, start_of, symbol_end}
+use Rattle.elf_linking.specs.GnuHash.{HasChain, chain_word, gnu_start_of, symbol_end}
 use Rattle.elf_linking.specs.Layouts.{gnu_hash_number}
 use Rattle.xmas_elf.specs.SymbolTable.{table_symbols}
 use Rattle.elf_linking.proofs.Looks.{start_bucket}
@@ -12,8 +12,8 @@ returns-then-start-from g c = (
   λ no. absurd (cc),
   λ held.
       let items = (table_symbols c.args.symbols.now).items in
-      let starts : start_of c.args.self.now c.args.name.now ≡ Some c.in-Some.start = cc in
-      let starts' : start_of c.args.self.now c.args.name.now ≡ Some held.from = held.starts in
+      let starts : gnu_start_of c.args.self.now c.args.name.now ≡ Some c.in-Some.start = cc in
+      let starts' : gnu_start_of c.args.self.now c.args.name.now ≡ Some held.from = held.starts in
       let same : held.from ≡ c.in-Some.start = cc in
       let positive : 0 < held.from = (start_bucket _ _ _ starts').2 in
       let above : c.args.from ≤ held.from = c.requires.runs.only held.from positive held.run in
@@ -29,7 +29,7 @@ returns-then-start-from g c = (
 pub returns-in-Ok : goal.returns-in-Ok
 returns-in-Ok g c =
     let items = (table_symbols c.args.symbols.now).items in
-    let starts : start_of c.args.self.now c.args.name.now ≡ Some c.in-Some.start = cc in
+    let starts : gnu_start_of c.args.self.now c.args.name.now ≡ Some c.in-Some.start = cc in
     let word : HasChain c.args.self.now c.args.index = c.in-Ok.ensures.readable.0 refl in
     let same : c.in-Ok.word ≡ chain_word c.args.self.now c.args.index = c.in-Ok.ensures.value in
     let number : c.gnu_hash_of_bytes-hash.result ≡ gnu_hash_number c.args.name.now = c.gnu_hash_of_bytes-hash.ensures in

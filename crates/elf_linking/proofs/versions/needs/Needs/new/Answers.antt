@@ -1,4 +1,4 @@
-use Rattle.std.proofs.Common.{◌≡◌, ◌<◌, ◌^◌, ℕ, length, ap, subst, sym, rules}
+use Rattle.std.proofs.Common.{◌≡◌, ◌<◌, ◌^◌, length, ap, subst, sym, rules}
 use Rattle.elf_linking.specs.VersionTables.{AreNeeds, VersionRecords, joined, need_at, needs_in, parts_of, places_of, records_data, result_map, room_of, within_room}
 use Rattle.elf_linking.proofs.VersionItems.{needs_are, needs_fit, needs_start}
 use Rattle.std.specs.Prelude.{map}
