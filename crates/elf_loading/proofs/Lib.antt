@@ -28,3 +28,6 @@ pub mod WordErrors
 mod CheckedImages
 mod CheckedResults
 mod CheckedScopes
+mod NumbersRead
+mod ImageLayouts
+mod SlotWords

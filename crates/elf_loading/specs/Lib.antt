@@ -29,3 +29,4 @@ pub mod LoadScope
 pub mod CheckedImage
 pub mod CheckedLoads
 pub mod CheckedLoadScope
+pub mod Slots

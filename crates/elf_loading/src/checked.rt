@@ -9,6 +9,7 @@ ghost use Rattle.elf_loading.specs.CheckedLoads.{AreAllChecked};
 ghost use Rattle.elf_loading.specs.LoadScope.{loaded_objects};
 
 mod image;
+mod slots;
 
 use crate::LoadScope;
 pub use crate::checked::image::{CheckedImage, ImageError};

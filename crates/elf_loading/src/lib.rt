@@ -41,7 +41,7 @@ pub use crate::load_scope::LoadScope;
 pub use crate::mapping::{Contents, Loader, Mapping};
 pub use crate::mappings::Mappings;
 pub use crate::plan::{LoadPlan, Tls};
-pub use crate::relocate::Place;
+pub use crate::relocate::{Place, Sources};
 pub use crate::span::Span;
 pub use crate::value::{Origin, Value};
 pub use crate::word_error::WordError;

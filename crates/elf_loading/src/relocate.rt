@@ -47,19 +47,21 @@ pub struct Place {
     pub thread: u64,
 }
 
-// What the words of an object are written by.
+/// What the words of an object are written by. The contract of `LoadScope::relocate` speaks of it.
 #[derive(Drop)]
-pub(crate) struct Sources<'b, 's, 'a, E: Record> {
-    pub(crate) objects: &'s [DynamicObject<'a, E>],
-    pub(crate) plans: &'s [LoadPlan<'a>],
-    // The index of the own object.
-    pub(crate) of: usize,
-    // The byte order of the own object.
-    pub(crate) order: Order,
-    // Where each object is loaded.
-    pub(crate) places: &'b [Place],
-    // The bytes of each object from which bytes are copied.
-    pub(crate) images: &'b [&'b [u8]],
+pub struct Sources<'b, 's, 'a, E: Record> {
+    /// The objects of the scope.
+    pub objects: &'s [DynamicObject<'a, E>],
+    /// The plan of each object.
+    pub plans: &'s [LoadPlan<'a>],
+    /// The index of the object whose words are written.
+    pub of: usize,
+    /// Its byte order.
+    pub order: Order,
+    /// Where each object is loaded.
+    pub places: &'b [Place],
+    /// The image of each object from which bytes are copied.
+    pub images: &'b [&'b [u8]],
 }
 
 // The place of an object.

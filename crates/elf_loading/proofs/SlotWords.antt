@@ -16,8 +16,8 @@ use Rattle.elf_loading.specs.Values.{is_elsewhere, is_indirect, target_of}
 use Rattle.elf_loading.specs.declared.value.Origin.TheVariants.{Base}
 use Rattle.elf_loading.specs.declared.value.Value.TheVariants.{Sum}
 use Rattle.elf_loading.specs.declared.words.Word.{Word}
-use Rattle.loading_tests.proofs.NumbersRead.{number_of_bytes}
-use Rattle.loading_tests.specs.Slots.{IsOfSymbol, IsSymbolSlot, word_in}
+use Rattle.elf_loading.proofs.NumbersRead.{number_of_bytes}
+use Rattle.elf_loading.specs.Slots.{HasWords, HoldsSymbol, IsOfSymbol, IsSymbolSlot, word_in}
 use Rattle.xmas_elf.specs.Symbol.{SymbolFields}
 
 -- what h gives of an element is in the list of what it gives
@@ -103,14 +103,14 @@ module _ (parts : ImageParts) (address : ℕ) (reference : Reference) (bound : B
     same_sum : slot_value % 256 ^ 8 ≡ plus (place_at places bound.object).base bound.symbol.value
     same_sum = omega arith
 
-    module _ (memory : List ℕ) (start : ℕ) (before : ℕ → ℕ)
-        (each : (i : ℕ) → i < length memory → slice_index memory i ≡ relocated_at parts places images (image_words parts) (start + i) (before i)) where
+    module _ (memory : List ℕ) (start : ℕ)
+        (each : (i : ℕ) → i < length memory → (old : ℕ) × (slice_index memory i ≡ relocated_at parts places images (image_words parts) (start + i) old)) where
       read_is : start ≤ address → address - start + 8 ≤ length memory → number parts.order 8 (address - start) memory ≡ plus (place_at places bound.object).base bound.symbol.value
       read_is from to = number_of_bytes parts.order slot_value 8 (address - start) memory (λ j below.
-          each (address - start + j) (omega (arith, to, below))
-          ∙ byte_is (start + (address - start + j)) j (before (address - start + j)) below (omega (arith, from))) ∙ same_sum
+          let (old, there) = each (address - start + j) (omega (arith, to, below)) in
+          there ∙ byte_is (start + (address - start + j)) j old below (omega (arith, from))) ∙ same_sum
 
-      pub slot_read : start_in parts parts.index ≡ start → IfSome (word_in parts memory address) (λ word. word ≡ plus (place_at places bound.object).base bound.symbol.value)
+      slot_read : start_in parts parts.index ≡ start → IfSome (word_in parts memory address) (λ word. word ≡ plus (place_at places bound.object).base bound.symbol.value)
       slot_read is = rw is (elim (cases_lt address start) [
         | inl less ↦ (let outside : nat_lt address start ≡ true = lt-ltb address start less in rw outside tt)
         | inr more ↦ elim (cases_lt (length memory) (address - start + 8)) [
@@ -124,3 +124,8 @@ module _ (parts : ImageParts) (address : ℕ) (reference : Reference) (bound : B
               rw (from, inside) (read_is more fits))
         ]
       ])
+
+-- the word that is read at the slot of a symbol
+pub symbol_held : (parts : ImageParts) (places : List Place) (images : List (Bor (List ℕ))) (memory : List ℕ) (address : ℕ) (word : Option ℕ) → word ≡ word_in parts memory address → HasWords parts places images memory → HoldsSymbol parts places address word
+symbol_held parts places images memory address word is has reference bound slot =
+    rw is (slot_read parts address reference bound slot places images has.apart memory (start_in parts parts.index) has.bytes refl)

@@ -1,12 +1,15 @@
 -- The slots of a checked object that get addresses of symbols (this project's own).
-use Rattle.std.specs.Prelude.{◌≡◌, ◌⊎◌, ℕ, ◌+◌, ◌-◌, ◌||◌, nat_lt, false, List, length, Option, None, Some, if◌then◌else◌}
-use Rattle.std.specs.List.{Contains}
+use Rattle.std.specs.Prelude.{◌≡◌, ◌⊎◌, ℕ, ◌+◌, ◌-◌, ◌<◌, ◌≤◌, ◌||◌, nat_lt, false, IfSome, List, length, slice_index, Option, None, Some, if◌then◌else◌}
+use Rattle.std.specs.Borrow.{Bor}
+use Rattle.std.specs.List.{Contains, count_by}
 use Rattle.elf_base.specs.Number.{number}
 use Rattle.elf_linking.specs.CheckedScope.{bound_in}
 use Rattle.elf_linking.specs.RelocationTypes.{row_of}
 use Rattle.elf_linking.specs.declared.references.types.Formula.TheVariants.{Symbol, SymbolAlone}
-use Rattle.elf_loading.specs.CheckedImage.{ImageParts, start_in}
-use Rattle.elf_loading.specs.Types.{Bound, Formula, Reference}
+use Rattle.elf_loading.specs.CheckedImage.{ImageParts, image_words, relocated_at, start_in}
+use Rattle.elf_loading.specs.ImageWords.{covers}
+use Rattle.elf_loading.specs.Relocate.{place_at, plus}
+use Rattle.elf_loading.specs.Types.{Bound, Formula, Place, Reference}
 use Rattle.elf_loading.specs.Values.{is_elsewhere}
 use Rattle.xmas_elf.specs.Symbol.{SymbolFields}
 
@@ -29,3 +32,17 @@ pub record IsSymbolSlot (parts : ImageParts) (address : ℕ) (reference : Refere
   pub width : (row_of parts.own.machine reference.kind).width ≡ 8
   pub bound_is : bound_in parts.objects parts.index reference ≡ Some bound
   pub plain : is_elsewhere (λ symbol. symbol) (Some bound) ≡ false
+
+-- memory holds the words of an object's relocations, which are apart: each byte is that of the one word over its address,
+-- otherwise any byte
+pub record HasWords (parts : ImageParts) (places : List Place) (images : List (Bor (List ℕ))) (memory : List ℕ) : Type 0 where
+  pub apart : (address : ℕ) → count_by (covers address) (image_words parts) ≤ 1
+  pub bytes : (i : ℕ) → i < length memory → (old : ℕ)
+      × (slice_index memory i ≡ relocated_at parts places images (image_words parts) (start_in parts parts.index + i) old)
+
+-- a word is that of the slot of each symbol at an address: the address of the definition that the scope binds, which is the
+-- base of its object plus its value
+abbrev pub HoldsSymbol : ImageParts → List Place → ℕ → Option ℕ → Type 0
+HoldsSymbol parts places address word = (reference : Reference) (bound : Bound SymbolFields)
+    → IsSymbolSlot parts address reference bound
+    → IfSome word (λ number. number ≡ plus (place_at places bound.object).base bound.symbol.value)

@@ -1,7 +1,7 @@
 use Rattle.std.proofs.Common.{◌≡◌, Some, length, refl, slice_get, subst}
 use Rattle.std.proofs.lemmas.Option.{slice_get_read}
-use Rattle.loading_tests.proofs.ImageLayouts.{layout_is}
-use Rattle.loading_tests.proofs.slot_callers.layout_of.Goals as goal
+use Rattle.elf_loading.proofs.ImageLayouts.{layout_is}
+use Rattle.elf_loading.proofs.checked.slots.layout_of.Goals as goal
 
 pub returns : goal.returns
 returns g c =

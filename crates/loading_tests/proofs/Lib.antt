@@ -1,3 +1,0 @@
-pub mod ImageLayouts
-pub mod NumbersRead
-pub mod SlotWords
