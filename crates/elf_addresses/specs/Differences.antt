@@ -41,23 +41,25 @@ IsChange olds news (New new) = (j : ℕ) × (slice_get news j ≡ Some new) × (
 IsChange olds news (Both old new) =
     (i : ℕ) × (j : ℕ) × (slice_get olds i ≡ Some old) × (slice_get news j ≡ Some new) × IsMatch olds news i j
 
--- the parts of the old file in a change, and those of the new one: one or none
+-- the parts of the old file in a change: one or none
 abbrev pub olds_of : Change → List SizedPart
 olds_of (Gone old) = old ∷ []
 olds_of (New new) = []
 olds_of (Both old new) = old ∷ []
 
+-- the parts of the new file in a change: one or none
 abbrev pub news_of : Change → List SizedPart
 news_of (Gone old) = []
 news_of (New new) = new ∷ []
 news_of (Both old new) = new ∷ []
 
--- the number of bytes in the old file, and in the new one; 0 without a part there
+-- the number of bytes in the old file; 0 without a part there
 abbrev pub old_size : Change → ℕ
 old_size (Gone old) = old.size
 old_size (New new) = 0
 old_size (Both old new) = old.size
 
+-- the number of bytes in the new file; 0 without a part there
 abbrev pub new_size : Change → ℕ
 new_size (Gone old) = 0
 new_size (New new) = new.size
@@ -69,13 +71,15 @@ shown (Gone old) = old
 shown (New new) = new
 shown (Both old new) = new
 
--- by how many bytes a part grew, or shrank
+-- by how many bytes a part grew; 0 if it didn't
 abbrev pub growth : Change → ℕ
 growth change = new_size change - old_size change
 
+-- by how many bytes a part shrank; 0 if it didn't
 abbrev pub shrinkage : Change → ℕ
 shrinkage change = old_size change - new_size change
 
+-- by how many bytes the sizes in the two files differ
 abbrev pub distance : Change → ℕ
 distance change = growth change + shrinkage change
 
@@ -83,6 +87,7 @@ distance change = growth change + shrinkage change
 abbrev pub change_order : Change → Change → Ordering
 change_order one other = ordering_then (nat_cmp (distance other) (distance one)) (part_order (shown one) (shown other))
 
+-- the sum of the sizes of some parts
 abbrev pub all_sizes : List SizedPart → ℕ
 all_sizes parts = sum_by (λ part. part.size) parts
 

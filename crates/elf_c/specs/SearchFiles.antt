@@ -44,12 +44,13 @@ needed_rows input strings [] = []
 needed_rows input strings (entry ∷ entries) = behind_row (needed_kind (dynamic_tag entry))
     (linked_name (range_in_strings input strings (dynamic_value entry))) (needed_rows input strings entries)
 
--- the name at an index among those of the entries of a file, or why there is none
+-- the name at an index among those of given entries of a file, or why there is none
 abbrev pub needed_name_among : ElfFile → ℕ → Result (List (Dynamic ℕ)) LinkError → Result NeededName AnyError
 needed_name_among file index (Ok entries) =
     record_in (λ name. name) (needed_rows file.input.now (strings_range file entries) entries) index
 needed_name_among file index (Err error) = Err (Link error)
 
+-- the name at an index among those that the dynamic entries of a file ask for, or why there is none
 abbrev pub needed_name_at : ElfFile → ℕ → Result NeededName AnyError
 needed_name_at file index = needed_name_among file index (dynamic_entries_of file)
 
@@ -58,11 +59,12 @@ abbrev pub found_or_not : Option ℕ → Result ℕ AnyError
 found_or_not None = Err NotFound
 found_or_not (Some value) = Ok value
 
--- the number in the last entry with a tag
+-- the number in the last of given entries with a tag
 abbrev pub last_entry_among : ℕ → Result (List (Dynamic ℕ)) LinkError → Result ℕ AnyError
 last_entry_among tag (Ok entries) = found_or_not (last_number tag None entries)
 last_entry_among tag (Err error) = Err (Link error)
 
+-- the number in the last dynamic entry of a file with a tag
 abbrev pub last_entry_of : ElfFile → ℕ → Result ℕ AnyError
 last_entry_of file tag = last_entry_among tag (dynamic_entries_of file)
 
@@ -71,11 +73,12 @@ abbrev pub text_at_found : ElfFile → List (Dynamic ℕ) → Option ℕ → Res
 text_at_found file entries None = Err NotFound
 text_at_found file entries (Some place) = range_in_strings file.input.now (strings_range file entries) place
 
--- the range of the text that the last entry with a tag names
+-- the range of the text that the last of given entries with a tag names
 abbrev pub last_text_among : ElfFile → ℕ → Result (List (Dynamic ℕ)) LinkError → Result Range AnyError
 last_text_among file tag (Ok entries) = text_at_found file entries (last_number tag None entries)
 last_text_among file tag (Err error) = Err (Link error)
 
+-- the range of the text that the last dynamic entry of a file with a tag names
 abbrev pub last_text_range : ElfFile → ℕ → Result Range AnyError
 last_text_range file tag = last_text_among file tag (dynamic_entries_of file)
 
@@ -84,6 +87,7 @@ abbrev pub fit_number : Fit → ℕ
 fit_number PassedOver = PASSED_OVER
 fit_number Taken = TAKEN
 
+-- that number, or the error of a search as one of an export
 abbrev pub fit_answer : Result Fit SearchError → Result ℕ AnyError
 fit_answer (Ok fit) = Ok (fit_number fit)
 fit_answer (Err error) = Err (Search error)

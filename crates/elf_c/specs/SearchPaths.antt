@@ -34,6 +34,7 @@ item_of (Err why) index = Err why
 abbrev pub known_value : List ℕ → Option (List ℕ)
 known_value bytes = if length bytes == 0 then None else Some bytes
 
+-- the values of the dynamic string tokens that a caller gives
 abbrev pub values_by : Tokens → Values
 values_by tokens = record {
   origin = known_value tokens.origin.now;
@@ -109,6 +110,7 @@ candidate_record candidate = record {
   subdirectory_size = length candidate.subdirectory;
 }
 
+-- the candidates of a search as numbers, in order, or that the chain is too long
 abbrev pub candidate_rows : SearchFor → List SearchAsker → Result (List CandidatePath) AnyError
 candidate_rows search askers = made_of (map candidate_record) (candidates_of search askers)
 
@@ -133,6 +135,7 @@ IsCurrent old texts (Some path) new others = text_left old texts ≡ text_left (
 
 -- The cache.
 
+-- the machine that a caller describes
 abbrev pub machine_of : CacheMachine → Machine
 machine_of machine = record {
   flags = machine.flags;

@@ -43,10 +43,12 @@ provided_with found (Err error) = Err (Link error)
 provided_with None (Ok tables) = Ok NoVersions
 provided_with (Some address) (Ok tables) = Ok (Defined (definitions_in tables.definitions))
 
+-- what an object provides, by its dynamic entries
 abbrev pub provided_by : ElfFile → Result (List (Dynamic ℕ)) LinkError → Result ProvidedParts AnyError
 provided_by file (Ok entries) = provided_with (number_with DT_VERDEF entries) (tables_by file 0 (Ok entries))
 provided_by file (Err error) = Err (Link error)
 
+-- what a file provides: definitions of versions, or none
 abbrev pub provided_of : ElfFile → Result ProvidedParts AnyError
 provided_of file = provided_by file (dynamic_entries_of file)
 
@@ -57,5 +59,6 @@ missing_between file name (Ok tables) (Err why) = Err why
 missing_between file name (Ok tables) (Ok provided) = Ok (map (missing_record file.input.now (strings_range_of file))
     (missing_in (record { names = name ∷ []; provided = provided } ∷ []) (needs_in tables.needs)))
 
+-- the versions that a file needs of another one with a name, and that this one lacks
 abbrev pub missing_rows : ElfFile → List ℕ → ElfFile → Result (List LackedVersion) AnyError
 missing_rows file name other = missing_between file name (file_version_tables file 0) (provided_of other)

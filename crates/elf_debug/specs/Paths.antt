@@ -65,12 +65,15 @@ hex_after false bytes = hex bytes
 hex_after true [] = []
 hex_after true (byte ∷ bytes) = digit (byte % 16) ∷ hex bytes
 
+-- the digits that an iterator over bytes in hexadecimal has not yet returned
 abbrev pub hex_left : HexBytes → List ℕ
 hex_left iter = hex_after iter.is_low iter.bytes.now
 
+-- the bytes of the path of a build id that an iterator has not yet returned
 abbrev pub id_left : IdBytes → List ℕ
 id_left iter = hex_left iter.first ++ (iter.slash.now ++ hex_left iter.others)
 
+-- the bytes of the path of a debug file that an iterator has not yet returned
 abbrev pub path_left : DebugPathBytes → List ℕ
 path_left iter = iter.front.now ++ (iter.middle.now ++ (id_left iter.id ++ iter.name.now))
 
@@ -114,17 +117,20 @@ next_how places Folder = Some Subfolder
 next_how places Subfolder = if is_absolute places.folder then Some Directory else None
 next_how places Directory = None
 
--- the paths from a way on
+-- the path of the last way, if there is one
 abbrev pub under_directory : Places → Option DebugHow → List Way
 under_directory places None = []
 under_directory places (Some how) = (how, path_of places how) ∷ []
 
+-- the paths from that in `.debug` on
 abbrev pub from_subfolder : Places → List Way
 from_subfolder places = (Subfolder, path_of places Subfolder) ∷ under_directory places (next_how places Subfolder)
 
+-- the paths from that in the folder of the file on
 abbrev pub from_folder : Places → List Way
 from_folder places = (Folder, path_of places Folder) ∷ from_subfolder places
 
+-- the paths from a way on, none after the last
 abbrev pub ways_from : Places → Option DebugHow → List Way
 ways_from places None = []
 ways_from places (Some BuildId) = (BuildId, path_of places BuildId) ∷ (if places.has_link then from_folder places else [])
@@ -132,5 +138,6 @@ ways_from places (Some Folder) = from_folder places
 ways_from places (Some Subfolder) = from_subfolder places
 ways_from places (Some Directory) = (Directory, path_of places Directory) ∷ []
 
+-- the paths that an iterator has not yet returned
 abbrev pub paths_left : DebugPaths → List Way
 paths_left iter = ways_from (places_of iter) iter.next

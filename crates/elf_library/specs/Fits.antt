@@ -18,10 +18,11 @@ first_row (row ∷ rows) last = if row.0 then row.1 else first_row rows last
 abbrev pub header_size : ℕ → ℕ
 header_size class = if class == 1 then 52 else 64
 
--- the number in two bytes or in four
+-- the number in two bytes at a place
 abbrev pub half : ℕ → List ℕ → ℕ
 half place head = number Little 2 place head
 
+-- the number in four bytes at a place
 abbrev pub word : ℕ → List ℕ → ℕ
 word place head = number Little 4 place head
 
@@ -67,13 +68,15 @@ is_type head = half 16 head == 2 || half 16 head == 3
 abbrev pub entry_size : ℕ → ℕ
 entry_size class = if class == 1 then 32 else 56
 
--- the size of program headers that the file gives (e_phentsize), their number (e_phnum) and their offset (e_phoff)
+-- the size of a program header that the file gives (e_phentsize)
 abbrev pub given_size : ℕ → List ℕ → ℕ
 given_size class head = half (if class == 1 then 42 else 54) head
 
+-- the number of program headers that the file gives (e_phnum)
 abbrev pub given_count : ℕ → List ℕ → ℕ
 given_count class head = half (if class == 1 then 44 else 56) head
 
+-- the offset of the program headers that the file gives (e_phoff)
 abbrev pub given_offset : ℕ → List ℕ → ℕ
 given_offset class head = if class == 1 then word 28 head else number Little 8 32 head
 

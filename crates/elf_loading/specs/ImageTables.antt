@@ -123,11 +123,12 @@ abbrev pub is_odd : Result ℕ LinkError → Bool
 is_odd (Ok word) = word % 2 == 1
 is_odd (Err error) = false
 
--- a table of a known size has bytes, and its first word, as wide as an address, is odd
+-- a table with a known start and size has bytes, and its first word, as wide as an address, is odd
 abbrev pub has_odd_first_by : ElfFile → Option ℕ → Option ℕ → Bool
 has_odd_first_by file (Some start) (Some size) = is_odd (word_at_of file start) && not (size == 0)
 has_odd_first_by file start size = false
 
+-- a table has bytes, and its first word is odd: in that of DT_RELR a bitmap, which has no address before it
 abbrev pub has_odd_first : ElfFile → TableLocation → Bool
 has_odd_first file table = has_odd_first_by file table.start table.size
 

@@ -55,6 +55,7 @@ searched name chain around = record {
   subdirectories = map (λ subdirectory. subdirectory.now) around.subdirectories.now;
 }
 
+-- what is asked for, as an iterator of the code keeps it
 abbrev pub asked_parts : Asked → AskedParts
 asked_parts asked = searched asked.name.now asked.chain.now asked.around
 
@@ -62,10 +63,11 @@ asked_parts asked = searched asked.name.now asked.chain.now asked.around
 abbrev pub has_slash : List ℕ → Bool
 has_slash name = list_any (λ byte. nat_eq byte 47) name
 
--- the text of an object's DT_RUNPATH; and of its DT_RPATH, which is none beside a DT_RUNPATH
+-- the text of an object's DT_RUNPATH; empty if it has none
 abbrev pub run_path_text : AskerParts → List ℕ
 run_path_text asker = unwrap_or asker.run_path []
 
+-- the text of an object's DT_RPATH; empty if it has none, or has a DT_RUNPATH
 abbrev pub r_path_text : AskerParts → List ℕ
 r_path_text asker = if is_some asker.run_path then [] else unwrap_or asker.r_path []
 
@@ -73,11 +75,12 @@ r_path_text asker = if is_some asker.run_path then [] else unwrap_or asker.r_pat
 abbrev pub has_no_default : AskedParts → Bool
 has_no_default asked = unwrap_or (option_map (λ asker. asker.no_default) (slice_get asked.chain 0)) false
 
--- a path begins with a directory and a slash; with one of some default directories
+-- a path begins with a directory and a slash
 abbrev pub is_under : List ℕ → List ℕ → Bool
 is_under path directory = starts_with nat_eq path directory
     && (nat_lt (length directory) (length path) && slice_index path (length directory) == 47)
 
+-- a path begins with one of the default directories and a slash
 abbrev pub is_under_default : List ℕ → List ℕ → Bool
 is_under_default defaults path = list_any (λ directory. is_under path directory) (elements_of (codes ":") defaults)
 
@@ -105,19 +108,21 @@ one_path asked how path = record {
   name = asked.name;
 }
 
--- the list of the DT_RPATH of the object at a place in the chain
+-- the list of the DT_RPATH of an object; an empty one if there is no object
 abbrev pub r_path_of : AskedParts → How → Option AskerParts → ListParts
 r_path_of asked how None = directories asked how [] (codes ":") asked.program
 r_path_of asked how (Some asker) = directories asked how (r_path_text asker) (codes ":") asker.values
 
+-- the list of the DT_RPATH of the object at a place in the chain
 abbrev pub r_path_list : AskedParts → ℕ → ListParts
 r_path_list asked place = r_path_of asked (how.Rpath place) (slice_get asked.chain place)
 
--- the list of the DT_RUNPATH of the object that asks
+-- the list of the DT_RUNPATH of an object; an empty one if there is no object
 abbrev pub run_path_of : AskedParts → Option AskerParts → ListParts
 run_path_of asked None = directories asked how.Runpath [] (codes ":") asked.program
 run_path_of asked (Some asker) = directories asked how.Runpath (run_path_text asker) (codes ":") asker.values
 
+-- the list of the DT_RUNPATH of the object that asks: that of a loader in the chain doesn't count
 abbrev pub run_path_list : AskedParts → ListParts
 run_path_list asked = run_path_of asked (slice_get asked.chain 0)
 
@@ -178,14 +183,16 @@ all_candidates asked = candidates_among (lists_of asked)
 
 -- What is left of them.
 
--- the first list, and the list after one
+-- the first list for a name without a slash, by the object that asks
 abbrev pub first_rpath : Option AskerParts → How
 first_rpath None = how.Environment
 first_rpath (Some asker) = if is_some asker.run_path then how.Environment else how.Rpath 0
 
+-- the first list
 abbrev pub first_how : AskedParts → How
 first_how asked = if has_slash asked.name then how.Itself else first_rpath (slice_get asked.chain 0)
 
+-- the list after one, if there is one
 abbrev pub next_how : AskedParts → How → Option How
 next_how asked how.Itself = None
 next_how asked (how.Rpath place) = if nat_lt (place + 1) (length asked.chain) then Some (how.Rpath (place + 1)) else Some how.Environment
@@ -230,9 +237,10 @@ abbrev pub left_from : AskedParts → Option How → Place → List CandidatePar
 left_from asked None place = []
 left_from asked (Some how) place = rest_of_list (list_of asked how) place ++ candidates_among (lists_behind asked how)
 
--- the candidates that an iterator has not yet returned; those of them that are not of the current list
+-- the candidates that an iterator has not yet returned
 abbrev pub candidates_left : Candidates → List CandidateParts
 candidates_left iter = left_from (asked_parts iter.asked) iter.how iter.place
 
+-- the candidates of the lists after the current one of an iterator
 abbrev pub later_candidates : Candidates → List CandidateParts
 later_candidates iter = behind_how (asked_parts iter.asked) iter.how

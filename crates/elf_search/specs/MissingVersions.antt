@@ -114,11 +114,12 @@ missing_in providers [] = []
 missing_in providers (Err error ∷ needs) = Err (fault.Link error) ∷ missing_in providers needs
 missing_in providers (Ok need ∷ needs) = behind_missing (missing_of providers need) (missing_in providers needs)
 
--- those of values of the code
+-- a version that is missing, nothing or an error, as in the code
 abbrev pub item_parts : Result (Option MissingVersion) SearchError → Result (Option MissingParts) SearchError
 item_parts (Ok missing) = Ok (option_map missing_parts missing)
 item_parts (Err error) = Err error
 
+-- a version that is missing or an error, as an iterator of the code returns it
 abbrev pub missing_item : Result MissingVersion SearchError → Result MissingParts SearchError
 missing_item (Ok missing) = Ok (missing_parts missing)
 missing_item (Err error) = Err error

@@ -63,11 +63,12 @@ abbrev pub token_at : Values → List ℕ → Option TokenParts
 token_at values text = token_among
     ((codes "ORIGIN", values.origin) ∷ (codes "LIB", values.lib) ∷ (codes "PLATFORM", values.platform) ∷ []) text
 
--- a token there has a value that is not known
+-- a token, if there is one, has a value that is not known
 abbrev pub is_unknown : Option TokenParts → Bool
 is_unknown None = false
 is_unknown (Some token) = is_none token.value
 
+-- the text after a dollar sign begins with a token whose value is not known
 abbrev pub is_unknown_at : Values → List ℕ → Bool
 is_unknown_at values text = is_unknown (token_at values text)
 
