@@ -1,5 +1,6 @@
 #!/usr/bin/env python3
-"""Counts the instructions of passes over files, and compares them with those that bench/instructions.toml has.
+"""Counts the instructions of passes over files, of the search for addresses also its branches, and compares them with
+those that bench/instructions.toml has.
 
     bench/instructions.py            fails where an item of a pass takes 3 % more or less than stored
     bench/instructions.py --write    stores the counts
@@ -31,8 +32,14 @@ ARCHIVE = Path(os.environ.get("XMAS_ELF_ARCHIVE") or ROOT / "crates" / "elf_c" /
 ELFNM = ROOT / "crates" / "elfnm" / "out" / "elfnm"
 OF_SECTIONS = "section headers with their names, and their lines (elfnm)"
 
+# The pass whose conditional branches are counted too: its search compares without any, unless a compiler undoes that.
+OF_ADDRESSES = "symbols of addresses, 64 by one call"
+
 # How much a count may differ from the stored one.
 SHARE = 0.03
+
+# What is stored of a pass.
+KINDS = ("items", "instructions", "branches")
 
 # How many sections without symbols the file has, and the larger one that elfnm reads too.
 PARTS, MORE_PARTS = 200, 700
@@ -93,15 +100,20 @@ def made(parts: int) -> bytes:
 
 def watched(room: Path, *command) -> tuple:
     """What the program prints, and callgrind's lines about its run."""
-    flags = ["--tool=callgrind", "--callgrind-out-file=counts", "--compress-strings=no", "--compress-pos=no"]
+    flags = ["--tool=callgrind", "--callgrind-out-file=counts", "--branch-sim=yes", "--compress-strings=no", "--compress-pos=no"]
     done = subprocess.run(["valgrind", *flags, *command], cwd=room, capture_output=True, text=True, env={"PATH": os.environ["PATH"]})
     if done.returncode != 0:
         sys.exit(f"{command} ends with {done.returncode}: {done.stderr[-2000:]}")
     return done.stdout, (room / "counts").read_text().splitlines()
 
 
+def costs(line: str) -> list:
+    """The instructions and the conditional branches in a line of callgrind; zeros at its end are left out."""
+    return [*map(int, line.split()[1:3]), 0, 0][:2]
+
+
 def export_counts(lines: list) -> dict:
-    """For each function of speed.c the instructions of the exports that it calls, with what they call."""
+    """For each function of speed.c the instructions and the branches of the exports that it calls, with what they call."""
     found, caller, called = {}, "", ""
     for before, line in zip(["", *lines], lines):
         if line.startswith("fn="):
@@ -109,7 +121,7 @@ def export_counts(lines: list) -> dict:
         elif line.startswith("cfn="):
             called = line[4:]
         elif before.startswith("calls=") and called.startswith("xmas_elf_"):
-            found[caller] = found.get(caller, 0) + int(line.split()[-1])
+            found[caller] = [one + other for one, other in zip(found.get(caller, [0, 0]), costs(line))]
     return found
 
 
@@ -120,12 +132,12 @@ def own_count(lines: list, program: Path) -> int:
         if line.startswith("ob="):
             is_own = line[3:] == str(program)
         elif is_own and re.match(r"[\d+*-]", line) and not before.startswith("calls="):
-            total += int(line.split()[-1])
+            total += costs(line)[0]
     return total
 
 
 def counts(room: Path) -> dict:
-    """Of each pass how many items it sees, and how many instructions it takes."""
+    """Of each pass how many items it sees, how many instructions it takes, and for addresses how many branches."""
     (room / "copies.s").write_text(COPIES)
     flags = ["-std=c11", "-O1", "-fno-inline", "-fno-ipa-cp", f"-I{ROOT}/bindings/include"]
     subprocess.run(["gcc", *flags, SPEED, "copies.s", ARCHIVE, "-o", "speed"], cwd=room, check=True)
@@ -134,7 +146,7 @@ def counts(room: Path) -> dict:
     items = {name: int(number) for name, number in (line.split("\t") for line in printed.splitlines())}
     functions = dict(re.findall(r'measure\("(.*)", (\w+), ', SPEED.read_text()))
     taken = export_counts(lines)
-    found = {name: (number, taken[functions[name]]) for name, number in items.items()}
+    found = {name: (number, *taken[functions[name]][:1 + (name == OF_ADDRESSES)]) for name, number in items.items()}
     # What the program takes else is the same for both files, so a section more takes the difference.
     own = []
     for parts in (PARTS + 1, MORE_PARTS + 1):
@@ -148,24 +160,25 @@ def kit() -> str:
 
 
 def write(found: dict) -> None:
-    lines = ["# Written by `bench/instructions.py --write`: how many items each pass sees, and how many instructions it takes."]
+    lines = ["# Written by `bench/instructions.py --write`: how many items each pass sees, and what it takes."]
     lines += [f'kit = "{kit()}"']
-    for name, (items, instructions) in found.items():
-        lines += ["", "[[pass]]", f'name = "{name}"', f"items = {items}", f"instructions = {instructions}"]
+    for name, numbers in found.items():
+        lines += ["", "[[pass]]", f'name = "{name}"', *(f"{kind} = {number}" for kind, number in zip(KINDS, numbers))]
     STORED.write_text("\n".join(lines) + "\n", encoding="utf-8")
 
 
 def differing(found: dict) -> int:
     """Prints each pass, and returns how many aren't as stored."""
     stored = tomllib.loads(STORED.read_text(encoding="utf-8"))
-    known = {it["name"]: (it["items"], it["instructions"]) for it in stored["pass"]}
+    known = {it["name"]: tuple(it[kind] for kind in KINDS if kind in it) for it in stored["pass"]}
     failed = 0
     for name in {**found, **known}:
-        (items, now), (old_items, old) = found.get(name, (0, 0)), known.get(name, (0, 0))
-        is_well = items == old_items and abs(now - old) <= SHARE * old
+        (items, *now), (old_items, *old) = found.get(name, (0, 0)), known.get(name, (0, 0))
+        is_well = items == old_items and len(now) == len(old) and all(abs(one - other) <= SHARE * other for one, other in zip(now, old))
         failed += not is_well
-        each = [f"{number / (count or 1):.1f}" for number, count in ((old, old_items), (now, items))]
-        print(f"{'' if is_well else 'FAILED: '}{name}: {each[1]} instructions an item, stored {each[0]}")
+        each = [" and ".join(f"{number / (count or 1):.1f} {kind}" for number, kind in zip(numbers, KINDS[1:]))
+                for numbers, count in ((old, old_items), (now, items))]
+        print(f"{'' if is_well else 'FAILED: '}{name}: {each[1]} an item, stored {each[0]}")
     if failed and stored["kit"] != kit():
         print(f"stored by {stored['kit']}, counted by {kit()}, which makes other code: not compared; store its counts by --write")
         return 0

@@ -17,6 +17,9 @@ struct input {
     xmas_elf_range_t last;
     xmas_elf_symbol_table_t table;
     xmas_elf_hash_table_t hash;
+    xmas_elf_address_index_t by_address;
+    uint32_t *words;
+    uint64_t *numbers;
 };
 
 /* Each pass adds numbers up, and says how many items it saw. */
@@ -153,6 +156,37 @@ static uint64_t check_pass(const struct input *input, uint64_t *sum)
     return input->names;
 }
 
+/* An address in each symbol that the index has, in another order, 64 by one call. */
+static uint64_t addresses_pass(const struct input *input, uint64_t *sum)
+{
+    const xmas_elf_address_index_t *index = &input->by_address;
+    uint64_t asked = index->sized_count, addresses[64];
+    xmas_elf_symbol_at_t found[64];
+    for (uint64_t i = 0; i < asked; i += 64) {
+        size_t count = asked - i < 64 ? (size_t)(asked - i) : 64;
+        for (size_t k = 0; k < count; k++) addresses[k] = input->numbers[(i + k) * 37 % asked];
+        if (xmas_elf_symbols_at(input->bytes, input->size, index, input->words, index->words, input->numbers, index->numbers, addresses, count, found, count) != XMAS_ELF_OK) continue;
+        for (size_t k = 0; k < count; k++) *sum += found[k].index;
+    }
+    return asked;
+}
+
+static uint32_t index_addresses(struct input *input, size_t words, size_t numbers)
+{
+    xmas_elf_range_t none = {0};
+    return xmas_elf_address_index(input->bytes, input->size, &input->header, &input->table, &none, 0, input->words, words, input->numbers, numbers, &input->by_address);
+}
+
+/* The index of the symbols by their addresses; it is empty if there is none. */
+static void find_addresses(struct input *input)
+{
+    if (index_addresses(input, 0, 0) != XMAS_ELF_OK) return;
+    size_t words = (size_t)input->by_address.words, numbers = (size_t)input->by_address.numbers;
+    input->words = calloc(words + 1, sizeof *input->words);
+    input->numbers = calloc(numbers + 1, sizeof *input->numbers);
+    if (!input->words || !input->numbers || index_addresses(input, words, numbers) != XMAS_ELF_OK) input->by_address.sized_count = 0;
+}
+
 /* Where the names of the symbols are that GNU's hash table has. */
 static void find_names(struct input *input, uint64_t table)
 {
@@ -218,6 +252,7 @@ int main(int argc, char **argv)
         if (section.type == 0x6ffffff6) find_names(&input, i);
     }
     if (xmas_elf_symbols_open(bytes, size, &input.header, input.symbols_at, &input.table) != XMAS_ELF_OK) input.table.symbols.size = 0;
+    find_addresses(&input);
     measure("header", open_pass, &input);
     measure("section headers one by one", sections_pass, &input);
     measure("section headers, 64 at a time", sections_many_pass, &input);
@@ -228,12 +263,15 @@ int main(int argc, char **argv)
     measure("symbols one by one", symbols_pass, &input);
     measure("symbols, 64 at a time", symbols_many_pass, &input);
     measure("names of symbols, 64 at a time", symbol_names_pass, &input);
+    measure("symbols of addresses, 64 by one call", addresses_pass, &input);
     if (input.names) {
         measure("look-ups by GNU's hash table", look_ups_pass, &input);
         measure("the same, 64 names by one call", look_ups_many_pass, &input);
         measure("the check of that table, for a symbol", check_pass, &input);
     }
     free(input.name);
+    free(input.words);
+    free(input.numbers);
     free(bytes);
     return 0;
 }
