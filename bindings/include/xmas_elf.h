@@ -1389,14 +1389,15 @@ XMAS_ELF_NODISCARD uint32_t xmas_elf_load_image(const uint8_t *input, size_t inp
  * unchanged where none has it: with no object or none at `of` (XMAS_ELF_LINK_OBJECT_INDEX), with more than 64
  * (XMAS_ELF_MANY_OBJECTS), and where `marks` is too short (XMAS_ELF_LOAD_FEW_MARKS). `relocation` is the index of the
  * relocation of this object that has the error, in the order in which words are written (the packed ones of DT_RELR,
- * then those of DT_RELA, of DT_REL and of DT_JMPREL), and unchanged where the error is not that of one relocation. A
- * call takes up to 64 objects; for more it returns XMAS_ELF_MANY_OBJECTS. It reads all files before it tests `of`, so
- * XMAS_ELF_LINK_OBJECT_INDEX comes before errors of the files only where there is no object. A relocation that names
- * a symbol takes a look-up in each file up to the one that has it, as `xmas_elf_find_symbol` does after its count,
- * and each word a pass over program headers: in files made to be slow the time is relocations times what these take.
- * Errors, in the order of the tests: those of the objects, those of a load plan, those of tables of relocations,
- * XMAS_ELF_LOAD_FEW_MARKS, those of a relocation, XMAS_ELF_LOAD_WORD_ADDRESS, XMAS_ELF_LOAD_READ_ONLY,
- * XMAS_ELF_LOAD_WORDS_OVERLAP, XMAS_ELF_LOAD_WORD_IN_TABLE. */
+ * then those of DT_RELA, of DT_REL and of DT_JMPREL, of which those that also end DT_RELA or DT_REL count once), and
+ * unchanged where the error comes before those of words, as XMAS_ELF_LOAD_SLOT_TYPE. A call takes up to 64 objects;
+ * for more it returns XMAS_ELF_MANY_OBJECTS. It reads all files before it tests `of`, so XMAS_ELF_LINK_OBJECT_INDEX
+ * comes before errors of the files only where there is no object. A relocation that names a symbol takes a look-up in
+ * each file up to the one that has it, as `xmas_elf_find_symbol` does after its count, and each word a pass over
+ * program headers: in files made to be slow the time is relocations times what these take. Errors, in the order of
+ * the tests: those of the objects, those of a load plan, those of tables of relocations, XMAS_ELF_LOAD_FEW_MARKS,
+ * those of a relocation, XMAS_ELF_LOAD_WORD_ADDRESS, XMAS_ELF_LOAD_READ_ONLY, XMAS_ELF_LOAD_WORDS_OVERLAP,
+ * XMAS_ELF_LOAD_WORD_IN_TABLE. */
 XMAS_ELF_NODISCARD uint32_t xmas_elf_check_image(const xmas_elf_load_object_t *objects, size_t objects_count,
     uint64_t of, uint64_t page, uint64_t limit, uint8_t *marks, size_t marks_size, uint64_t *failed,
     uint64_t *relocation) XMAS_ELF_NOEXCEPT;
@@ -1413,10 +1414,11 @@ XMAS_ELF_NODISCARD uint32_t xmas_elf_check_image(const xmas_elf_load_object_t *o
  * `of`. It is unchanged where none has it: with no object or none at `of` (XMAS_ELF_LINK_OBJECT_INDEX), with more
  * than 64 (XMAS_ELF_MANY_OBJECTS), and where `image` is not of the size of the span (XMAS_ELF_LOAD_IMAGE_SIZE).
  * `relocation` is the index of the relocation of this object that has the error, in the order in which words are
- * written (the packed ones of DT_RELR, then those of DT_RELA, of DT_REL and of DT_JMPREL), and unchanged where the
- * error is not that of one relocation. A call takes up to 64 objects; for more it returns XMAS_ELF_MANY_OBJECTS. It
- * reads all files before it tests `of`, so XMAS_ELF_LINK_OBJECT_INDEX comes before errors of the files only where
- * there is no object. A relocation that names a symbol takes a look-up in each file up to the one that has it, as
+ * written (the packed ones of DT_RELR, then those of DT_RELA, of DT_REL and of DT_JMPREL, of which those that also
+ * end DT_RELA or DT_REL count once), and unchanged where the error comes before those of words, as
+ * XMAS_ELF_LOAD_SLOT_TYPE. A call takes up to 64 objects; for more it returns XMAS_ELF_MANY_OBJECTS. It reads all
+ * files before it tests `of`, so XMAS_ELF_LINK_OBJECT_INDEX comes before errors of the files only where there is no
+ * object. A relocation that names a symbol takes a look-up in each file up to the one that has it, as
  * `xmas_elf_find_symbol` does after its count, and each word a pass over program headers; with `lazy` 1 a jump slot
  * takes passes over the dynamic entries too: in files made to be slow the time is relocations times what these take.
  * It needs about 200 KiB of stack. Errors, in the order of the tests: those of the objects, those of a load plan,
@@ -1436,9 +1438,10 @@ XMAS_ELF_NODISCARD uint32_t xmas_elf_relocate(const xmas_elf_load_object_t *obje
  * with the error; it is unchanged where none has it: with no object (XMAS_ELF_LINK_OBJECT_INDEX), with more than 64
  * (XMAS_ELF_MANY_OBJECTS), and where `images` is not of the size of all images (XMAS_ELF_LOAD_IMAGE_SIZE).
  * `relocation` is the index of the relocation of this object that has the error, in the order in which words are
- * written (the packed ones of DT_RELR, then those of DT_RELA, of DT_REL and of DT_JMPREL), and unchanged where the
- * error is not that of one relocation. Of errors of words the last object with one counts: then the objects after it
- * are relocated, and its words before the first that can't be written are written. Otherwise `images` is unchanged. A
+ * written (the packed ones of DT_RELR, then those of DT_RELA, of DT_REL and of DT_JMPREL, of which those that also
+ * end DT_RELA or DT_REL count once), and unchanged where the error comes before those of words, as
+ * XMAS_ELF_LOAD_SLOT_TYPE. Of errors of words the last object with one counts: then the objects after it are
+ * relocated, and its words before the first that can't be written are written. Otherwise `images` is unchanged. A
  * relocation that names a symbol takes a look-up in each file up to the one that has it, as `xmas_elf_find_symbol`
  * does after its count, and each word a pass over program headers; with `lazy` 1 a jump slot takes passes over the
  * dynamic entries too: in files made to be slow the time is relocations times what these take. It needs about 200 KiB

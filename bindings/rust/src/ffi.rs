@@ -786,22 +786,22 @@ pub(crate) fn load_image(input: &[u8], header: &Header, page: u64, limit: u64, l
 /// unchanged where none has it: with no object or none at `of` (`LinkObjectIndex`), with more than 64
 /// (`ManyObjects`), and where `marks` is too short (`LoadFewMarks`). `relocation` is the index of the relocation of
 /// this object that has the error, in the order in which words are written (the packed ones of DT_RELR, then those of
-/// DT_RELA, of DT_REL and of DT_JMPREL), and unchanged where the error is not that of one relocation. A call takes up
-/// to 64 objects; for more it returns `ManyObjects`. It reads all files before it tests `of`, so `LinkObjectIndex`
-/// comes before errors of the files only where there is no object. A relocation that names a symbol takes a look-up
-/// in each file up to the one that has it, as `find_symbol` does after its count, and each word a pass over program
-/// headers: in files made to be slow the time is relocations times what these take. Errors, in the order of the
-/// tests: `LinkObjectIndex`, `ManyObjects`, `ShortPart1`, `NoMagic`, `InvalidClass`, `ShortHeaders`, `LinkNoDynamic`,
-/// `LinkAddress`, `DataRange`, `NotMultiple`, `LinkNoEntry`, `ShortData`, `LinkShortTable`, `LinkBloomCount`,
-/// `LinkChainIndex`, `LinkChainData`, `LinkSymbolIndex`, `LinkUnknownClass`, `LinkNotMultiple`, `LinkRelocationKind`,
-/// `SymbolIndex`, `HashData`, `ChainIndex`, `ChainSum`, `HashCycle`, `LinkShortVersion`, `LinkVersionCount`,
-/// `TextStart`, `TextEnd`, `TextUtf8`, `LoadType`, `LoadEntrySize`, `LoadCount`, `LoadTable`, `LoadFileSize`,
-/// `LoadEmpty`, `LoadMisaligned`, `LoadAlignment`, `LoadRange`, `LoadData`, `LoadOverlap`, `LoadZeros`, `LoadNoLoad`,
-/// `LoadHeaders`, `LoadInterpreter`, `LoadRelro`, `LoadTls`, `LoadEntry`, `LoadDynamic`, `LoadNoEntry`,
-/// `LoadNoAddends`, `LoadAddends`, `LoadNoSlots`, `LoadRelocationSize`, `LoadNotMultiple`, `LoadUnreadable`,
-/// `LoadFirstPacked`, `LoadSlotKind`, `LoadMachine`, `LoadRelativeCount`, `LoadSlotType`, `LoadFewMarks`,
-/// `LoadWordType`, `LoadNoSize`, `LoadCopyKind`, `LoadCallSymbol`, `LoadWordAddress`, `LoadReadOnly`,
-/// `LoadWordsOverlap`, `LoadWordInTable`.
+/// DT_RELA, of DT_REL and of DT_JMPREL, of which those that also end DT_RELA or DT_REL count once), and unchanged
+/// where the error comes before those of words, as `LoadSlotType`. A call takes up to 64 objects; for more it returns
+/// `ManyObjects`. It reads all files before it tests `of`, so `LinkObjectIndex` comes before errors of the files only
+/// where there is no object. A relocation that names a symbol takes a look-up in each file up to the one that has it,
+/// as `find_symbol` does after its count, and each word a pass over program headers: in files made to be slow the
+/// time is relocations times what these take. Errors, in the order of the tests: `LinkObjectIndex`, `ManyObjects`,
+/// `ShortPart1`, `NoMagic`, `InvalidClass`, `ShortHeaders`, `LinkNoDynamic`, `LinkAddress`, `DataRange`,
+/// `NotMultiple`, `LinkNoEntry`, `ShortData`, `LinkShortTable`, `LinkBloomCount`, `LinkChainIndex`, `LinkChainData`,
+/// `LinkSymbolIndex`, `LinkUnknownClass`, `LinkNotMultiple`, `LinkRelocationKind`, `SymbolIndex`, `HashData`,
+/// `ChainIndex`, `ChainSum`, `HashCycle`, `LinkShortVersion`, `LinkVersionCount`, `TextStart`, `TextEnd`, `TextUtf8`,
+/// `LoadType`, `LoadEntrySize`, `LoadCount`, `LoadTable`, `LoadFileSize`, `LoadEmpty`, `LoadMisaligned`,
+/// `LoadAlignment`, `LoadRange`, `LoadData`, `LoadOverlap`, `LoadZeros`, `LoadNoLoad`, `LoadHeaders`,
+/// `LoadInterpreter`, `LoadRelro`, `LoadTls`, `LoadEntry`, `LoadDynamic`, `LoadNoEntry`, `LoadNoAddends`,
+/// `LoadAddends`, `LoadNoSlots`, `LoadRelocationSize`, `LoadNotMultiple`, `LoadUnreadable`, `LoadFirstPacked`,
+/// `LoadSlotKind`, `LoadMachine`, `LoadRelativeCount`, `LoadSlotType`, `LoadFewMarks`, `LoadWordType`, `LoadNoSize`,
+/// `LoadCopyKind`, `LoadCallSymbol`, `LoadWordAddress`, `LoadReadOnly`, `LoadWordsOverlap`, `LoadWordInTable`.
 pub(crate) fn check_image(objects: &[LoadObject<'_>], of: u64, page: u64, limit: u64, marks: &mut [u8],
     failed: &mut u64, relocation: &mut u64) -> Result<(), Error> {
     // SAFETY: see the head of this file.
@@ -822,21 +822,21 @@ pub(crate) fn check_image(objects: &[LoadObject<'_>], of: u64, page: u64, limit:
 /// unchanged where none has it: with no object or none at `of` (`LinkObjectIndex`), with more than 64
 /// (`ManyObjects`), and where `image` is not of the size of the span (`LoadImageSize`). `relocation` is the index of
 /// the relocation of this object that has the error, in the order in which words are written (the packed ones of
-/// DT_RELR, then those of DT_RELA, of DT_REL and of DT_JMPREL), and unchanged where the error is not that of one
-/// relocation. A call takes up to 64 objects; for more it returns `ManyObjects`. It reads all files before it tests
-/// `of`, so `LinkObjectIndex` comes before errors of the files only where there is no object. A relocation that names
-/// a symbol takes a look-up in each file up to the one that has it, as `find_symbol` does after its count, and each
-/// word a pass over program headers; with `lazy` 1 a jump slot takes passes over the dynamic entries too: in files
-/// made to be slow the time is relocations times what these take. It needs about 200 KiB of stack. Errors, in the
-/// order of the tests: `LinkObjectIndex`, `ManyObjects`, `ShortPart1`, `NoMagic`, `InvalidClass`, `ShortHeaders`,
-/// `LinkNoDynamic`, `LinkAddress`, `DataRange`, `NotMultiple`, `LinkNoEntry`, `ShortData`, `LinkShortTable`,
-/// `LinkBloomCount`, `LinkChainIndex`, `LinkChainData`, `LinkSymbolIndex`, `LinkUnknownClass`, `LinkNotMultiple`,
-/// `LinkRelocationKind`, `SymbolIndex`, `HashData`, `ChainIndex`, `ChainSum`, `HashCycle`, `LinkShortVersion`,
-/// `LinkVersionCount`, `TextStart`, `TextEnd`, `TextUtf8`, `LoadType`, `LoadEntrySize`, `LoadCount`, `LoadTable`,
-/// `LoadFileSize`, `LoadEmpty`, `LoadMisaligned`, `LoadAlignment`, `LoadRange`, `LoadData`, `LoadOverlap`,
-/// `LoadZeros`, `LoadNoLoad`, `LoadHeaders`, `LoadInterpreter`, `LoadRelro`, `LoadTls`, `LoadEntry`, `LoadImageSize`,
-/// `LoadWordType`, `LoadNoSize`, `LoadCopyKind`, `LoadCallSymbol`, `LoadUnresolved`, `LoadWordAddress`,
-/// `LoadCopySource`.
+/// DT_RELR, then those of DT_RELA, of DT_REL and of DT_JMPREL, of which those that also end DT_RELA or DT_REL count
+/// once), and unchanged where the error comes before those of words, as `LoadSlotType`. A call takes up to 64
+/// objects; for more it returns `ManyObjects`. It reads all files before it tests `of`, so `LinkObjectIndex` comes
+/// before errors of the files only where there is no object. A relocation that names a symbol takes a look-up in each
+/// file up to the one that has it, as `find_symbol` does after its count, and each word a pass over program headers;
+/// with `lazy` 1 a jump slot takes passes over the dynamic entries too: in files made to be slow the time is
+/// relocations times what these take. It needs about 200 KiB of stack. Errors, in the order of the tests:
+/// `LinkObjectIndex`, `ManyObjects`, `ShortPart1`, `NoMagic`, `InvalidClass`, `ShortHeaders`, `LinkNoDynamic`,
+/// `LinkAddress`, `DataRange`, `NotMultiple`, `LinkNoEntry`, `ShortData`, `LinkShortTable`, `LinkBloomCount`,
+/// `LinkChainIndex`, `LinkChainData`, `LinkSymbolIndex`, `LinkUnknownClass`, `LinkNotMultiple`, `LinkRelocationKind`,
+/// `SymbolIndex`, `HashData`, `ChainIndex`, `ChainSum`, `HashCycle`, `LinkShortVersion`, `LinkVersionCount`,
+/// `TextStart`, `TextEnd`, `TextUtf8`, `LoadType`, `LoadEntrySize`, `LoadCount`, `LoadTable`, `LoadFileSize`,
+/// `LoadEmpty`, `LoadMisaligned`, `LoadAlignment`, `LoadRange`, `LoadData`, `LoadOverlap`, `LoadZeros`, `LoadNoLoad`,
+/// `LoadHeaders`, `LoadInterpreter`, `LoadRelro`, `LoadTls`, `LoadEntry`, `LoadImageSize`, `LoadWordType`,
+/// `LoadNoSize`, `LoadCopyKind`, `LoadCallSymbol`, `LoadUnresolved`, `LoadWordAddress`, `LoadCopySource`.
 pub(crate) fn relocate(objects: &[LoadObject<'_>], of: u64, lazy: u32, page: u64, limit: u64, image: &mut [u8],
     failed: &mut u64, relocation: &mut u64) -> Result<u64, Error> {
     let mut count = u64::default();
@@ -856,20 +856,21 @@ pub(crate) fn relocate(objects: &[LoadObject<'_>], of: u64, lazy: u32, page: u64
 /// where none has it: with no object (`LinkObjectIndex`), with more than 64 (`ManyObjects`), and where `images` is
 /// not of the size of all images (`LoadImageSize`). `relocation` is the index of the relocation of this object that
 /// has the error, in the order in which words are written (the packed ones of DT_RELR, then those of DT_RELA, of
-/// DT_REL and of DT_JMPREL), and unchanged where the error is not that of one relocation. Of errors of words the last
-/// object with one counts: then the objects after it are relocated, and its words before the first that can't be
-/// written are written. Otherwise `images` is unchanged. A relocation that names a symbol takes a look-up in each
-/// file up to the one that has it, as `find_symbol` does after its count, and each word a pass over program headers;
-/// with `lazy` 1 a jump slot takes passes over the dynamic entries too: in files made to be slow the time is
-/// relocations times what these take. It needs about 200 KiB of stack. Errors, in the order of the tests:
-/// `LinkObjectIndex`, `ManyObjects`, `ShortPart1`, `NoMagic`, `InvalidClass`, `ShortHeaders`, `LinkNoDynamic`,
-/// `LinkAddress`, `DataRange`, `NotMultiple`, `LinkNoEntry`, `ShortData`, `LinkShortTable`, `LinkBloomCount`,
-/// `LinkChainIndex`, `LinkChainData`, `LinkSymbolIndex`, `LinkUnknownClass`, `LinkNotMultiple`, `LinkRelocationKind`,
-/// `SymbolIndex`, `HashData`, `ChainIndex`, `ChainSum`, `HashCycle`, `LinkShortVersion`, `LinkVersionCount`,
-/// `TextStart`, `TextEnd`, `TextUtf8`, `LoadType`, `LoadEntrySize`, `LoadCount`, `LoadTable`, `LoadFileSize`,
-/// `LoadEmpty`, `LoadMisaligned`, `LoadAlignment`, `LoadRange`, `LoadData`, `LoadOverlap`, `LoadZeros`, `LoadNoLoad`,
-/// `LoadHeaders`, `LoadInterpreter`, `LoadRelro`, `LoadTls`, `LoadEntry`, `LoadImageSize`, `LoadWordType`,
-/// `LoadNoSize`, `LoadCopyKind`, `LoadCallSymbol`, `LoadUnresolved`, `LoadWordAddress`, `LoadCopySource`.
+/// DT_REL and of DT_JMPREL, of which those that also end DT_RELA or DT_REL count once), and unchanged where the error
+/// comes before those of words, as `LoadSlotType`. Of errors of words the last object with one counts: then the
+/// objects after it are relocated, and its words before the first that can't be written are written. Otherwise
+/// `images` is unchanged. A relocation that names a symbol takes a look-up in each file up to the one that has it, as
+/// `find_symbol` does after its count, and each word a pass over program headers; with `lazy` 1 a jump slot takes
+/// passes over the dynamic entries too: in files made to be slow the time is relocations times what these take. It
+/// needs about 200 KiB of stack. Errors, in the order of the tests: `LinkObjectIndex`, `ManyObjects`, `ShortPart1`,
+/// `NoMagic`, `InvalidClass`, `ShortHeaders`, `LinkNoDynamic`, `LinkAddress`, `DataRange`, `NotMultiple`,
+/// `LinkNoEntry`, `ShortData`, `LinkShortTable`, `LinkBloomCount`, `LinkChainIndex`, `LinkChainData`,
+/// `LinkSymbolIndex`, `LinkUnknownClass`, `LinkNotMultiple`, `LinkRelocationKind`, `SymbolIndex`, `HashData`,
+/// `ChainIndex`, `ChainSum`, `HashCycle`, `LinkShortVersion`, `LinkVersionCount`, `TextStart`, `TextEnd`, `TextUtf8`,
+/// `LoadType`, `LoadEntrySize`, `LoadCount`, `LoadTable`, `LoadFileSize`, `LoadEmpty`, `LoadMisaligned`,
+/// `LoadAlignment`, `LoadRange`, `LoadData`, `LoadOverlap`, `LoadZeros`, `LoadNoLoad`, `LoadHeaders`,
+/// `LoadInterpreter`, `LoadRelro`, `LoadTls`, `LoadEntry`, `LoadImageSize`, `LoadWordType`, `LoadNoSize`,
+/// `LoadCopyKind`, `LoadCallSymbol`, `LoadUnresolved`, `LoadWordAddress`, `LoadCopySource`.
 pub(crate) fn relocate_all(objects: &[LoadObject<'_>], lazy: u32, page: u64, limit: u64, images: &mut [u8],
     failed: &mut u64, relocation: &mut u64) -> Result<u64, Error> {
     let mut left = u64::default();

@@ -16,7 +16,7 @@ use Rattle.elf_loading.specs.declared.plan.LoadPlan.{LoadPlan}
 use Rattle.elf_loading.specs.declared.relocate.Sources.{Sources}
 use Rattle.xmas_elf.specs.Symbol.{SymbolFields}
 
--- an error that no relocation has
+-- an error that comes before those of words
 abbrev pub error_of_none : LoadError → WordError
 error_of_none reason = record { error = reason; relocation = None }
 

@@ -98,8 +98,8 @@ impl<'s, 'a, E: LinkedSymbol> LoadScope<'s, 'a, E> {
         }
     }
 
-    /// The same, and which relocation has the error: the first of `words` whose word has one. The errors
-    /// before those of words are of no relocation.
+    /// The result of `check_image`, and which relocation has the error: the first of `words` whose word
+    /// has one. The errors that come before those of words name no relocation.
     #[tactic(auto, using(crate::proofs::ImageChecks::no_object, crate::proofs::ImageChecks::no_plan))]
     pub fn check_words(&self, of: usize, marks: &mut [u8]) -> Result<(), WordError>
         ensures exact { IsImageCheck E.SIZE E.fields (loaded_objects self.now).now
@@ -159,8 +159,8 @@ impl<'s, 'a, E: LinkedSymbol> LoadScope<'s, 'a, E> {
         }
     }
 
-    /// The same, and which relocation has the error: the first of `words` whose word has one. The errors
-    /// before those of words are of no relocation.
+    /// Does what `relocate` does, and says which relocation has the error: the first of `words` whose word
+    /// has one. The errors that come before those of words name no relocation.
     #[tactic(auto, using(crate::proofs::ImageChecks::no_object, crate::proofs::ImageChecks::no_plan))]
     pub fn write_words(
         &self,

@@ -47,7 +47,8 @@ pub struct Place {
     pub thread: u64,
 }
 
-/// What the words of an object are written by. The contract of `LoadScope::relocate` speaks of it.
+/// What the bytes of the words of an object are computed from. The contracts of `LoadScope::relocate` and
+/// `write_words` have such a value; no call takes one.
 #[derive(Drop)]
 pub struct Sources<'b, 's, 'a, E: Record> {
     /// The objects of the scope.

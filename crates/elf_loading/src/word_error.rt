@@ -7,7 +7,7 @@ use crate::LoadError;
 pub struct WordError {
     /// The error.
     pub error: LoadError,
-    /// The index of the relocation in the order of `Words`; `None` if the error is not that of a
-    /// relocation.
+    /// The index of the relocation in the order of `Words`; `None` for an error that comes before those
+    /// of words, as `SlotType`.
     pub relocation: Option<u64>,
 }

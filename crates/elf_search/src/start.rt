@@ -13,10 +13,11 @@ use crate::order::{NO_OBJECT, Order};
 /// they are.
 ///
 /// From the last object of the list to its first, each that is not yet visited is visited: it is marked,
-/// then the ends of its edges are visited in order, and then it is written. The program starts after all
-/// of them. An object with the flag 0x20 (DF_1_INITFIRST) starts before all of them: that of the last one
-/// that was loaded counts. So what an object needs, by an auxiliary or a filter entry too, starts before it,
-/// unless that needs the object in turn. The time is linear in the numbers of objects and edges.
+/// then the ends of its edges are visited in order, and then it is written. So among the words what an object
+/// needs, by an auxiliary or a filter entry too, is before it, unless that needs the object in turn other
+/// than through the program. The program starts after all of them. The caller has to start an object with
+/// the flag 0x20 (DF_1_INITFIRST) before all of them: of several the last one that was loaded. The time is
+/// linear in the numbers of objects and edges.
 ///
 /// Error: `FewWords` if there are fewer words.
 pub fn start_order(order: &Order<'_>, words: &mut [u32]) -> Result<usize, SearchError>

@@ -21,8 +21,10 @@ fn layout_of<E: LinkedSymbol>(image: &CheckedImage<'_, '_, E>) -> Option<(Order,
 }
 
 impl<E: LinkedSymbol> CheckedImage<'_, '_, E> {
-    /// The number in the 8 bytes at an address of the image that memory has; `None` if they are not all
-    /// in it. After `relocate` it is the address of a symbol where a relocation writes that.
+    /// The number in the 8 bytes at an address of the object's image, which memory has, in the byte order
+    /// of the object; `None` if not all of them are in it. Where a relocation writes the address of a
+    /// symbol to 8 bytes, without an addend, it is that address after `relocate`. Relocations of class 32
+    /// write 4 bytes.
     pub fn read_word(&self, memory: &[u8], address: u64) -> Option<u64>
         ensures word { result ≡ word_in self.now memory.now address }
         ensures slot { (places : List Place) (others : List (Bor (List ℕ)))
