@@ -190,8 +190,9 @@ fn relocate_all(
 /// first file that has one; `ImageSize` if `images` is not as long as all spans; those of the library's
 /// call, of the last object that has one. `left` is then unchanged, and `failed` is the index of the
 /// object, if one has the error; `relocation` is the index of its relocation with the error, in the order
-/// of `elf_loading::Words`, and unchanged if none has it. Only with an error of the last kind is `images` changed: the objects
-/// after that one are relocated, and its words before the first that can't be written are written.
+/// of `elf_loading::Words`, and unchanged if the error comes before those of words. Only with an error of
+/// the last kind is `images` changed: the objects after that one are relocated, and its words before the
+/// first that can't be written are written.
 #[unsafe(no_mangle)]
 pub extern "C" fn xmas_elf_relocate_all(
     objects: &[LoadObject<'_>],

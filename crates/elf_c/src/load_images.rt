@@ -142,7 +142,7 @@ fn check(
 /// first file that has one; those of the check. `failed` is then the index of the object, if one has the
 /// error: that of the file, or `of`. It is unchanged if none has it: with `LinkObjectIndex`, `ManyObjects`
 /// and `FewMarks`. `relocation` is the index of its relocation with the error, in the order of
-/// `elf_loading::Words`; it is unchanged if none has it.
+/// `elf_loading::Words`; it is unchanged if the error comes before those of words.
 #[unsafe(no_mangle)]
 pub extern "C" fn xmas_elf_check_image(
     objects: &[LoadObject<'_>],
@@ -237,7 +237,7 @@ fn relocate(
 /// first that can't be written are written, and `failed` is the index of the object, if one has the error:
 /// that of the file, or `of`. It is unchanged if none has it: with `LinkObjectIndex`, `ManyObjects` and
 /// `ImageSize`. `relocation` is the index of its relocation with the error, in the order of
-/// `elf_loading::Words`; it is unchanged if none has it.
+/// `elf_loading::Words`; it is unchanged if the error comes before those of words.
 #[unsafe(no_mangle)]
 pub extern "C" fn xmas_elf_relocate(
     objects: &[LoadObject<'_>],
