@@ -84,11 +84,10 @@ pub enum Question {
 ///
 /// The status is 0 once all is written and flushed, no reference is missing its symbol, no check fails and no symbol
 /// has a version number past those of all versions, which `err` says of the first. It is `CLOSED`, and nothing is
-/// said after it, if a write failed since nobody reads the output, and 1
-/// otherwise. The contract says what can be the case then: a reference is missing its
-/// symbol, or a check fails; a file has an error, which file and which error; a write failed, if no
-/// error comes before the first line; memory is short; or something else is wrong. It says nothing of what `out` and `err`
-/// hold.
+/// said after it, if a write failed since nobody reads the output, and 1 otherwise. The contract says what can be the
+/// case then: a reference is missing its symbol, or a check fails; a file has an error, which file and which error; a
+/// write failed, if no error comes before the first line; memory is short; or `say_past_numbers` returns true, for
+/// which the contract has no reason. It says nothing of what `out` and `err` hold.
 pub fn run<W: Write, E: Write>(
     alloc: Global,
     question: Question,

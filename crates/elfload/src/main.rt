@@ -191,7 +191,7 @@ pub(crate) fn run_together<W: Write, E: Write>(
     if !has_dynamic(inputs) {
         return with_missing(missing, status);
     }
-    with_symbols(alloc, status, missing, is_now(asked.when), inputs, err)
+    with_references(alloc, status, missing, is_now(asked.when), inputs, err)
 }
 
 // Whether jump slots get their symbols before the program runs.
@@ -206,7 +206,7 @@ fn is_now(when: Binding) -> bool
 
 // The status of files that had this one, of which some may be missing: 1 if it was 0 and one is, a symbol has a
 // version number past those of all versions, or, where that is asked for, a symbol is missing.
-fn with_symbols<E: Write>(
+fn with_references<E: Write>(
     alloc: Global,
     status: u8,
     missing: bool,
@@ -263,7 +263,7 @@ pub fn run_start<W: Write, E: Write>(
     match listed_inputs(alloc, files, tree) {
         Some(inputs) => {
             let status = run_steps(alloc, form, page, &inputs, tree, out, &mut *err);
-            with_symbols(alloc, status, missing, true, &inputs, err)
+            with_references(alloc, status, missing, true, &inputs, err)
         }
         None => say_memory(err),
     }

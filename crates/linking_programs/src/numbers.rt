@@ -21,8 +21,8 @@ use std::io::Write;
 use xmas_elf::symbol_table::{DynEntry32, DynEntry64};
 
 /// Says of the first file with such a symbol, after the name of the program that runs, which symbol is the first,
-/// and its number; whether there is one, or a file can't be read by the class of the first, of which it says nothing, or
-/// memory is short.
+/// and its number. Returns true if there is one, if a file can't be read by the class of the first, of which it says
+/// nothing, or if memory is short.
 pub fn say_past_numbers<W: Write>(
     alloc: Global,
     program: &str,
@@ -92,7 +92,8 @@ fn write_past<W: Write>(
 }
 
 /// The first symbol of an object whose version number, without bit 15, is past those of all versions that the
-/// object defines or needs, and of 1, the number of global symbols: its index, and the number.
+/// object defines or needs, and of 1, the number of global symbols: its index, and the number. Symbols from index
+/// 2^32 on aren't looked at: no relocation and no hash table names one.
 pub fn first_past<E: LinkedSymbol>(object: &DynamicObject<'_, E>) -> Option<(u32, u16)>
     ensures { let tables = version_tables (object_versions object.now) in MatchOption result
         (AreKnown tables (length (object_symbols E.fields object.now).items))

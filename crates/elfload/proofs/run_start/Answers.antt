@@ -16,20 +16,20 @@ same_known : (narrow_record wide_record : _) (one other : List Input) → one �
 same_known narrow_record wide_record one other same is = subst (λ (inputs : List Input). AreNumbersKnown narrow_record wide_record inputs) same is
 
 pub returns-in-Some-clause-bound : goal.returns-in-Some-clause-bound
-returns-in-Some-clause-bound g c = c.with_symbols.ensures.bound c.run_steps-status.ensures.bound
+returns-in-Some-clause-bound g c = c.with_references.ensures.bound c.run_steps-status.ensures.bound
 
 pub returns-in-Some-clause-closed : goal.returns-in-Some-clause-closed
-returns-in-Some-clause-closed g c = λ is. c.run_steps-status.ensures.closed (c.with_symbols.ensures.closed is)
+returns-in-Some-clause-closed g c = λ is. c.run_steps-status.ensures.closed (c.with_references.ensures.closed is)
 
 pub returns-in-Some-clause-complete : goal.returns-in-Some-clause-complete
-returns-in-Some-clause-complete g c = λ zero. c.say_missing-missing.ensures (c.with_symbols.ensures.whole zero)
+returns-in-Some-clause-complete g c = λ zero. c.say_missing-missing.ensures (c.with_references.ensures.whole zero)
 
 pub returns-in-Some-clause-good : goal.returns-in-Some-clause-good
 returns-in-Some-clause-good g c = λ zero.
     record {
       inputs = c.in-Some.inputs.items;
       inputs_are = c.in-Some.ensures;
-      checked = same_good _ _ c.args.page _ _ c.deref.ensures.value (c.run_steps-status.ensures.checked (c.with_symbols.ensures.kept zero));
-      known = same_known _ _ _ _ c.deref-in-Some.ensures.value (c.with_symbols.ensures.known zero);
-      found = same_found _ _ _ _ c.deref-in-Some.ensures.value (c.with_symbols.ensures.found zero refl);
+      checked = same_good _ _ c.args.page _ _ c.deref.ensures.value (c.run_steps-status.ensures.checked (c.with_references.ensures.kept zero));
+      known = same_known _ _ _ _ c.deref-in-Some.ensures.value (c.with_references.ensures.known zero);
+      found = same_found _ _ _ _ c.deref-in-Some.ensures.value (c.with_references.ensures.found zero refl);
     }
