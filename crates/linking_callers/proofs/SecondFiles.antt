@@ -1,6 +1,5 @@
 -- The first reference of a program to a name, and the symbol that it gets of objects that are good.
 use Rattle.std.proofs.Common.{◌≡◌, ◌<◌, ℕ, zero, suc, false, List, [], ◌∷◌, Option, Some, None, Result, Ok, Err, IsOk, IsOkAnd, IsSomeAnd, IfSome, MatchOption, MatchResult, length, slice_get, refl, sym, subst}
-use Rattle.std.specs.Borrow.{Bor}
 use Rattle.std.specs.List.{AllWithin, HoldsAt}
 use Rattle.elf_linking.specs.AnyTable.{IsGoodBy}
 use Rattle.std.specs.Prelude.{ok_or}
@@ -65,7 +64,7 @@ module _ {E : Type 0} {r : _} (fields : E → SymbolFields) where
   checked_good : (read : Result (DynamicObject E r) LinkError) (object : DynamicObject E r) → IsChecked fields read (Ok object) → IsGood (object_dynamic_symbols fields object)
   checked_good read object (passed _ good readable) = (good, readable)
 
-  pub loaded_good : (class size : ℕ) (bytes : Bor (List ℕ)) (object : DynamicObject E r) → IsLoaded fields class size bytes (Ok object) → IsGood (object_dynamic_symbols fields object)
+  pub loaded_good : (class size : ℕ) (bytes : List ℕ) (object : DynamicObject E r) → IsLoaded fields class size bytes (Ok object) → IsGood (object_dynamic_symbols fields object)
   loaded_good class size bytes object loaded = checked_good loaded.0 object loaded.2
 
   good_more : (object : DynamicObject E r) (objects : List (DynamicObject E r)) → IsGood (object_dynamic_symbols fields object) → AreGood fields objects → AreGood fields (object ∷ objects)

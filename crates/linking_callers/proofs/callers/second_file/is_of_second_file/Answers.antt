@@ -9,9 +9,9 @@ use Rattle.linking_callers.proofs.callers.second_file.is_of_second_file.Goals as
 pub is_second-requires-clause-good : goal.is_second-requires-clause-good
 is_second-requires-clause-good g c = subst (λ (objects : Bor (List (DynamicObject g.row.E.Denot g.E.Record))). AreGood g.E.Entry.fields objects.now) (sym c.new.ensures)
     (three_good g.E.Entry.fields c.in-Ok.object c.in-Ok-two.object c.in-Ok-three.object
-    (loaded_good g.E.Entry.fields g.E.LinkedSymbol.CLASS g.E.Record.SIZE c.args.program c.in-Ok.object c.in-Ok.ensures)
-    (loaded_good g.E.Entry.fields g.E.LinkedSymbol.CLASS g.E.Record.SIZE c.args.second c.in-Ok-two.object c.in-Ok-two.ensures)
-    (loaded_good g.E.Entry.fields g.E.LinkedSymbol.CLASS g.E.Record.SIZE c.args.third c.in-Ok-three.object c.in-Ok-three.ensures))
+    (loaded_good g.E.Entry.fields g.E.LinkedSymbol.CLASS g.E.Record.SIZE c.args.program.now c.in-Ok.object c.in-Ok.ensures)
+    (loaded_good g.E.Entry.fields g.E.LinkedSymbol.CLASS g.E.Record.SIZE c.args.second.now c.in-Ok-two.object c.in-Ok-two.ensures)
+    (loaded_good g.E.Entry.fields g.E.LinkedSymbol.CLASS g.E.Record.SIZE c.args.third.now c.in-Ok-three.object c.in-Ok-three.ensures))
 
 pub returns : goal.returns
 returns g c = (
