@@ -37,6 +37,42 @@ const CACHE: [u8; 608] = [
     0, 0, 0, 0, 0, 0, 0, 84, 2, 0, 0, 12, 0, 0, 0, 29, 2, 0, 0, 39, 2, 0, 0, 49, 2, 0, 0,
 ];
 
+// A cache after one in the older format, as `ldconfig -r . -c compat` of glibc 2.36 writes it for a root with
+// libq.so in /lib and in /lib/glibc-hwcaps/x86-64-v3, and with an entry more in the older format, so that
+// four bytes of padding follow. Keys and values count from the newer header.
+const AFTER_OLDER: [u8; 323] = [
+    108, 100, 46, 115, 111, 45, 49, 46, 55, 46, 48, 0, 3, 0, 0, 0, 3, 3, 0, 0, 137, 0, 0, 0, 109,
+    0, 0, 0, 3, 3, 0, 0, 137, 0, 0, 0, 96, 0, 0, 0, 3, 3, 0, 0, 137, 0, 0, 0, 96, 0, 0, 0, 0, 0, 0,
+    0, 103, 108, 105, 98, 99, 45, 108, 100, 46, 115, 111, 46, 99, 97, 99, 104, 101, 49, 46, 49, 2,
+    0, 0, 0, 59, 0, 0, 0, 2, 0, 0, 0, 212, 0, 0, 0, 0, 0, 0, 0, 0, 0, 0, 0, 0, 0, 0, 0, 3, 3, 0, 0,
+    137, 0, 0, 0, 109, 0, 0, 0, 0, 0, 0, 0, 0, 0, 0, 0, 0, 0, 0, 64, 3, 3, 0, 0, 137, 0, 0, 0, 96,
+    0, 0, 0, 0, 0, 0, 0, 0, 0, 0, 0, 0, 0, 0, 0, 47, 108, 105, 98, 47, 108, 105, 98, 113, 46, 115,
+    111, 0, 47, 108, 105, 98, 47, 103, 108, 105, 98, 99, 45, 104, 119, 99, 97, 112, 115, 47, 120,
+    56, 54, 45, 54, 52, 45, 118, 51, 47, 108, 105, 98, 113, 46, 115, 111, 0, 120, 56, 54, 45, 54,
+    52, 45, 118, 51, 0, 0, 116, 33, 164, 234, 2, 0, 0, 0, 0, 0, 0, 0, 0, 0, 0, 0, 0, 1, 0, 0, 67,
+    0, 0, 0, 1, 0, 0, 0, 0, 0, 0, 0, 252, 0, 0, 0, 4, 0, 0, 0, 145, 0, 0, 0, 108, 100, 99, 111,
+    110, 102, 105, 103, 32, 40, 68, 101, 98, 105, 97, 110, 32, 71, 76, 73, 66, 67, 32, 50, 46, 51,
+    54, 45, 57, 43, 100, 101, 98, 49, 50, 117, 49, 52, 41, 32, 115, 116, 97, 98, 108, 101, 32, 114,
+    101, 108, 101, 97, 115, 101, 32, 118, 101, 114, 115, 105, 111, 110, 32, 50, 46, 51, 54,
+];
+
+// A change of one byte of it, and the path of libq.so, or the error of a file in which `ld.so` finds none.
+const OLDER: &[((usize, u8), Result<Option<&[u8]>, SearchError>)] = &[
+    // `ldconfig` counts the place of the name x86-64-v3 from the newer header, and `ld.so`, which so doesn't
+    // find it, from the front of the file
+    ((0, b'l'), Ok(Some(b"/lib/libq.so"))),
+    // its place from the front
+    ((252, 201), Ok(Some(b"/lib/glibc-hwcaps/x86-64-v3/libq.so"))),
+    // the newer header is not after so many older entries, or is past the end
+    ((12, 2), Err(SearchError::NotACache)),
+    ((12, 4), Err(SearchError::NotACache)),
+    ((12, 255), Err(SearchError::NotACache)),
+    // the newer header has another magic number
+    ((56, b'G'), Err(SearchError::NotACache)),
+    // it says that it is not little-endian
+    ((84, 1), Err(SearchError::CacheOrder)),
+];
+
 // Names and the paths that they get.
 const FOUND: &[(&[u8], Option<&[u8]>)] = &[
     (b"libq10.so", Some(b"/v0.so")),
@@ -62,6 +98,28 @@ const CHANGED: &[((usize, u8), &[u8], Option<&[u8]>)] = &[
     ((198, 1), b"libq2.so", None),
     // no byte order is given
     ((28, 0), b"libq2.so", Some(b"/v2.so")),
+    // libq10.so is named libq00.so, and the search doesn't find it before greater names
+    ((388, b'0'), b"libq0.so", None),
+    // the first entry of libq2.so is in no subdirectory
+    ((95, 0), b"libq2.so", Some(b"/v2.so")),
+];
+
+// The bytes at a place, and whether a cache with them is good.
+const CHECKED: &[((usize, &[u8]), bool)] = &[
+    ((384, b"libq10.so"), true),
+    // the value of libq10.so is past the end
+    ((58, &[1]), false),
+    // the key in the middle is past the end
+    ((198, &[1]), false),
+    // a name is before a less one, and before a greater one
+    ((384, b"libq03.so"), true),
+    ((384, b"libq01.so"), false),
+    // of equal names one in no subdirectory comes first
+    ((384, b"libq02.so"), false),
+    ((95, &[0]), false),
+    // the greatest number that a name may have, and one more
+    ((384, b"lib2147483647"), true),
+    ((384, b"lib2147483648"), false),
 ];
 
 // A change of one byte, and the error.
@@ -132,6 +190,47 @@ fn damaged_entries_are_passed_over(rt: HostRuntime) -> Result<(), Fail> {
         want_at(&rt, change, cache.look_up(name, &MACHINE), wanted);
     }
     Ok(())
+}
+
+#[test]
+fn a_damaged_cache_is_not_good(rt: HostRuntime) -> Result<(), Fail> {
+    for &(change, wanted) in CHECKED {
+        let bytes = with_bytes(CACHE, change.0, change.1);
+        let cache = Cache::read(&bytes)?;
+        want_at(&rt, change, cache.check(), wanted);
+    }
+    let cache = Cache::read(&AFTER_OLDER)?;
+    want_at(&rt, "after an older one", cache.check(), true);
+    Ok(())
+}
+
+// A cache with other bytes at a place.
+fn with_bytes(mut cache: [u8; 608], place: usize, bytes: &[u8]) -> [u8; 608] {
+    for (index, byte) in bytes.iter().enumerate() {
+        if let Some(old) = cache.get_mut(place.saturating_add(index)) {
+            *old = *byte;
+        }
+    }
+    cache
+}
+
+#[test]
+fn a_cache_may_come_after_an_older_one(rt: HostRuntime) {
+    for &(change, wanted) in OLDER {
+        let mut bytes = AFTER_OLDER;
+        if change.0 < bytes.len() {
+            bytes[change.0] = change.1;
+        }
+        want_at(&rt, change, path_of(&bytes), wanted);
+    }
+}
+
+// The path that a cache has for libq.so.
+fn path_of(bytes: &[u8]) -> Result<Option<&[u8]>, SearchError> {
+    match Cache::read(bytes) {
+        Ok(cache) => Ok(cache.look_up(b"libq.so", &MACHINE)),
+        Err(error) => Err(error),
+    }
 }
 
 #[test]

@@ -6,7 +6,7 @@ use elf_linking::LinkError;
 use elf_linking::versions::Versions;
 use elf_linking::view::{DT_RPATH, DT_RUNPATH, DT_SONAME, DynamicView};
 use elf_search::SearchError;
-use elf_search::library::{DF_1_NODEFLIB, check_library, check_shared, has_flag_1};
+use elf_search::library::{DF_1_INITFIRST, DF_1_NODEFLIB, check_library, check_shared, has_flag_1};
 use elf_search::names::{NameKind, last_text, needed_names};
 use elf_search::versions::{Lack, MissingVersions, Provided, Provider, missing_versions};
 use std::process::Abort;
@@ -59,6 +59,37 @@ fn names_of_needed_libraries(rt: HostRuntime) -> Result<(), Fail> {
     }
     want_at(&rt, "names", names.as_slice(), b"libneed.so\n");
     Ok(())
+}
+
+// Two bytes of DT_FLAGS_1, as gcc links a library with -z initfirst, -z nodefaultlib, both, or -z now, and
+// whether readelf -d prints INITFIRST and NODEFLIB.
+const FLAGS: &[([u8; 2], bool, bool)] = &[
+    ([0x20, 0], true, false),
+    ([0, 8], false, true),
+    ([0x20, 8], true, true),
+    ([1, 0], false, false),
+];
+
+#[test]
+fn flags_are_those_of_readelf(rt: HostRuntime) -> Result<(), LinkError> {
+    for &(flags, is_first, has_no_default) in FLAGS {
+        let bytes = with_flags(flags);
+        let file = open(&rt, &bytes);
+        let view = DynamicView::read(&file)?;
+        let found = has_flag_1(&view, DF_1_INITFIRST);
+        want_at(&rt, flags, found, is_first);
+        let found = has_flag_1(&view, DF_1_NODEFLIB);
+        want_at(&rt, flags, found, has_no_default);
+    }
+    Ok(())
+}
+
+// The file with the entry DT_FLAGS_1 before its DT_NULL.
+fn with_flags(flags: [u8; 2]) -> [u8; 912] {
+    let mut bytes = *SMALL;
+    bytes[784..788].copy_from_slice(&[0xfb, 0xff, 0xff, 0x6f]);
+    bytes[792..794].copy_from_slice(&flags);
+    bytes
 }
 
 // The names of the objects of a file with needs.

@@ -1,6 +1,11 @@
 //! Lists of objects, and the order in which they start. The lists and orders wanted are those that `ld.so`
 //! of glibc 2.36 prints for such programs with LD_TRACE_LOADED_OBJECTS and LD_DEBUG=files, or worked out by
 //! hand.
+//!
+//! Those of the last three cases were made by `gcc -nostdlib -Wl,--no-as-needed`: each library with `-shared`,
+//! `-Wl,-soname,NAME` and a constructor, and with `-Wl,-z,initfirst` or `-Wl,--auxiliary,NAME` where a case says
+//! so, and the program with its folder as DT_RPATH. The link took the place of a library with its name after
+//! all were linked.
 
 use crate::tests::want::want_at;
 use elf_search::SearchError;
@@ -25,11 +30,13 @@ enum Found {
 }
 
 // The number of entries of a program, what they and those of the objects found, in the order in which they
-// are asked for, the list, and the order of starts.
+// are asked for, the list, the objects with the flag DF_1_INITFIRST in the order in which they are loaded,
+// and the order of starts.
 struct Case {
     entries: u32,
     found: &'static [((u32, u32), Found)],
     list: &'static [u32],
+    flagged: &'static [u32],
     starts: &'static [u32],
 }
 
@@ -46,6 +53,7 @@ const CASES: &[Case] = &[
             ((3, 0), Found::Known(1)),
         ],
         list: &[0, 1, 2, 3],
+        flagged: &[],
         starts: &[2, 1, 3],
     },
     // the same with the entries of the program exchanged
@@ -60,6 +68,7 @@ const CASES: &[Case] = &[
             ((3, 0), Found::Known(2)),
         ],
         list: &[0, 1, 2, 3],
+        flagged: &[],
         starts: &[1, 2, 3],
     },
     // a missing name, and a library that needs the program and itself
@@ -73,6 +82,7 @@ const CASES: &[Case] = &[
             ((1, 2), Found::New(0)),
         ],
         list: &[0, 1, 2],
+        flagged: &[],
         starts: &[2, 1],
     },
     // an auxiliary library is put before the one that names it, and gone through after it
@@ -86,6 +96,7 @@ const CASES: &[Case] = &[
             ((2, 0), Found::Known(4)),
         ],
         list: &[0, 3, 1, 2, 4],
+        flagged: &[],
         starts: &[4, 2, 3, 1],
     },
     // a library that is behind the one that filters it is moved before it
@@ -97,6 +108,7 @@ const CASES: &[Case] = &[
             ((1, 0), Found::KnownBefore(2)),
         ],
         list: &[0, 2, 1],
+        flagged: &[],
         starts: &[2, 1],
     },
     // of four auxiliary entries one finds a new library, the next that library by its soname, which stays where it is, and
@@ -112,7 +124,48 @@ const CASES: &[Case] = &[
             ((1, 3), Found::Missing),
         ],
         list: &[0, 3, 1, 2],
+        flagged: &[],
         starts: &[2, 3, 1],
+    },
+    // a library, and a link to it, which the caller knows by its device and inode: both are one object; another library
+    // needs the link, and so starts after it
+    Case {
+        entries: 3,
+        found: &[
+            ((0, 0), Found::New(0)),
+            ((0, 1), Found::Known(1)),
+            ((0, 2), Found::New(1)),
+            ((2, 0), Found::Known(1)),
+        ],
+        list: &[0, 1, 2],
+        flagged: &[],
+        starts: &[1, 2],
+    },
+    // of three libraries the first two are linked with -z initfirst, and the second one needs a fourth
+    Case {
+        entries: 3,
+        found: &[
+            ((0, 0), Found::New(0)),
+            ((0, 1), Found::New(1)),
+            ((0, 2), Found::New(0)),
+            ((2, 0), Found::New(0)),
+        ],
+        list: &[0, 1, 2, 3, 4],
+        flagged: &[1, 2],
+        starts: &[2, 4, 3, 1],
+    },
+    // the last one that is loaded is not the last in the list: an auxiliary library, linked with -z initfirst, as is
+    // the second library of the program
+    Case {
+        entries: 2,
+        found: &[
+            ((0, 0), Found::New(1)),
+            ((0, 1), Found::New(0)),
+            ((1, 0), Found::NewBefore(0)),
+        ],
+        list: &[0, 3, 1, 2],
+        flagged: &[2, 3],
+        starts: &[3, 2, 1],
     },
 ];
 
@@ -142,6 +195,23 @@ fn want_list(rt: &impl Abort, order: &Order<'_>, list: &[u32]) {
     want_at(rt, "end", next, None);
 }
 
+// Wants the libraries to start in an order: the last one with DF_1_INITFIRST, which the caller of `start_order`
+// takes first, and then the others.
+fn want_starts(rt: &impl Abort, starts: &[u32], case: &Case) {
+    let first = case.flagged.last();
+    let mut place = 0;
+    if first.is_some() {
+        want_at(rt, 0, first, case.starts.first());
+        place = 1;
+    }
+    for number in starts {
+        if Some(number) != first {
+            want_at(rt, place, Some(number), case.starts.get(place));
+            place = place.saturating_add(1);
+        }
+    }
+}
+
 #[test]
 fn objects_stand_in_order(rt: HostRuntime) -> Result<(), Fail> {
     for case in CASES {
@@ -157,9 +227,7 @@ fn objects_stand_in_order(rt: HostRuntime) -> Result<(), Fail> {
         want_list(&rt, &order, case.list);
         let count = start_order(&order, &mut words)?;
         want_at(&rt, "count", count, case.starts.len());
-        for place in 0..case.starts.len() {
-            want_at(&rt, place, words[..32].get(place), case.starts.get(place));
-        }
+        want_starts(&rt, words.get(..count).unwrap_or(&[]), case);
     }
     Ok(())
 }
