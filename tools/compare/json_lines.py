@@ -1,7 +1,7 @@
 #!/usr/bin/env python3
 """Compares the lines that programs write with --json with their lines of text.
 
-    tools/compare/json_lines.py [--elfsym PATH] [--elfbind PATH] [--elfload PATH] FILE..
+    tools/compare/json_lines.py [--elfsym PATH] [--elfbind PATH] [--elfload PATH] [--elftree PATH] FILE..
 
 Of each object, as Python's `json` reads it, the line of text is written here anew (TEXTS), and must be that of the program. `jq` must
 read the same objects. Statuses and messages must be the same in both forms.
@@ -64,9 +64,32 @@ def value_text(it: dict) -> str:
         "copy": f"copy({file}, {offset}, {it['size']})"}[it["value"]]
 
 
+def item_text(it: dict) -> str:
+    """The line of a program, of a library that it gets, or of a name that is missing."""
+    if it["from"] is None:
+        return it["file"].translate(CONTROLS)
+    kind = "" if it["entry"] == "needed" else it["entry"]
+    if it["file"] is None:
+        found = "not found" + " (auxiliary)" * (kind == "auxiliary")
+    else:
+        found = f"{it['file'].translate(CONTROLS)} ({', '.join(filter(None, (it['how'], kind)))}) #{it['place']}"
+    return f"{'  ' * it['depth']}{name_text(it, 'name')} => {found}"
+
+
+def lacked_text(it: dict) -> str:
+    version, by, library = (it[key].translate(CONTROLS) for key in ("version", "from", "file"))
+    if it["reason"] == "record":
+        return f"{library}: unsupported version {it['record']} of Verdef record"
+    lack = {
+        "unversioned": "no version information available", "weak": f"weak version `{version}' not found",
+        "missing": f"version `{version}' not found"}[it["reason"]]
+    return f"{library}: {lack} (required by {by})"
+
+
 # What is written of an object, by its members.
 REST = "file relro_start relro_end tls_address tls_file_size tls_size tls_align stack_flags"
 VALUE = "value object resolver offset size"
+ITEM = "entry file how place"
 TEXTS = {
     "name value size": symbol_text, "name value size file": symbol_text, "needed": name_text, "needed_bytes": name_text,
     "from name version weak file value": binding_text, "file error": lambda it: f"{it['file']}: {it['error'] or 'ok'}",
@@ -77,7 +100,11 @@ TEXTS = {
     f"file word width type name {VALUE}": lambda it: (
         f"word {it['word']:#x} {it['width']} {re.sub('^R_(386|X86_64|AARCH64)_', '', it['name'] or str(it['type']))} = {value_text(it)}"),
     f"file runs index {VALUE}": lambda it: (
-        f"{it['file']} {it['runs']}{'' if it['index'] is None else '[%d]' % it['index']} = {value_text(it)}")}
+        f"{it['file']} {it['runs']}{'' if it['index'] is None else '[%d]' % it['index']} = {value_text(it)}"),
+    f"program kind depth from name {ITEM}": item_text, f"program kind depth from name_bytes {ITEM}": item_text,
+    "program kind from version file reason record": lacked_text,
+    "program kind file": lambda it: f"{it['kind']} {it['file'].translate(CONTROLS)}",
+    "program file": lambda it: it["file"].translate(CONTROLS)}
 
 
 def text_of(objects: list[dict]) -> str:
@@ -111,7 +138,7 @@ def compare_lines(tally: Tally, path: str, program: str, *words: str, text_of: C
         tally.differ(path, f"{words[:3]} read by jq", read.errors, "the same")
 
 
-def compare(path: str, elfsym: str, elfbind: str, elfload: str, tally: Tally) -> None:
+def compare(path: str, elfsym: str, elfbind: str, elfload: str, elftree: str, tally: Tally) -> None:
     tally["files"] += 1
     names = list(dict.fromkeys(it.name + (f"@{it.version}" if it.version else "") for it in dynamic_symbols(path) if it.name))[:MOST]
     compare_lines(tally, path, elfsym, "--needed", path)
@@ -123,7 +150,9 @@ def compare(path: str, elfsym: str, elfbind: str, elfload: str, tally: Tally) ->
     # Of a library its own words, since those of all its libraries are many.
     for words in ([] if linker_of(path) else ["--alone"], ["--start"], ["--kernel"], ["--glibc"]):
         compare_lines(tally, path, elfload, *words, path)
+    for option in ("--start", "--list"):
+        compare_lines(tally, path, elftree, option, path)
 
 
 if __name__ == "__main__":
-    sys.exit(compare_all(__doc__, Tally("--json", "files", "lines"), compare, "elfsym", "elfbind", "elfload"))
+    sys.exit(compare_all(__doc__, Tally("--json", "files", "lines"), compare, "elfsym", "elfbind", "elfload", "elftree"))

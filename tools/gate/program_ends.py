@@ -212,7 +212,7 @@ def told_ends(program, built, room):
 
 
 # By the name of a program what it prints as text, by its lines as JSON.
-TEXT_OF = {"elfsize": sizes_text, "elfload": text_of}
+TEXT_OF = {"elfsize": sizes_text, "elfload": text_of, "elftree": text_of}
 
 
 def same_facts(program, built, room):

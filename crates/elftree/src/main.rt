@@ -4,7 +4,8 @@
 //! that it is the first to ask for, with the list by which each was found and its place in the order
 //! in which names are looked up. A name that is missing is below each object that asks for it. Then come the
 //! versions that are missing. `--start` adds the order in which the libraries start; `--list` writes
-//! the paths alone. The files are opened for reading.
+//! the paths alone. With `--json` before all of these each line is a JSON object. The files are opened for
+//! reading.
 #![tactic(auto)]
 
 ghost use Rattle.std.specs.Prelude.{◌≡◌, ◌≢◌, ◌≤◌, IsTrue};
@@ -25,15 +26,18 @@ use std::process::ExitCode;
 
 mod lines;
 mod options;
+mod records;
+mod texts;
 
 const NAME: &str = "elftree";
 
 const USAGE: &str =
-    "elftree [--root DIR] [--library-path LIST] [--cache FILE | --no-cache] [--start | --list] <binary_path>..";
+    "elftree [--json] [--root DIR] [--library-path LIST] [--cache FILE | --no-cache] [--start | --list] <binary_path>..";
 
 const HELP: &str =
     "Prints the libraries that a program gets, and how each is found, as the loader finds them. Files are
 opened for reading, and nothing is run.
+--json               before the other options: each line as a JSON object
 --root DIR           the program and its libraries are under DIR, the root of another system
 --library-path LIST  the value of LD_LIBRARY_PATH
 --cache FILE         another cache than /etc/ld.so.cache
@@ -65,6 +69,7 @@ pub fn run<'t, W: Write, E: Write>(
         Err(error) => return say_error(NAME, &error, err),
     };
     let lines = Lines {
+        form: options.form,
         is_list: options.is_list,
         has_starts: options.has_starts,
         tree,

@@ -1,10 +1,13 @@
 //! What the arguments ask for.
 
+use program_ends::json::{Form, form_asked};
 use program_libraries::{Settings, own_settings, with_option};
 
 /// What the arguments ask for.
 #[derive(Clone, Copy, Debug, Drop)]
 pub struct Options<'a> {
+    /// How the lines are written.
+    pub form: Form,
     /// How libraries are found.
     pub settings: Settings<'a>,
     /// Whether the order of starts is written too.
@@ -16,7 +19,9 @@ pub struct Options<'a> {
 /// The options at the beginning of the arguments, and the files after them; `None` if the arguments are
 /// not as they should be.
 pub fn asked(arguments: &[String]) -> Option<(Options<'_>, &[String])> {
+    let (form, arguments) = form_asked(arguments);
     let mut options = Options {
+        form,
         settings: own_settings(),
         has_starts: false,
         is_list: false,
