@@ -191,8 +191,8 @@ def names_of(cache: bytes) -> list:
         magic, count = struct.unpack_from("<II", cache, place) if place % 4 == 0 else (0, 0)
         for at in range(place + 8, place + 8 + 16 * count * (magic == 0xEAA42174), 16):
             tag, _, inner, size = struct.unpack_from("<IIII", cache, at)
-            if tag == 1 and inner % 4 == size % 4 == 0:
-                found = struct.unpack_from(f"<{size // 4}I", cache, inner)
+            if tag == 1:
+                found = struct.unpack_from(f"<{size // 4}I", cache, inner) if inner % 4 == size % 4 == 0 else []
     except struct.error:
         return []
     return [cache[it : max(it, cache.find(b"\0", it))] for it in found if it < len(cache)]

@@ -53,11 +53,15 @@ are_within bytes place zero = true
 are_within bytes place (suc n) = are_within bytes place n
     && nat_le (word_at bytes (place + 16 * n + 8) + word_at bytes (place + 16 * n + 12)) (length bytes)
 
+-- the place and the number of the words in a section; two zeros if its place or its size is no multiple of 4
+abbrev pub aligned_words : ℕ → ℕ → ℕ × ℕ
+aligned_words place size = if place % 4 == 0 && size % 4 == 0 then (place, size / 4) else (0, 0)
+
 -- the place and the number of the words in the last of these sections that has tag 1, or two zeros
 abbrev pub tagged_words : List ℕ → ℕ → ℕ → ℕ × ℕ
 tagged_words bytes place zero = (0, 0)
 tagged_words bytes place (suc n) = if word_at bytes (place + 16 * n) == 1
-    then (word_at bytes (place + 16 * n + 8), word_at bytes (place + 16 * n + 12) / 4)
+    then aligned_words (word_at bytes (place + 16 * n + 8)) (word_at bytes (place + 16 * n + 12))
     else tagged_words bytes place n
 
 -- the head of an extension at a place is in the file, and so are the records of its sections

@@ -2,7 +2,7 @@
 
 ghost use Rattle.std.specs.Prelude.{◌≡◌, ◌<◌, ◌≤◌, ◌+◌, ◌*◌, ◌^◌, Err, IfSome, MatchResult, Ok, None, Some, length, if◌then◌else◌};
 ghost use Rattle.elf_search.specs.Cache.{cache_of, entry_count, extension_words, header_place};
-ghost use Rattle.elf_search.specs.Cache.{are_within, tagged_words};
+ghost use Rattle.elf_search.specs.Cache.{aligned_words, are_within, tagged_words};
 
 use crate::SearchError;
 use crate::cache::{MAGIC, OLD_MAGIC};
@@ -97,8 +97,21 @@ fn section_words(bytes: &[u8], place: usize, count: usize) -> Option<(usize, usi
             return None;
         }
         if read_u32(bytes, record, Order::Little) == 1 {
-            words = (from, size / 4);
+            words = aligned_words(from, size);
         }
     }
     Some(words)
+}
+
+// The place and the number of the words in a section; two zeros if its place or its size is no multiple
+// of 4, as `ld.so` has it.
+fn aligned_words(place: usize, size: usize) -> (usize, usize)
+    ensures value { result ≡ aligned_words place size }
+    ensures within { result.0 + 4 * result.1 ≤ place + size }
+{
+    if place % 4 == 0 && size % 4 == 0 {
+        (place, size / 4)
+    } else {
+        (0, 0)
+    }
 }

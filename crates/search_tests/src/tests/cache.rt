@@ -94,6 +94,9 @@ const CHANGED: &[((usize, u8), &[u8], Option<&[u8]>)] = &[
     ((58, 1), b"libq10.so", None),
     // the extension has another magic number
     ((572, 0), b"libq2.so", Some(b"/v4.so")),
+    // the size of the section with the words, or its place, is no multiple of 4
+    ((592, 11), b"libq2.so", Some(b"/v4.so")),
+    ((588, 85), b"libq2.so", Some(b"/v4.so")),
     // the key in the middle is past the end
     ((198, 1), b"libq2.so", None),
     // no byte order is given
