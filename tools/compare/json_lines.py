@@ -31,7 +31,7 @@ def name_text(it: dict, key: str = "needed") -> str:
 
 def binding_text(it: dict) -> str:
     found = "unresolved" + " (weak)" * it["weak"] if it["file"] is None else f"{it['file']} {it['value']:#x}"
-    return f"{it['from']} {it['name']}" + (f"@{it['version']}" if it["version"] is not None else "") + f" -> {found}"
+    return f"{it['from']} {name_text(it, 'name')}" + (f"@{it['version']}" if it["version"] is not None else "") + f" -> {found}"
 
 
 def flags_text(flags: int) -> str:
@@ -92,7 +92,7 @@ VALUE = "value object resolver offset size"
 ITEM = "entry file how place"
 TEXTS = {
     "name value size": symbol_text, "name value size file": symbol_text, "needed": name_text, "needed_bytes": name_text,
-    "from name version weak file value": binding_text, "file error": lambda it: f"{it['file']}: {it['error'] or 'ok'}",
+    **dict.fromkeys(("from name version weak file value", "from name_bytes version weak file value"), binding_text), "file error": lambda it: f"{it['file']}: {it['error'] or 'ok'}",
     "file loads": lambda it: f"{it['file']}: loads: {'yes' if it['loads'] else 'no'}",
     "file class type machine entry start end": head_text, f"{REST} interpreter": rest_text, f"{REST} interpreter_bytes": rest_text,
     "file by start end flags holds offset": lambda it: (
