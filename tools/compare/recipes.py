@@ -37,7 +37,8 @@ PICKED = {
 # The recipes of docs/RECIPES.md in Python.
 LARGEST, STARTS, NEEDS = re.findall(r"^```python$(.*?)^```$", (ROOT / "docs/RECIPES.md").read_text(), re.M | re.S)
 PYTHON = ROOT / "bindings/python"
-ROOTED, NOT_STARTED = ROOT / "crates/elftree/data", "/bin/prog: no: /bin/prog: /lib64/ld-linux-x86-64.so.2 not found\n"
+ROOTED, NOT_STARTED = ROOT / "crates/elftree/data", "".join(
+    f"/bin/{name}: no: /bin/{name}: /lib64/ld-linux-x86-64.so.2 not found\n" for name in ("filters", "prog"))
 PACKAGE = "coreutils"
 
 
