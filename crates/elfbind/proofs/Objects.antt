@@ -15,7 +15,7 @@ accepted_by {E} {r} class size inputs objects all i = go (slice_get inputs i) (A
   where
     with_object : (input : Input) (found : Option (DynamicObject E r)) → IsSomeAnd found (IsObjectOfBytes class size input.bytes.items) → IsOk (header_of input.bytes.items)
     with_object input None never = absurd never
-    with_object input (Some object) is = subst IsOk (sym is.file_is.2) refl
+    with_object input (Some object) is = subst IsOk (sym is.file_is.1) refl
 
     go : (found : Option Input) → MatchOption found (Unit {0}) (λ input. IsSomeAnd (slice_get objects i) (IsObjectOfBytes class size input.bytes.items)) → IfSome found (λ input. IsOk (header_of input.bytes.items))
     go None none = tt
