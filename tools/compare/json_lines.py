@@ -1,7 +1,7 @@
 #!/usr/bin/env python3
 """Compares the lines that programs write with --json with their lines of text.
 
-    tools/compare/json_lines.py [--elfsym PATH] [--elfbind PATH] [--elfload PATH] [--elftree PATH] FILE..
+    tools/compare/json_lines.py [--elfsym PATH] [--elfbind PATH] [--elfload PATH] [--elftree PATH] [--elfaddr PATH] FILE..
 
 Of each object, as Python's `json` reads it, the line of text is written here anew (TEXTS), and must be that of the program. `jq` must
 read the same objects. Statuses and messages must be the same in both forms.
@@ -32,6 +32,10 @@ def name_text(it: dict, key: str = "needed") -> str:
 def binding_text(it: dict) -> str:
     found = "unresolved" + " (weak)" * it["weak"] if it["file"] is None else f"{it['file']} {it['value']:#x}"
     return f"{it['from']} {name_text(it, 'name')}" + (f"@{it['version']}" if it["version"] is not None else "") + f" -> {found}"
+
+
+def place_text(it: dict, key: str) -> str:
+    return f"{'?' if it.get(key, '') is None else name_text(it, key)}+{it['offset']:#x}"
 
 
 def flags_text(flags: int) -> str:
@@ -102,7 +106,9 @@ TEXTS = {
     f"file runs index {VALUE}": lambda it: (
         f"{it['file']} {it['runs']}{'' if it['index'] is None else '[%d]' % it['index']} = {value_text(it)}"),
     f"program kind depth from name {ITEM}": item_text, f"program kind depth from name_bytes {ITEM}": item_text,
-    "program kind from version file reason record": lacked_text,
+    "program kind from version file reason record": lacked_text, "address symbol section": lambda it: "?",
+    **dict.fromkeys(("address symbol offset", "address symbol_bytes offset"), lambda it: place_text(it, "symbol")),
+    **dict.fromkeys(("address section offset", "address section_bytes offset"), lambda it: place_text(it, "section")),
     "program kind file": lambda it: f"{it['kind']} {it['file'].translate(CONTROLS)}",
     "program file": lambda it: it["file"].translate(CONTROLS)}
 
@@ -138,9 +144,10 @@ def compare_lines(tally: Tally, path: str, program: str, *words: str, text_of: C
         tally.differ(path, f"{words[:3]} read by jq", read.errors, "the same")
 
 
-def compare(path: str, elfsym: str, elfbind: str, elfload: str, elftree: str, tally: Tally) -> None:
+def compare(path: str, elfsym: str, elfbind: str, elfload: str, elftree: str, elfaddr: str, tally: Tally) -> None:
     tally["files"] += 1
-    names = list(dict.fromkeys(it.name + (f"@{it.version}" if it.version else "") for it in dynamic_symbols(path) if it.name))[:MOST]
+    symbols = dynamic_symbols(path)
+    names = list(dict.fromkeys(it.name + (f"@{it.version}" if it.version else "") for it in symbols if it.name))[:MOST]
     compare_lines(tally, path, elfsym, "--needed", path)
     if names:
         compare_lines(tally, path, elfsym, path, *names, "\"absent\"\\\n")
@@ -152,7 +159,9 @@ def compare(path: str, elfsym: str, elfbind: str, elfload: str, elftree: str, ta
         compare_lines(tally, path, elfload, *words, path)
     for option in ("--start", "--list"):
         compare_lines(tally, path, elftree, option, path)
+    for option in ([], ["--dynamic"]):
+        compare_lines(tally, path, elfaddr, *option, path, *(f"{it.value + it.size // 2:x}" for it in symbols[:MOST]), "1000", "ffffffff")
 
 
 if __name__ == "__main__":
-    sys.exit(compare_all(__doc__, Tally("--json", "files", "lines"), compare, "elfsym", "elfbind", "elfload", "elftree"))
+    sys.exit(compare_all(__doc__, Tally("--json", "files", "lines"), compare, "elfsym", "elfbind", "elfload", "elftree", "elfaddr"))
