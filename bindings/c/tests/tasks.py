@@ -55,7 +55,8 @@ OF_PROGRAMS = (("search", ("FILE",)), *((it, ("FILE", LIBC, LINKER)) for it in L
 
 def readelf_symbols(path):
     """The value and the name of each symbol that readelf prints; a symbol of a section has no name there."""
-    rows = re.findall(r"^ +\d+: ([0-9a-f]+) +\S+ (\S+) +\S+ +\S+ +(?:\[[^\]]*\] +)?\S+(?: +(\S+)(?: \(\d+\))?)?$", run(["readelf", "-sW", "--", path]).output, re.M)
+    word = r"(?:<[^>]*>: \w+|\S+)"
+    rows = re.findall(rf"^ +\d+: ([0-9a-f]+) +\S+ ({word}) +{word} +\S+ +(?:\[[^\]]*\] +)?\S+(?: +(\S+)(?: \(\d+\))?)?$", run(["readelf", "-sW", "--", path]).output, re.M)
     return collections.Counter((int(value, 16), name.partition("@")[0]) for value, kind, name in rows if name and kind != "SECTION")
 
 
@@ -78,7 +79,7 @@ def compare_names(folder, path, tally):
     middles = [value + size // 2 for value, size, *_ in rows]
     theirs = addr2line(path, middles)
     # An object file has no mappings to print.
-    for program in [it for it in ADDRESSES if it != "memory" or path.suffix != ".o"] if middles else ():
+    for program in [it for it in ADDRESSES if it != "memory" or path.suffix not in (".o", ".a")] if middles else ():
         lines = tally.output(path, f"{folder}/{program}", path, *(f"{it:x}" for it in middles)).splitlines()[-len(middles) :]
         for address, line, name in zip(middles, lines, theirs):
             own, _, offset = line.rpartition("+")
