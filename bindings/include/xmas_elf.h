@@ -375,6 +375,18 @@ enum xmas_elf_status {
     XMAS_ELF_SEARCH_FEW_WORDS = 520,
     /* no such object or entry. */
     XMAS_ELF_SEARCH_NO_OBJECT = 521,
+    /* key or value past the end of the cache. */
+    XMAS_ELF_SEARCH_CACHE_ENTRY = 522,
+    /* number in a key of the cache is too large. */
+    XMAS_ELF_SEARCH_CACHE_NUMBER = 523,
+    /* entries of the cache are not in order. */
+    XMAS_ELF_SEARCH_CACHE_ENTRY_ORDER = 524,
+    /* extension of the cache is damaged. */
+    XMAS_ELF_SEARCH_CACHE_EXTENSION = 525,
+    /* name of hwcaps past the end of the cache. */
+    XMAS_ELF_SEARCH_HWCAPS_NAME = 526,
+    /* names of hwcaps are not in order. */
+    XMAS_ELF_SEARCH_HWCAPS_ORDER = 527,
     /* file of a need of versions is no object. */
     XMAS_ELF_SEARCH_NO_PROVIDER = 530
 };

@@ -219,9 +219,7 @@ def by_build_id(path: str) -> str:
     return next(filter(os.path.exists, places), "")
 
 
-# A program with a function that only its symbol table names, and what is changed of its link and of the build ids of both files.
-SOURCE = b"""static __attribute__((noinline)) int inner(int x) { return x * 3; }
-    int main(int count, char **words) { return inner(count) + !words; }"""
+# What is changed of the link of a program and of the build ids of it and of its debug file.
 CHANGED = (("bare", ".gnu_debuglink"), ("bare", ".note.gnu.build-id"), ("bare.debug", ".note.gnu.build-id"))
 
 
@@ -229,7 +227,7 @@ def compare_changed(elfaddr: str, count: int, tally: Tally) -> None:
     """Has elfaddr and gdb look for a debug file where a byte of the link, of its sum or of a build id is another: elfaddr takes none
     that gdb doesn't take."""
     with tempfile.TemporaryDirectory() as room:
-        run(["gcc", "-O1", "-Wl,--build-id", "-x", "c", "-", "-o", f"{room}/whole"], given=SOURCE)
+        run(["gcc", "-O1", "-Wl,--build-id", str(ROOT / "tools/compare/sources/inner.c"), "-o", f"{room}/whole"])
         bare, debug = separated(f"{room}/whole", room)
         place, chance = next(value for value, *_, name in nm(f"{room}/whole") if name == "inner"), random.Random(count)
         kept, (own,) = {it: Path(it).read_bytes() for it in (bare, debug)}, build_ids(bare)

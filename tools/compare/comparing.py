@@ -31,8 +31,8 @@ one, and 2 if the comparison couldn't be run.
 UNDEFINED, ABSOLUTE = 0, 0xFFF1
 SECTION, THREAD, INDIRECT = 3, 6, 10
 LOCAL, UNIQUE = 0, 10
-# The type of a segment that is loaded.
-LOAD = 1
+# The type of a segment that is loaded, and how many names a program is asked for in one run.
+LOAD, AT_ONCE = 1, 300
 # Control characters as the programs write them in names: the byte 0xbf behind the sign of the last is no UTF-8.
 CONTROLS = {**{it: f"^{chr(it + 64)}" for it in range(32)}, 127: "^\udcbf"}
 
@@ -236,9 +236,9 @@ def spread(count: int, largest: int) -> list[pathlib.Path]:
 
 
 def asked_of(elfsym: str, names: list[str], *words: str) -> Finished:
-    """What elfsym says of names behind these words, some hundreds in one run; it ends where a run fails."""
+    """What elfsym says of names behind these words; it ends where a run fails."""
     found = Finished(0, "", "")
-    for some in (names[at : at + 300] for at in range(0, len(names), 300)):
+    for some in (names[at : at + AT_ONCE] for at in range(0, len(names), AT_ONCE)):
         said = run([elfsym, *words, *some])
         found = Finished(said.status, found.output + said.output, found.errors + said.errors)
         if said.status:

@@ -20,6 +20,8 @@ FILE_HEADER = "type H machine H version I entry P phoff P shoff P flags I ehsize
 SECTION = "name I type I flags P address P offset P size P link I info I align P entsize P"
 SEGMENT_32 = "type I offset I vaddr I paddr I filesz I memsz I flags I align I"
 SEGMENT_64 = "type I flags I offset Q vaddr Q paddr Q filesz Q memsz Q align Q"
+SYMBOL_32 = "name I value I size I info B other B section H"
+SYMBOL_64 = "name I info B other B section H value Q size Q"
 
 
 class Layout:
@@ -27,9 +29,10 @@ class Layout:
 
     def __init__(self, wide: bool, order: str):
         self.wide, self.order, self.mark, self.address = wide, order, "<" if order == "little" else ">", "Q" if wide else "I"
-        self.header_size, self.section_size, self.segment_size = (64, 64, 56) if wide else (52, 40, 32)
+        self.header_size, self.section_size, self.segment_size, self.symbol_size = (64, 64, 56, 24) if wide else (52, 40, 32, 16)
         self.header, self.section = self.places(FILE_HEADER, 16), self.places(SECTION, 0)
         self.segment = self.places(SEGMENT_64 if wide else SEGMENT_32, 0)
+        self.of_symbol = self.places(SYMBOL_64 if wide else SYMBOL_32, 0)
 
     def places(self, fields: str, start: int) -> dict:
         found, words = {}, fields.replace("P", self.address).split()
@@ -60,9 +63,9 @@ class Layout:
         return struct.pack(f"{self.mark}{len(values)}{self.address}", *values)
 
     def symbol(self, name, info, index, value, other=0):
-        if self.wide:
-            return struct.pack(self.mark + "IBBHQQ", name, info, other, index, value, 8)
-        return struct.pack(self.mark + "IIIBBH", name, value, 8, info, other, index)
+        data = bytearray(self.symbol_size)
+        self.fill(data, 0, self.of_symbol, name=name, info=info, other=other, section=index, value=value, size=8)
+        return bytes(data)
 
 
 # A program header, by the names of its fields.
@@ -134,7 +137,7 @@ def contents(layout: Layout):
     symbols = layout.symbol(0, 0, 0, 0) + b"".join(
         layout.symbol(place, 0x12 + 0x10 * (k % 2), (1, 2, 0xfff1, 0xffff, 3, 0)[k], 0x1000 + k, k % 4)
         for k, place in enumerate(places))
-    entry = 24 if wide else 16
+    entry = layout.symbol_size
     note = layout.words(4, 20, 3) + b"GNU\0" + bytes(range(20)) + layout.words(5, 3, 1) + b"LINK\0\0\0\0abc\0"
     big = 32 if wide else 8
     relocations = [(0x10, 1 << big | 7, 5), (0x20, 2 << big | 255, 2**31)]

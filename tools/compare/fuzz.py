@@ -8,12 +8,12 @@ File K of a seed is `damage.damaged(S, K)`; the long files of `long_files` come 
 import os
 import pathlib
 import resource
-import subprocess
 import sys
 import tempfile
 
 import damage
 from comparing import ROOT, Tally, parser_of
+from pages.sources import timed
 
 ROOM = 512 * 2**20
 SECONDS = 2.0
@@ -23,17 +23,6 @@ GIVEN_UP = 60
 SLOW = ", where the check without memory takes buckets and symbols times chains"
 # So many files at once go to elfanswers.
 AT_ONCE = 50
-
-
-def run(program, paths, room):
-    """The status, what was written and the seconds that a processor took."""
-    limit = lambda: resource.setrlimit(resource.RLIMIT_CPU, (GIVEN_UP, GIVEN_UP))
-    with open(f"{room}/output", "w+b") as output:
-        with subprocess.Popen([program, *paths], env={}, stdout=output, stderr=output, preexec_fn=limit) as started:
-            _, status, used = os.wait4(started.pid, 0)
-            started.returncode = os.waitstatus_to_exitcode(status)
-        output.seek(0)
-        return started.returncode, output.read(), used.ru_utime + used.ru_stime
 
 
 def hash_file(count, buckets, last=0, words=()) -> bytes:
@@ -75,7 +64,7 @@ class Fuzzing(Tally):
 
     def check(self, program, names, paths):
         """Runs each build on these files at once, and each of them alone where something isn't as it must."""
-        ends = [run(it, paths, self.room) for it in self.programs[program]]
+        ends = [timed([it, *paths], GIVEN_UP, env={}) for it in self.programs[program]]
         if not ends:
             return
         worst = ends[0][2]

@@ -32,15 +32,8 @@ COMPILED = (("libw", ()), ("libv", ("libw.so",)))
 
 # The flag DF_SYMBOLIC of the entry DT_FLAGS.
 FLAGS, SYMBOLIC = 30, 2
-VERSYM, VERDEF, VERDEFNUM, VERNEED, VERNEEDNUM = 0x6FFFFFF0, 0x6FFFFFFC, 0x6FFFFFFD, 0x6FFFFFFE, 0x6FFFFFFF
-
-# A tag that the linker doesn't read.
-UNREAD = 0x6FFFFEF0
-
-# The size of a symbol, the form of its fields, which of them are the name, the information, the visibility, the section index and the
-# value, and where the last four are: in class 64, and in class 32.
-Symbols = namedtuple("Symbols", "size form order info other section value")
-SYMBOLS = {True: Symbols(24, "IBBHQ", (0, 1, 2, 3, 4), 4, 5, 6, 8), False: Symbols(16, "IIIBBH", (0, 3, 4, 5, 1), 12, 13, 14, 4)}
+# Tags of versions, and one that the linker doesn't read.
+VERSYM, VERDEF, VERDEFNUM, VERNEED, VERNEEDNUM, UNREAD = 0x6FFFFFF0, 0x6FFFFFFC, 0x6FFFFFFD, 0x6FFFFFFE, 0x6FFFFFFF, 0x6FFFFEF0
 
 # A number at a place of a file, its size in bytes, and what it becomes.
 Change = namedtuple("Change", "what place size number")
@@ -51,7 +44,7 @@ class Object(Headers):
 
     def __init__(self, content: bytes) -> None:
         super().__init__(content)
-        self.width, self.of_symbol = 8 if self.layout.wide else 4, SYMBOLS[self.layout.wide]
+        self.width = 8 if self.layout.wide else 4
         self.loads = [it for it in self.program_headers() if it.type == LOAD]
         entries = self.dynamic()
         end = next((index for index, (_, tag, _) in enumerate(entries) if tag == 0), len(entries))
@@ -62,13 +55,10 @@ class Object(Headers):
         self.spare = spare[0] if len(spare) == 2 else 0
         self.strings, self.symbols = self.offset(5), self.offset(6)
         # GNU ld puts the strings behind the symbols.
-        self.count = (self.strings - self.symbols) // self.of_symbol.size
-
-    def fields(self, form: str, place: int) -> tuple[int, ...]:
-        return struct.unpack_from("<" + form, self.content, place)
+        self.count = (self.strings - self.symbols) // self.layout.symbol_size
 
     def number(self, place: int, form: str = "I") -> int:
-        return self.fields(form, place)[0]
+        return self.layout.get(self.content, place, (0, form))
 
     def offset(self, tag: int) -> int:
         """The offset in the file of the address that an entry has, or 0."""
@@ -81,9 +71,9 @@ class Object(Headers):
 
     def symbol(self, index: int) -> tuple[str, int, int, int, int]:
         """The name, the information, the visibility, the section index and the value of a symbol."""
-        read = self.fields(self.of_symbol.form, self.symbols + self.of_symbol.size * index)
-        name, *fields = (read[place] for place in self.of_symbol.order)
-        return self.text(name), *fields
+        place, fields = self.symbols + self.layout.symbol_size * index, ("name", "info", "other", "section", "value")
+        name, *numbers = (self.layout.get(self.content, place, self.layout.of_symbol[it]) for it in fields)
+        return self.text(name), *numbers
 
     def names_with(self, test: Callable[[int], bool]) -> set[str]:
         """The names of the symbols whose information passes a test."""
@@ -128,16 +118,16 @@ class Object(Headers):
 def change_of_symbol(held: Object, chance: random.Random, kinds: list[int]) -> Change:
     index = chance.randrange(1, held.count)
     name, info, other, _, value = held.symbol(index)
-    of_symbol, place = held.of_symbol, held.symbols + held.of_symbol.size * index
     what = chance.choice(("type", "binding", "visibility", "section", "value"))
-    at, size, number = {
-        "type": lambda: (of_symbol.info, 1, info // 16 * 16 + chance.choice(kinds)),
-        "binding": lambda: (of_symbol.info, 1, chance.choice((0, 1, 2, 3, 10, 13)) * 16 + info % 16),
-        "visibility": lambda: (of_symbol.other, 1, other // 4 * 4 + chance.randrange(4)),
-        "section": lambda: (of_symbol.section, 2, chance.choice((0, 1, 5, 0xFFF1, 0xFFF2))),
-        "value": lambda: (of_symbol.value, held.width, chance.choice((0, value, value + 4))),
+    field, number = {
+        "type": lambda: ("info", info // 16 * 16 + chance.choice(kinds)),
+        "binding": lambda: ("info", chance.choice((0, 1, 2, 3, 10, 13)) * 16 + info % 16),
+        "visibility": lambda: ("other", other // 4 * 4 + chance.randrange(4)),
+        "section": lambda: ("section", chance.choice((0, 1, 5, 0xFFF1, 0xFFF2))),
+        "value": lambda: ("value", chance.choice((0, value, value + 4))),
     }[what]()
-    return Change(f"{what} of {name}", place + at, size, number)
+    at, letter = held.layout.of_symbol[field]
+    return Change(f"{what} of {name}", held.symbols + held.layout.symbol_size * index + at, struct.calcsize(letter), number)
 
 
 def change_of_version(held: Object, chance: random.Random) -> Change:

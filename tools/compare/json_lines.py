@@ -11,11 +11,8 @@ import re
 import sys
 from typing import Callable
 
-from comparing import CONTROLS, Tally, compare_all, dynamic_symbols, first_differing, run
+from comparing import AT_ONCE, CONTROLS, Tally, compare_all, dynamic_symbols, first_differing, run
 from processes import linker_of
-
-# How many names are asked for in one run.
-MOST = 300
 
 
 def symbol_text(it: dict) -> str:
@@ -147,7 +144,7 @@ def compare_lines(tally: Tally, path: str, program: str, *words: str, text_of: C
 def compare(path: str, elfsym: str, elfbind: str, elfload: str, elftree: str, elfaddr: str, tally: Tally) -> None:
     tally["files"] += 1
     symbols = dynamic_symbols(path)
-    names = list(dict.fromkeys(it.name + (f"@{it.version}" if it.version else "") for it in symbols if it.name))[:MOST]
+    names = list(dict.fromkeys(it.name + (f"@{it.version}" if it.version else "") for it in symbols if it.name))[:AT_ONCE]
     compare_lines(tally, path, elfsym, "--needed", path)
     if names:
         compare_lines(tally, path, elfsym, path, *names, "\"absent\"\\\n")
@@ -160,7 +157,7 @@ def compare(path: str, elfsym: str, elfbind: str, elfload: str, elftree: str, el
     for option in ("--start", "--list"):
         compare_lines(tally, path, elftree, option, path)
     for option in ([], ["--dynamic"]):
-        compare_lines(tally, path, elfaddr, *option, path, *(f"{it.value + it.size // 2:x}" for it in symbols[:MOST]), "1000", "ffffffff")
+        compare_lines(tally, path, elfaddr, *option, path, *(f"{it.value + it.size // 2:x}" for it in symbols[:AT_ONCE]), "1000", "ffffffff")
 
 
 if __name__ == "__main__":

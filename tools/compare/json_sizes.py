@@ -5,8 +5,8 @@
 """
 import sys
 
-from comparing import CONTROLS, ROOT, Tally, compare_all
-from json_lines import compare_lines
+from comparing import ROOT, Tally, compare_all
+from json_lines import compare_lines, name_text
 
 # What a file is compared with by --diff.
 OTHER = str(ROOT / "crates/elfaddr/data/places.so")
@@ -14,9 +14,8 @@ OTHER = str(ROOT / "crates/elfaddr/data/places.so")
 
 def part_of(row: dict) -> str:
     """A kind of parts, with the index and the name of one, which is in hexadecimal digits where it isn't UTF-8."""
-    name = bytes.fromhex(row["name_bytes"]).decode("utf-8", "surrogateescape") if "name_bytes" in row else row["name"]
-    parts = [row["kind"], *([] if row["index"] is None else [str(row["index"])]), *([] if name is None else [name.translate(CONTROLS)])]
-    return " ".join(parts)
+    index, name = (f" {row['index']}" if row["index"] is not None else ""), ("" if row.get("name", "") is None else f" {name_text(row, 'name')}")
+    return row["kind"] + index + name
 
 
 def sizes_text(rows: list) -> str:

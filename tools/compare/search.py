@@ -7,7 +7,9 @@ Each dynamically linked program and library among the files, and in the folders 
 libraries and runs nothing (LD_TRACE_LOADED_OBJECTS). --trees N makes N trees of small programs and libraries, at random from the
 seed: with RPATH, RUNPATH, tokens, links, other classes, sonames of other files, filters, versions, damaged headers, and a cache, of
 which half are damaged. Their ld.so is a copy that reads this cache. A program that misses nothing is also run, for the order of
-initialisers (LD_DEBUG=files). Where ld.so crashes or trips over an assertion of its own, the tree is counted, and not compared.
+initialisers and finalisers (LD_DEBUG=files). Where ld.so crashes or trips over an assertion of its own, the tree is counted, and not
+compared. The versions that `ldd -v` doesn't find are compared too, and where lddtree of pax-utils is installed, the libraries of each
+eighth file of the system, without links, since it searches the folders of /etc/ld.so.conf and no cache.
 """
 import os
 import pathlib
@@ -28,30 +30,42 @@ NEEDED, SONAME, RPATH, RUNPATH, FLAGS_1, VERDEF, VERNEED, AUXILIARY, FILTER = 1,
 INITFIRST, NODEFLIB, PIE = 0x20, 0x800, 0x8000000
 LINKERS = {62: "/lib64/ld-linux-x86-64.so.2", 3: "/lib/ld-linux.so.2"}
 LISTED = re.compile(r"^\t(?:(.*) => )?(.*?)(?: \(0x[0-9a-f]+\))?$", re.M)
+LDDTREE = ["/usr/bin/python3", "/usr/bin/lddtree", "-l"] if os.path.exists("/usr/bin/lddtree") else []
 LONGEST = 30.0
 # Runs a program, and lists the files that it asks for, with the bytes of their names in hexadecimal.
 STRACE = ["strace", "-qq", "-xx", "-s", "9999", "-e", "trace=stat,newfstatat,statx", "-o"] if shutil.which("strace") and can_trace() else []
 
 # What becomes of a program: its objects in the order of the scope, missing names, messages of versions, paths in the order of their
-# initialisers, the error that ends all, and the paths tried for names without a slash, if these are known.
-Tree = namedtuple("Tree", "paths missing messages starts error tried")
+# initialisers and of their finalisers, the error that ends all, the paths tried for names without a slash, if these are known, and the
+# versions that are missing, each with the object that needs it.
+Tree = namedtuple("Tree", "paths missing messages starts ends error tried versions", defaults=((), ()))
+
+
+def versions_of(messages: list, rows: list) -> list:
+    """Missing versions, each with the object that needs it, but of objects that a message says get a library without versions."""
+    plain = {it[1] for line in messages if (it := re.search(r"no version information available \(required by (.*)\)$", line))}
+    return sorted({row for row in rows if row[0] not in plain})
 
 
 def linker_said(command: list, **variables: str):
     """What ld.so says of a program; None where it crashes or has nothing to list."""
-    done = run(command, LD_TRACE_LOADED_OBJECTS="1", LD_DEBUG="libs", **variables)
+    done = run(command, LD_TRACE_LOADED_OBJECTS="1", LD_VERBOSE="1", LD_DEBUG="libs", **variables)
+    output, _, listing = done.output.partition("\n\tVersion information:\n")
     # elftree opens no path that is empty, as one of a cache may be, or no UTF-8.
     tried = re.findall(r"^ *\d+:\t  trying file=([^\udc80-\udcff\n]+)$", done.errors, re.M)
     said = re.findall(r"^(?! *\d+:\t)[^:\n]*: (.*)$", done.errors, re.M)
     prefix = "error while loading shared libraries: "
     error = next((it.removeprefix(prefix) for it in said if it.startswith(prefix)), None)
-    if done.status < 0 or "Assertion" in done.errors or "Inconsistency" in done.errors or done.output == "\tstatically linked\n":
+    if done.status < 0 or "Assertion" in done.errors or "Inconsistency" in done.errors or output == "\tstatically linked\n":
         return None
     if error is not None:
-        return Tree([], [], [], [], re.sub(r": (?:Error \d+|Is a directory)$", "", error), tried)
-    rows = [(name, it) for name, it in LISTED.findall(done.output) if not re.match(r"linux-(?:vdso|gate)\.so", it)]
+        return Tree([], [], [], [], [], re.sub(r": (?:Error \d+|Is a directory)$", "", error), tried)
+    rows = [(name, it) for name, it in LISTED.findall(output) if not re.match(r"linux-(?:vdso|gate)\.so", it)]
     paths = [it for name, it in rows if it != "not found" or not name]
-    return Tree(paths, sorted(name for name, it in rows if it == "not found" and name), said, [], None, tried)
+    missing = sorted(name for name, it in rows if it == "not found" and name)
+    lacking = [(path, version) for path, part in re.findall(r"^\t(\S.*):\n((?:\t\t.*\n)*)", listing, re.M)
+               for file, version in re.findall(r"^\t\t(.*) \((.*?)\) (?:\[WEAK\] )?=> not found$", part, re.M) if file not in missing]
+    return Tree(paths, missing, said, [], [], None, tried, versions_of(said, lacking))
 
 
 def elftree_said(elftree: str, path: str, linker: str, *options: str) -> Tree:
@@ -66,12 +80,13 @@ def elftree_said(elftree: str, path: str, linker: str, *options: str) -> Tree:
     asked = ["", *asked[asked.index(linker) + 1 :]] if linker in asked else []
     tried = [it for before, it in zip(asked, asked[1:]) if it not in named and not re.search("//[^/]*$", it) and it != os.path.dirname(before)]
     if done.status == 1 and not lines:
-        return Tree([], [], [], [], done.errors.rstrip("\n").removeprefix("elftree: "), tried)
+        return Tree([], [], [], [], [], done.errors.rstrip("\n").removeprefix("elftree: "), tried)
     found = sorted((int(it[2]), it[1]) for line in lines if (it := re.match(r" +.* => (.*) \([\w, -]+\) #(\d+)$", line)))
     missing = [it[1] for line in lines if (it := re.match(r" +(.*) => not found(?: \(auxiliary\))?$", line))]
     starts = [line.removeprefix("start ") for line in lines if line.startswith("start ")]
     messages = [line for line in lines[1:] if not line.startswith((" ", "start "))]
-    return Tree([it for _, it in found], sorted(missing), messages, starts, None, tried)
+    lacking = [it[::-1] for it in re.findall(r"version `(.*)' not found \(required by (.*)\)$", "\n".join(messages), re.M)]
+    return Tree([it for _, it in found], sorted(missing), messages, starts, [], None, tried, versions_of(messages, lacking))
 
 
 def tried_of(asked: list) -> list:
@@ -116,8 +131,13 @@ def compare_file(path: str, elftree: str, tally: Tally) -> None:
         tally["that are static or aren't loaded"] += 1
         return
     says = elftree_said(elftree, path, linker_of(path) or LINKERS[machine])
-    compare(path, wanted, says, tally, "paths", "missing", "messages", "error", "tried")
+    compare(path, wanted, says, tally, "paths", "missing", "messages", "error", "tried", "versions")
     tally["objects"] += len(wanted.paths)
+    if LDDTREE and machine == 62 and tally["files"] % 8 == 1 and not (wanted.missing or wanted.error):
+        ours, theirs = ({os.path.realpath(it) for it in some} for some in (says.paths, run([*LDDTREE, path]).output.split("\n")[1:-1]))
+        tally["files with lddtree"] += 1
+        if ours != theirs:
+            tally.fault(f"{path}: elftree alone has {sorted(ours - theirs)}, lddtree alone {sorted(theirs - ours)}")
 
 
 # Runs what it gets in rdx, which is the finalisers, and ends.
@@ -292,16 +312,22 @@ def compare_tree(forest: Forest, number: int, elftree: str, tally: Tally) -> Non
         tally["trees with a cache that isn't in order" if wanted else "trees in which ld.so ends itself"] += 1
         return
     library_path = ["--library-path", variables["LD_LIBRARY_PATH"]] if variables.get("LD_LIBRARY_PATH") else []
-    says, names = elftree_said(elftree, path, forest.linker, "--cache", forest.cache, *library_path), ["paths", "missing", "messages", "error", "tried"]
+    says, names = elftree_said(elftree, path, forest.linker, "--cache", forest.cache, *library_path), ["paths", "missing", "messages", "error", "tried", "versions"]
     if not (wanted.missing or wanted.error or any("`" in it and "weak" not in it for it in wanted.messages)):
         done = run([path], LD_DEBUG="files", **variables)
         if done.status == 0:
-            wanted, names = wanted._replace(starts=re.findall(r"^ *\d+:\tcalling init: (\S.*?)(?: \[0\])?$", done.errors, re.M)), [*names, "starts"]
+            ran = lambda what: re.findall(rf"^ *\d+:\tcalling {what}: (\S.*?)(?: \[0\])?$", done.errors, re.M)
+            # Finalisers run in the reverse order, but for libraries with INITFIRST, which elftree tells in the order of initialisers alone.
+            ends = lambda paths: [it for it in paths if struct.pack("<QQ", FLAGS_1, INITFIRST) not in pathlib.Path(it).read_bytes()]
+            wanted, says = wanted._replace(starts=ran("init"), ends=ends(ran("fini"))), says._replace(ends=ends(says.starts[::-1]))
+            names += ["starts", "ends"]
             tally["initialisers"] += len(wanted.starts)
+            tally["finalisers"] += len(wanted.ends)
     compare(f"tree {number}", wanted, says, tally, *names)
     tally["objects of trees"] += len(wanted.paths)
     tally["missing names"] += len(wanted.missing)
     tally["messages"] += len(wanted.messages)
+    tally["missing versions"] += len(wanted.versions)
     tally["errors"] += wanted.error is not None
 
 

@@ -212,8 +212,7 @@ def compare_names(path: str, names: dict[str, str], tally: Tally) -> None:
             tally.differ(path, f"name of section {section['Index']}", own, name)
 
 
-def beside_definition(path: str, sizes: dict[str, int], content: bytes, tally: Tally, by_symbols: bool = False) -> None:
-    definition = Definition(content)
+def beside_definition(path: str, sizes: dict[str, int], definition: Definition, tally: Tally, by_symbols: bool = False) -> None:
     if len(definition.sections) + len(definition.segments) > MOST_PARTS:
         tally["files too large for the definition"] += 1
         return
@@ -226,8 +225,8 @@ def beside_definition(path: str, sizes: dict[str, int], content: bytes, tally: T
         tally[f"bytes of {part.split(' ')[0] + 's' if part[-1].isdigit() else part}"] += size
 
 
-def beside_readelf(path: str, sizes: dict[str, int], content: bytes, tally: Tally) -> None:
-    sections = Definition(content).sections
+def beside_readelf(path: str, sizes: dict[str, int], definition: Definition, tally: Tally) -> None:
+    sections = definition.sections
     for index, kind, text in HEADER.findall(run(["readelf", "-SW", "--", path]).output):
         size, own = int(text, 16), sizes.get(f"section {int(index)}", 0)
         part = sections[int(index)] if int(index) < len(sections) else Part("", 0, 0)
@@ -243,9 +242,8 @@ def beside_readelf(path: str, sizes: dict[str, int], content: bytes, tally: Tall
             tally.differ(path, f"section {index}", own, size)
 
 
-def beside_nm(path: str, sizes: dict[str, int], content: bytes, tally: Tally) -> None:
+def beside_nm(path: str, sizes: dict[str, int], definition: Definition, tally: Tally) -> None:
     """The sizes of symbols beside those of nm, whose aliases are taken out."""
-    definition = Definition(content)
     told = collections.Counter((int(value, 16), int(size, 16)) for value, size in SIZED.findall(run(["nm", "-S", "--", path]).output))
     tally["symbols of nm"] += sum(told.values())
     tally["bytes of these symbols"] += sum(size * count for (_, size), count in told.items())
@@ -289,8 +287,9 @@ def compare(path: str, program: str, by_symbols: bool, tally: Tally) -> None:
     found = sizes_of(path, program, len(content), tally, *(["--no-debug", "--symbols"] if by_symbols else []))
     if found is not None:
         tally["files"] += 1
-        beside_definition(path, found.sizes, content, tally, by_symbols)
-        (beside_nm if by_symbols else beside_readelf)(path, found.sizes, content, tally)
+        definition = Definition(content)
+        beside_definition(path, found.sizes, definition, tally, by_symbols)
+        (beside_nm if by_symbols else beside_readelf)(path, found.sizes, definition, tally)
         compare_names(path, found.names, tally)
 
 
@@ -307,7 +306,7 @@ def compare_damaged(program: str, count: int, seed: int, tally: Tally) -> None:
                 continue
             found = sizes_of(path, program, len(content), tally)
             if found is not None:
-                beside_definition(f"damaged file {index}", found.sizes, content, tally)
+                beside_definition(f"damaged file {index}", found.sizes, Definition(content), tally)
 
 
 if __name__ == "__main__":

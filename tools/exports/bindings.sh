@@ -99,10 +99,7 @@ for program in "$room"/{nm_c,find_c,dynamic_c,addresses_c,sizes_c,nm_g++,dump,me
         { echo "$program doesn't name its path"; exit 1; }
 done
 # The mappings of a program beside those of its process, in which those of zeros have no path; and an address in no symbol.
-echo '#include <stdio.h>
-int numbers[40000];
-int main(void) { FILE *maps = fopen("/proc/self/maps", "r"); int it; while ((it = getc(maps)) != EOF) putchar(it); return numbers[0]; }' |
-    gcc -x c - -o "$room/mapped" -Wl,-z,norelro
+gcc tools/compare/sources/mapped.c -o "$room/mapped" -Wl,-z,norelro
 mapped() {
     local base="" range rights offset
     "$room/mapped" | grep "$1\$" | while read -r range rights offset _; do
@@ -129,10 +126,8 @@ echo 'int one(void) { return 1; }' |
 # The tables of both classes and both orders, with and without addends, packed ones too, and notes of both classes.
 tables=()
 if command -v clang > /dev/null && command -v ld.lld > /dev/null; then
-    echo 'int f(int); int x, *a[] = {&x}; static int w[40], *s[] = {w, w + 1, w + 30};
-        int g(int b) { return f(b) + *a[b] + *s[b]; }' > "$room/tables.c"
     for machine in i386 x86_64 powerpc powerpc64; do
-        clang "--target=$machine-linux-gnu" -fPIC -c "$room/tables.c" -o "$room/tables.o"
+        clang "--target=$machine-linux-gnu" -fPIC -c tools/compare/sources/tables.c -o "$room/tables.o"
         ld.lld -shared --build-id --pack-dyn-relocs=relr "$room/tables.o" -o "$room/tables_$machine.so"
         tables+=("$room/tables_$machine.so")
     done
@@ -158,10 +153,8 @@ done
 objcopy --only-keep-debug "$room/every_gcc" "$room/every.debug"
 objcopy --strip-all --add-gnu-debuglink="$room/every.debug" "$room/every_gcc" "$room/every_stripped"
 "$room/differences" --debug "$room/every_stripped" "$room" | grep -q '/every.debug: debug file$'
-for example in c cpp; do
-    compiler=gcc; [ $example = cpp ] && compiler=g++
-    "$compiler" "${strict[@]}" -Ibindings/include "bindings/examples/symbols.$example" "$archive" -o "$room/symbols_$example"
-done
+gcc "${strict[@]}" bindings/examples/symbols.c "$archive" -o "$room/symbols_c"
+g++ "${strict[@]}" bindings/examples/symbols.cpp "$archive" -o "$room/symbols_cpp"
 gcc -std=c11 "${strict[@]}" bindings/examples/loads.c "$archive" -o "$room/loads_c"
 # Tasks of new users beside the tools that they know, and over files of which parts are missing.
 bindings/c/tests/tasks.py "$room"

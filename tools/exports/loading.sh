@@ -17,9 +17,7 @@ beside() {
     cmp "$room/wanted" "$room/found" && [ "$wanted" = "$found" ] || { echo "$*: status $found, by the system $wanted"; exit 1; }
 }
 
-echo '#include <stdio.h>
-__thread int count = 40;
-int main(int argc, char **argv) { printf("%d %s\n", argc, argv[0]); return count + 2; }' | gcc -O2 -static-pie -fPIE -x c - -o "$room/static"
+gcc -O2 -static-pie -fPIE ../../tools/compare/sources/storage.c -o "$room/static"
 beside "$room/static"
 freestanding=(-O1 -ffreestanding -fno-stack-protector -nostdlib)
 gcc "${freestanding[@]}" -fPIC -shared loaded_library.c -o "$room/libloaded.so"

@@ -16,11 +16,10 @@ changed="$(git status --porcelain)"
 # Only what is in the folder of a release before may go.
 [ ! -e "$folder" ] || [ -e "$folder/SHA256SUMS" ] || { echo "$folder is there, and isn't a release" >&2; exit 1; }
 version="$(sed -n 's/^version = "\(.*\)"/\1/p' bindings/rust/Cargo.toml)"
-grep -qx "version = \"$version\"" bindings/python/pyproject.toml || { echo "the crate and the wheel differ in their version" >&2; exit 1; }
-grep -qx "pub const VERSION: &str = \"$version\";" crates/program_ends/src/lib.rt ||
-    { echo "the crate and the programs differ in their version" >&2; exit 1; }
-grep -qx "#define XMAS_ELF_VERSION \"$version\"" bindings/include/xmas_elf.h ||
-    { echo "the crate and the header differ in their version" >&2; exit 1; }
+same_version() { grep -qx "$2" "$3" || { echo "the crate and $1 differ in their version" >&2; exit 1; }; }
+same_version "the wheel" "version = \"$version\"" bindings/python/pyproject.toml
+same_version "the programs" "pub const VERSION: &str = \"$version\";" crates/program_ends/src/lib.rt
+same_version "the header" "#define XMAS_ELF_VERSION \"$version\"" bindings/include/xmas_elf.h
 # A draft may be without the programs.
 programs=yes
 tools/exports/debian.py --built || { [ -n "$draft" ] || exit 1; programs=""; echo "package: a draft without the Debian package" >&2; }

@@ -20,7 +20,9 @@ import sys
 import threading
 import time
 
-ROOT = pathlib.Path(__file__).resolve().parents[2]
+sys.path.insert(0, str(pathlib.Path(__file__).resolve().parents[1]))
+from pages.sources import ROOT, git, table_of
+
 PAGE, README = ROOT / "docs" / "GATE.md", ROOT / "README.md"
 NAMED_KIT = re.compile(r"(?<=whose `rt version` is\n\n        ).*")
 PLACE = re.compile(r"(?<=<!-- gate -->\n).*(?=\n<!-- /gate -->)", re.S)
@@ -32,14 +34,7 @@ TICKS = os.sysconf("SC_CLK_TCK")
 LOOKS = 0.5  # seconds between two looks
 SMALL = 120  # seconds: parts that take less have one row together
 
-TOOK = re.compile(r"^-- (.+): (\d+) s, (\d+) processor s$", re.M)
-PART = re.compile(r"^--   (proof|tests|must-fail|batches|rest) of (\S+): (\d+) processor s$", re.M)
-BATCHES = re.compile(r"^([\w-]+|the crates as they are): (\d+) processor seconds$", re.M)
-PAGES = re.compile(r"^-- huge pages: (\w+)$", re.M)
-DONE = re.compile(r"done in this run: (\d+ of the \d+) proofs")
-KIT = re.compile(r"^-- kit: (.*)$", re.M)
-MACHINE = re.compile(r"^-- (\d+) processors, (.*)$", re.M)
-TOTAL = re.compile(r"^\|\*\*total\*\*\|.*\|([\d.]+)\|$", re.M)
+TOOK, PART, BATCHES, PAGES, DONE, KIT, MACHINE, TOTAL = (re.compile(it, re.M) for it in table_of(__file__).values())
 KINDS = ("proof", "tests", "must-fail", "batches")
 HEAD = "|Part|proof|tests|must-fail|batches|together|\n|---|---:|---:|---:|---:|---:|"
 
@@ -109,12 +104,9 @@ def run(words: list) -> int:
     return started.returncode if started.returncode >= 0 else 1
 
 
-def said(*words: str) -> str:
-    return subprocess.run(words, cwd=ROOT, capture_output=True, text=True, check=False).stdout.strip()
-
-
 def kit_of(output: str) -> str:
-    return found[1] if (found := KIT.search(output)) else said("rt", "version")
+    """The kit that an output names, otherwise that of this machine."""
+    return found[1] if (found := KIT.search(output)) else subprocess.run(["rt", "version"], capture_output=True, text=True, check=False).stdout.strip()
 
 
 def minutes(seconds: float) -> str:
@@ -157,7 +149,7 @@ def measured(output: str) -> str:
     where = ", then ".join(f"{processors} processors" for processors, _ in machines) or "a machine"
     how = "in one run" if len(machines) < 2 else "in parts, one after the other"
     share = f" Of the proofs {done[1]} were done in this run; the others had been done on the machine before." if done else ""
-    commit, kit = said("git", "rev-parse", "--short", "HEAD"), kit_of(output).split(" ")[0]
+    commit, kit = git("rev-parse", "--short", "HEAD").strip(), kit_of(output).split(" ")[0]
     huge = f", with transparent huge pages `{pages[1]}`" if pages else ""
     took = f"{minutes(wall)} minutes, {how}{huge}; {kit}, {datetime.date.today()}."
     return f"Measured at {commit} by `.ci/run` on x86-64 with {where}: {took} The table lists processor minutes by part.{share}"
@@ -175,7 +167,7 @@ def write(paths) -> int:
 
 
 def check() -> int:
-    page, named, kit = PAGE.read_text(encoding="utf-8"), NAMED_KIT.search(README.read_text(encoding="utf-8"))[0], said("rt", "version")
+    page, named, kit = PAGE.read_text(encoding="utf-8"), NAMED_KIT.search(README.read_text(encoding="utf-8"))[0], kit_of("")
     if f"; {named.split(' ')[0]}, " not in page:
         print(f"README.md names the kit {named}, and docs/GATE.md was measured with another")
         return 1

@@ -6,38 +6,26 @@ import functools
 import os
 import pathlib
 import re
-import resource
 import shutil
-import subprocess
 import sys
 
 sys.path.insert(0, str(pathlib.Path(__file__).resolve().parents[1]))
 from gate import built
-from pages.sources import Crate, Function, table_of
+from pages.sources import Crate, Function, table_of, timed
 
 # The edits of one batch share what a check costs before the first goal. With more the check takes too long (LIMIT).
 BATCH = 60
 
-# Lines of a check: a goal that is open, and what is said of one that doesn't hold.
-NOTE = re.compile(r"note: (?:\./)?(src/\S+?):(\d+):\d+: it is not proved that (.*)")
-SAID = re.compile(r"(?:\./)?proofs/(\S+)/\w+\.antt:\d+:\d+: error: (.*)")
-# A proof that only cites a name which the edit took away says nothing of the contract.
-LOST = re.compile(r"has no field|is not in scope|has no `|was not admitted")
+# The proofs of the stand-ins, and what the lines of a check say.
+TEXTS = table_of(__file__)
+NOTE, SAID, LOST, CONTRACT, FAULT, REACHED, NO_FUNCTION = (re.compile(it, re.M) for it in TEXTS["says"].values())
 CLAUSE = re.compile(r"( +)(ensures|requires)(?: (\w+))? \{")
 # How many processor seconds the check of a batch may take, or that of one edit, and that of a whole crate with an edit.
 LIMIT, LIMIT_OF_WHOLE = 480, 1800
 
-# What is said of a goal of a contract or of an invariant.
-CONTRACT = re.compile(r"what the function ensures|the invariant of the loop|the loop's invariant")
 # A line with an error in a function's proof: where there is one, the check doesn't print the goals of the function that stay
 # open, which takes as long as it took to find them. That they are open is told all the same.
 UNPRINTED = "\nunprinted : ⊥\nunprinted = tt\n"
-# Lines of a check: an error of the front end, the last one, and a name that it doesn't know.
-FAULT = re.compile(r"(?:\./)?(src/\S+?):(\d+):\d+: error")
-REACHED = re.compile(r"^(?:logic=(proved|not-proved)|only=\d+ (?:proved|holes)=\d+$)", re.M)
-NO_FUNCTION = re.compile(r"^rattle: error: `\w+` has no function `(\S+)`", re.M)
-# The proofs of the stand-ins.
-TEXTS = table_of(__file__)
 
 
 @dataclasses.dataclass
@@ -249,15 +237,9 @@ def check(folder: pathlib.Path, *words: str, verb="check", keeps=True, limit=Non
         if not keeps:
             crate = next(it for it in kit().crates_below(str(folder.parent.parent)) if os.path.samefile(it.folder, folder))
             ran = [kit().RATTLE, verb, *crate.words(list(words), keeps=False)]
-    kept = {"stdout": subprocess.PIPE, "stderr": subprocess.STDOUT, "text": True, "errors": "replace"}
-    limited = limit and (lambda: resource.setrlimit(resource.RLIMIT_CPU, (limit, limit + 5)))
-    with subprocess.Popen(ran, cwd=folder, preexec_fn=limited, **kept) as started:
-        said = started.stdout.read()
-        _, status, used = os.wait4(started.pid, 0)
-        started.returncode = os.waitstatus_to_exitcode(status)
-    seconds = used.ru_utime + used.ru_stime
+    status, said, seconds = timed(ran, limit, cwd=folder, text=True, errors="replace")
     # A check that comes to its end has the status 0 or 1.
-    return Checked(said, started.returncode, seconds, bool(limit) and seconds > 0.95 * limit and started.returncode not in (0, 1))
+    return Checked(said, status, seconds, bool(limit) and seconds > 0.95 * limit and status not in (0, 1))
 
 
 def copied(source: str, place: str):

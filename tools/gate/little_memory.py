@@ -38,16 +38,11 @@ def program_of(row: dict) -> Program:
     return Program(row["name"], words, files, output_of(row["output"]), row["few"], options, begun)
 
 
-PROGRAMS = [program_of(it) for it in table_of(__file__)["programs"]]
+TABLE = table_of(__file__)
+PROGRAMS = [program_of(it) for it in TABLE["programs"]]
 
 # More calls of a kind than the program makes.
 MOST = 120
-
-# The calls that are failed: the one of a number, or all of the output from a number on; and whether each takes few bytes.
-WAYS = (
-    ("FAIL_MEMORY", False), ("FAIL_READ", False), ("FAIL_WRITE", False), ("FAIL_READ", True), ("FAIL_WRITE", True), ("FAIL_OUTPUT", True),
-)
-
 
 def run(built, program, room, **failing):
     """How the run ends whose call of this kind and number fails: status, output and error text."""
@@ -76,7 +71,7 @@ def unlike(built, program, room, name) -> int:
     """Prints how many calls were failed, and returns how many runs didn't end as they must."""
     texts = program.texts()
     whole, count = run(built, program, room), 0
-    for kind, is_few in WAYS:
+    for kind, is_few in TABLE["ways"]:
         few = dict(zip(("FEW_READ", "FEW_WRITE"), program.few)) if is_few else {}
         runs = (run(built, program, room, **{kind: number}, **few) for number in range(1, MOST))
         ends = list(itertools.takewhile(lambda end: end != whole, runs))

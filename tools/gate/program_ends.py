@@ -142,14 +142,18 @@ def words_of(text: str) -> list:
     return filled(text).decode().split()
 
 
+def latin(text: str) -> bytes:
+    """The bytes of a text of the table, where a character up to U+00FF is the byte of its number."""
+    return text.encode("latin-1")
+
+
 for name, row in TABLE.pop("replaced").items():
     TEXTS[name] = replaced(filled(row.pop("of")), {old.encode(): new.encode() for old, new in row.items()})
 for name, (old, new) in TABLE.pop("differences").items():
     TEXTS[name] = difference(filled(old), filled(new))
 
-# What is said of an argument that can't be read, whatever the program, and of two files with errors.
-UNREAD = {
-    "a missing path": "missing.elf", "a folder": "folder", "a file whose read fails": "/proc/self/mem", "a path like an option": "-h"}
+# The paths that can't be read, whatever the program; lines of a stack; odd names; and what is said of two files with errors.
+UNREAD, STACK, NAMES = (TABLE.pop(it) for it in ("unread", "stack", "names"))
 SHORT, NO_MAGIC = "File is shorter than the first ELF header part", "Did not find ELF magic number"
 
 
@@ -262,17 +266,9 @@ def long_ends(program, built, room):
         yield f"a long report, into a file of at most {limit} bytes", wanted, came
 
 
-# Lines of a stack, and what becomes of each.
-STACK = {
-    b"places.so(+0x206) [0x7f0206]\n": b"places.so(outer+0x0) [0x7f0206]\n", b"places.so 0x208\n": b"places.so inner+0x0\n",
-    **{line: line for line in (
-        b"places.so(outer+0x4) [0x1]\n", b"places.so(+0x20f) [0x1]\n", b"missing.so(+0x206) [0x1]\n", b"zeros.elf 0x0\n", b"\n",
-        b"text (in parentheses) and a number 206\n", b"\xff(+0x206)\n", b"places.so(+0x10000000000000000)\n", b"places.so(+0x)\n")},
-    b"./places.so(+0x2c8)\x01\n": b"./places.so(.data+0x8)\x01\n", b"places.so(+20a)": b"places.so(outer+0x4)"}
-
-
 def stack_ends(program, built, room):
-    yield "a stack", [0, b"".join(STACK.values()), b""], run(built, ["--stack"], room, b"".join(STACK))
+    lines, named = (b"".join(latin(row[at]) for row in STACK) for at in (0, -1))
+    yield "a stack", [0, named, b""], run(built, ["--stack"], room, lines)
 
 
 def debug_ends(program, built, room):
@@ -313,27 +309,20 @@ def unlike(program, built: pathlib.Path) -> int:
         return sum(is_unlike(built, *end) for ends in kinds for end in ends(program, built, room))
 
 
-# Names in files of the repository that get control characters and bytes that aren't UTF-8: by the program that prints them, its
-# words, the file, the option by which `readelf` in the C locale shows them, their new names, and what the program prints of the
-# file as it is kept.
-NAMES = (
-    ("elfnm", ["names.elf"], "elfnm/data/add.o", "-sSW", {b".data": b".\x01\x7f\xc3\xff", b".bss": b"\x1f\x80\xa9_",
-        b"twice": b"t\t\xfe\ne", b"total": b"\xc3\xa9\x02\x7f\x1b"}, data("elfnm/stdout")),
-    ("elfsym", ["--needed", "names.elf"], "elfsym/data/needs.so", "-dW", {b"libneed.so": b"l\x01\x1f\x7f\x80\xff\xc3\t\n."}, b"libneed.so\n"))
-
-
-def odd_names(name, words, file, option, names, kept, builds) -> int:
-    """Prints what `readelf` and each build of a program say of such names, and returns how often that isn't as it must be."""
+def odd_names(program, words, file, option, names, output, builds) -> int:
+    """Prints what `readelf` and each build of a program say of names with control characters and bytes that aren't UTF-8, and returns
+    how often that isn't as it must be."""
+    names = {latin(old): latin(new) for old, new in names.items()}
     # Of needed libraries `readelf` shows the bytes as they are, and elfnm prints them so.
-    shows, prints = (escaped, bytes) if name == "elfnm" else (bytes, escaped)
+    shows, prints = (escaped, bytes) if program == "elfnm" else (bytes, escaped)
     with tempfile.TemporaryDirectory() as room:
         changed = replaced(data(file), {old + b"\0": new + b"\0" for old, new in names.items()})
         pathlib.Path(room, "names.elf").write_bytes(changed)
         _, shown, _ = run("readelf", [option, "names.elf"], room, env={**os.environ, "LC_ALL": "C"})
         missing = [it for it in names.values() if shows(it) not in shown]
         count = is_unlike(pathlib.Path("readelf"), f"names in {file}", [], missing)
-        wanted = [0, replaced(kept, {old: prints(new) for old, new in names.items()}), b""]
-        return count + sum(is_unlike(built, f"names in {file}", wanted, run(built, words, room)) for built in builds)
+        wanted = [0, replaced(filled(output), {old: prints(new) for old, new in names.items()}), b""]
+        return count + sum(is_unlike(built, f"names in {file}", wanted, run(built, words.split(), room)) for built in builds)
 
 
 def builds_of(names: list[str]) -> dict[str, list[pathlib.Path]]:
@@ -349,5 +338,5 @@ def builds_of(names: list[str]) -> dict[str, list[pathlib.Path]]:
 if __name__ == "__main__":
     builds = builds_of([*(it.name for it in PROGRAMS), "elfnm"])
     count = sum(unlike(program, it) for program in PROGRAMS for it in builds[program.name])
-    count += sum(odd_names(*it, builds[it[0]]) for it in NAMES)
+    count += sum(odd_names(**row, builds=builds[row["program"]]) for row in NAMES)
     sys.exit(1 if count else 0)

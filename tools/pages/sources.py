@@ -9,8 +9,10 @@ has clauses. Also what scripts share that write files from the sources, and with
 """
 import argparse
 import collections
+import os
 import pathlib
 import re
+import resource
 import subprocess
 import tomllib
 
@@ -323,6 +325,16 @@ def differing(texts: dict, is_check: bool) -> list:
 def git(*words: str, check=True) -> str:
     """What git says of the repository."""
     return subprocess.run(["git", *words], cwd=ROOT, capture_output=True, text=True, check=check).stdout
+
+
+def timed(words: list, limit=None, **kept) -> tuple:
+    """The status of a command, what it wrote, and how many seconds a processor took; more than the limit end it."""
+    limited = limit and (lambda: resource.setrlimit(resource.RLIMIT_CPU, (limit, limit + 5)))
+    with subprocess.Popen(words, stdout=subprocess.PIPE, stderr=subprocess.STDOUT, preexec_fn=limited, **kept) as started:
+        said = started.stdout.read()
+        _, status, used = os.wait4(started.pid, 0)
+        started.returncode = os.waitstatus_to_exitcode(status)
+    return started.returncode, said, used.ru_utime + used.ru_stime
 
 
 def ended(faults: list, said: str) -> int:

@@ -1544,6 +1544,18 @@ class Status(IntEnum):
     """too few words for the objects."""
     SEARCH_NO_OBJECT = 521
     """no such object or entry."""
+    SEARCH_CACHE_ENTRY = 522
+    """key or value past the end of the cache."""
+    SEARCH_CACHE_NUMBER = 523
+    """number in a key of the cache is too large."""
+    SEARCH_CACHE_ENTRY_ORDER = 524
+    """entries of the cache are not in order."""
+    SEARCH_CACHE_EXTENSION = 525
+    """extension of the cache is damaged."""
+    SEARCH_HWCAPS_NAME = 526
+    """name of hwcaps past the end of the cache."""
+    SEARCH_HWCAPS_ORDER = 527
+    """names of hwcaps are not in order."""
     SEARCH_NO_PROVIDER = 530
     """file of a need of versions is no object."""
 

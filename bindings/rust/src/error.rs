@@ -312,6 +312,18 @@ pub enum Error {
     SearchFewWords,
     /// no such object or entry.
     SearchNoObject,
+    /// key or value past the end of the cache.
+    SearchCacheEntry,
+    /// number in a key of the cache is too large.
+    SearchCacheNumber,
+    /// entries of the cache are not in order.
+    SearchCacheEntryOrder,
+    /// extension of the cache is damaged.
+    SearchCacheExtension,
+    /// name of hwcaps past the end of the cache.
+    SearchHwcapsName,
+    /// names of hwcaps are not in order.
+    SearchHwcapsOrder,
     /// file of a need of versions is no object.
     SearchNoProvider,
     /// A status that this crate doesn't know: the archive is of another version.
@@ -476,6 +488,12 @@ impl Error {
             519 => Error::SearchCacheOrder,
             520 => Error::SearchFewWords,
             521 => Error::SearchNoObject,
+            522 => Error::SearchCacheEntry,
+            523 => Error::SearchCacheNumber,
+            524 => Error::SearchCacheEntryOrder,
+            525 => Error::SearchCacheExtension,
+            526 => Error::SearchHwcapsName,
+            527 => Error::SearchHwcapsOrder,
             530 => Error::SearchNoProvider,
             other => Error::Unknown(other),
         }
@@ -638,6 +656,12 @@ impl Error {
             Error::SearchCacheOrder => 519,
             Error::SearchFewWords => 520,
             Error::SearchNoObject => 521,
+            Error::SearchCacheEntry => 522,
+            Error::SearchCacheNumber => 523,
+            Error::SearchCacheEntryOrder => 524,
+            Error::SearchCacheExtension => 525,
+            Error::SearchHwcapsName => 526,
+            Error::SearchHwcapsOrder => 527,
             Error::SearchNoProvider => 530,
             Error::Unknown(status) => *status,
         }

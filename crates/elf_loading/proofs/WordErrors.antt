@@ -15,7 +15,7 @@ use Rattle.elf_loading.specs.Plan.{plan_loads}
 use Rattle.elf_loading.specs.Relocate.{is_wrong_size, sized_relocations, sources_of}
 use Rattle.elf_loading.specs.WordErrors.{IsCheckError, IsFirstError, IsFirstUnchecked, IsFirstUnwritten, IsImageError, IsRelocationError, IsRelocationErrorIn, error_of_none}
 use Rattle.elf_loading.specs.Words.{HasWord, binds_lazily}
-use Rattle.elf_loading.specs.WordsLeft.{HasWordOf, own_relocations, relocations_left, words_file, words_own}
+use Rattle.elf_loading.specs.WordsLeft.{HasWordOf, own_relocations, relocations_left, words_own}
 use Rattle.elf_loading.specs.declared.error.LoadError.TheVariants.{Link}
 use Rattle.elf_loading.specs.declared.plan.LoadPlan.{LoadPlan}
 use Rattle.elf_loading.specs.declared.relocate.Sources.{Sources}
@@ -66,7 +66,7 @@ module _ {E : Type 0} {r : _} (size : ℕ) (fields : E → SymbolFields) (object
   error_of_words words text tables (Ok done) begun text_is tables_are is = tt
   error_of_words words text tables (Err found) begun text_is tables_are is =
       let own_same : words_own words ≡ own = same_Some _ _ (sym begun.words_are.own_is ∙ own_is) in
-      let file_same : words_file words ≡ object_file own = begun.words_are.file_is ∙ ap object_file own_same in
+      let file_same : words.file ≡ object_file own = begun.words_are.file_is ∙ ap object_file own_same in
       let Has = HasWord fields objects.now (object_file own) own of false in
       let first : IsFirstUnchecked Has (plan_loads plan) text tables (relocations_left words) found = first_weaker (HasWordOf fields words) Has _ _ (relocations_left words) found
       (λ item has. has_word_same fields item _ _ _ _ _ _ _ _ _ _ (ap (λ o. o.now) begun.words_are.objects_are) file_same own_same begun.words_are.index_is begun.words_are.lazy_is has) is in

@@ -1,23 +1,23 @@
 -- The words that are written so far.
-use Rattle.std.proofs.Common.{◌≡◌, ℕ, ◌+◌, ◌-◌, ◌^◌, ◌++◌, Bool, true, false, List, [], ◌∷◌, length, map, slice_index, Result, Ok, Err, if◌then◌else◌, cond, refl, sym, ap, ◌∙◌, subst, arith, append_assoc, append-nil, ◌==◌, ◌&&◌, not, Option, Some, None, MatchOption, MatchResult}
+use Rattle.std.proofs.Common.{◌≡◌, ℕ, ◌+◌, ◌-◌, ◌^◌, ◌++◌, Bool, true, false, List, [], ◌∷◌, length, map, slice_index, Result, Ok, Err, if◌then◌else◌, cond, refl, sym, ap, ◌∙◌, subst, arith, append_assoc, append-nil, length-append, ◌==◌, ◌&&◌, not, Option, Some, None, MatchOption, MatchResult}
 use Rattle.std.proofs.lemmas.Option.{slice_get-get_or}
 use Rattle.std.specs.Borrow.{Bor}
 use Rattle.std.specs.Slice.{IsItemAt}
-use Rattle.std.specs.Prelude.{IsOk, min, slice_get, IfErr, IfOk}
+use Rattle.std.specs.Prelude.{All, IsOk, ◌<◌, min, slice_get, IfErr, IfOk, IfSome}
 use Rattle.std.specs.List.{count_by, find}
 use Rattle.std.proofs.lemmas.List.{map-append}
 use Rattle.std.proofs.lemmas.List.Elements.{All-append, All-cons, All-nil}
 use Rattle.std.proofs.lemmas.List.Sums.{sum_by-append}
 use Rattle.elf_base.specs.FirstError.{and_then, unless}
 use Rattle.elf_base.specs.FileHeader.{file_order}
-use Rattle.elf_loading.specs.Types.{Binding, DynamicObject, ElfFile, LoadError, Order, Place, Relocated, Relocation, Word, Asked, Bound, LinkError, Reference, Row}
+use Rattle.elf_loading.specs.Types.{Binding, DynamicObject, ElfFile, LoadError, Order, Place, Records, Relocated, Relocation, Word, Asked, Bound, LinkError, Reference, Row}
 use Rattle.elf_linking.specs.DynamicObject.{object_file, object_view, object_records}
 use Rattle.elf_linking.specs.DynamicView.{view_entries}
 use Rattle.elf_linking.specs.declared.error.LinkError.TheVariants.{ObjectIndex}
 use Rattle.elf_loading.specs.Relocate.{AreWordsFor, AreItemsWritten, IsRelocation, IsRelocationIn, IsWriting, all, has_no_number, is_copy_outside, is_outside, is_unresolved, is_wrong_size, lacks_number, relocated_byte, sized_relocations, some, sources_of, image_start, word_byte, write_item, write_word}
 use Rattle.elf_loading.specs.WordErrors.{IsFirstUnwritten}
 use Rattle.elf_loading.specs.Words.{HasWord, binds_lazily, IsBoundIf, formula_word, is_bound_at_once, is_later, needs_symbol, formula_has_symbol, word_of}
-use Rattle.elf_loading.specs.WordsLeft.{HasWordOf, IsSame, relocation_of, words_lazy, own_relocations, words_own}
+use Rattle.elf_loading.specs.WordsLeft.{HasWordOf, IsSame, relocation_of, own_relocations, words_own}
 use Rattle.elf_loading.specs.declared.plan.LoadPlan.{LoadPlan}
 use Rattle.elf_loading.specs.declared.relocate.Sources.{Sources}
 use Rattle.elf_loading.specs.declared.words.Words.{Words}
@@ -30,19 +30,26 @@ use Rattle.elf_linking.specs.Scope.{IsBoundFor, IsBound, IsReferenceBound, asked
 use Rattle.elf_linking.specs.RelocationTypes.{is_relative, relative_of, row_of}
 use Rattle.elf_linking.specs.declared.find.Use.TheVariants.{Any}
 use Rattle.elf_linking.specs.declared.references.types.TheConstants.{AARCH64, I386, X86_64}
-use Rattle.elf_loading.specs.RelativeWords.{IsItemWritten, asks_as, relative_word}
+use Rattle.elf_loading.specs.RelativeWords.{IsFirstWritten, IsItemWritten, IsWrittenSoFar, asks_as, relative_word}
+use Rattle.elf_loading.specs.InOrder.{first_left}
 use Rattle.elf_loading.specs.Values.{low}
 use Rattle.elf_loading.specs.declared.value.Origin.TheVariants.{Base}
 use Rattle.elf_loading.specs.declared.value.Value.TheVariants.{Sum}
 use Rattle.elf_loading.specs.declared.error.LoadError.TheVariants as error
 use Rattle.elf_linking.specs.declared.references.types.Formula.TheVariants as formulas
 
+-- the words of more items
+bytes_more : {E : Type 0} {r : _} (sources : Sources E r) (address : ℕ) (items more : List (Relocated E)) (old : ℕ)
+    → relocated_byte sources address (items ++ more) old ≡ relocated_byte sources address more (relocated_byte sources address items old)
+unfolding relocated_byte
+bytes_more sources address [] more old = refl
+bytes_more sources address (first ∷ items) more old = bytes_more sources address items more (word_byte sources address first.word old)
+
 -- one word more
 pub byte_more : {E : Type 0} {r : _} (sources : Sources E r) (address : ℕ) (items : List (Relocated E)) (item : Relocated E) (old : ℕ)
     → relocated_byte sources address (items ++ item ∷ []) old ≡ word_byte sources address item.word (relocated_byte sources address items old)
 unfolding relocated_byte
-byte_more sources address [] item old = refl
-byte_more sources address (first ∷ items) item old = byte_more sources address items item (word_byte sources address first.word old)
+byte_more sources address items item old = bytes_more sources address items (item ∷ []) old
 
 no_byte : {E : Type 0} {r : _} (sources : Sources E r) (address old : ℕ) → old ≡ relocated_byte sources address [] old
 unfolding relocated_byte
@@ -101,12 +108,8 @@ module _ {E : Type 0} {r : _} (fields : E → SymbolFields) (sources : Sources E
   abbrev writable : Relocated E → Type 0
   writable item = IsOk (write_item fields sources own lazy (length before) item)
 
-  -- the words of the items are written, and `left` are the relocations after them
-  pub record SoFar (left : List Relocation) (after : List ℕ) (count index : ℕ) : Type 0 where
-    pub items : List (Relocated E)
-    pub passed : index ≡ min (length items) (2 ^ 64 - 1)
-    pub split : relocations ≡ map relocation_of items ++ left
-    pub written : AreItemsWritten fields sources own lazy before after items count
+  abbrev pub SoFar : List Relocation → List ℕ → ℕ → ℕ → Type 0
+  SoFar = IsWrittenSoFar fields sources own lazy relocations before
 
   pub none_written : (left : List Relocation) → left ≡ relocations → SoFar left before 0 0
   none_written left is = record {
@@ -381,8 +384,86 @@ module _ {E : Type 0} {r : _} (fields : E → SymbolFields) (own : DynamicObject
 
 -- the object of an iterator is the one whose words it has
 pub of_words : {E : Type 0} {r : _} (fields : E → SymbolFields) (sources : Sources E r) (own : DynamicObject E r) (lazy : Bool) (words : Words E r) (relocation : Relocation) (before after : List ℕ) (result : Result Bool LoadError)
-    → AreWordsFor sources.objects.now own sources.of lazy words → IsItemWritten fields sources (words_own words) (words_lazy words) relocation before after result
+    → AreWordsFor sources.objects.now own sources.of lazy words → IsItemWritten fields sources (words_own words) words.lazy relocation before after result
     → IsItemWritten fields sources own lazy relocation before after result
 of_words fields sources own lazy words relocation before after result are is =
     subst (λ later. IsItemWritten fields sources own later relocation before after result) are.lazy_is
-    (subst (λ object. IsItemWritten fields sources object (words_lazy words) relocation before after result) are.own_is is)
+    (subst (λ object. IsItemWritten fields sources object words.lazy relocation before after result) are.own_is is)
+
+-- Runs of relative relocations.
+
+module _ {E : Type 0} {r : _} (fields : E → SymbolFields) (sources : Sources E r) (own : DynamicObject E r) (lazy : Bool) where
+  -- one more of some records
+  pub record_more : (relocations : List Relocation) (before now after : List ℕ) (relative : Option Row) (records later : Records) (index next : ℕ)
+      → relative ≡ relative_of (file_machine (object_file own)) → next ≡ min (index + 1) (2 ^ 64 - 1) → length after ≡ length now
+      → IsWrittenSoFar fields sources own lazy relocations before (first_left records records.at) now 0 index
+      → IsFirstWritten sources relative records later now after
+      → IsWrittenSoFar fields sources own lazy relocations before (first_left later later.at) after 0 next
+  record_more relocations before now after relative records later index next relative_is next_is len so_far first =
+      let is : relative_word sources.of (relative_of (file_machine (object_file own))) first.relocation ≡ Some first.word = ap (λ row. relative_word sources.of row first.relocation) (sym relative_is) ∙ first.word_is in
+      let parts = parts_of sources.of (relative_of (file_machine (object_file own))) first.relocation first.word is in
+      let none : has_no_number first.word.value ≡ false = ap (λ (word : Word). has_no_number word.value) (sym parts.word_is) in
+      let lacks : has_no_number first.word.value ≡ first.lacks =
+      lacks_known first.word false (is_outside (image_start sources sources.of) (length now) first.word.address first.word.width) (is_copy_outside sources first.word.width first.word.value) first.lacks first.can_be in
+      let item = written_item fields own sources.of lazy first.relocation first.word is in
+      let can : Ok false ≡ write_item fields sources own lazy (length now) item =
+      ap (λ b. Ok b) (sym none ∙ lacks) ∙ (sym first.can_be ∙ sym (same_write fields own sources.of lazy first.relocation first.word is sources (length now))) in
+      more_written fields sources own lazy relocations before (first_left records records.at) (first_left later later.at) item now 0 index first.first so_far
+      (relative_has fields (object_file own) own sources.of lazy first.relocation first.word is sources.objects.now) next next_is after false len can first.bytes
+
+  -- the same relocations with others after them
+  pub with_others : (relocations left others : List Relocation) (before after : List ℕ) (count index : ℕ)
+      → IsWrittenSoFar fields sources own lazy relocations before left after count index
+      → IsWrittenSoFar fields sources own lazy (relocations ++ others) before (left ++ others) after count index
+  with_others relocations left others before after count index so_far = record {
+    items = so_far.items;
+    passed = so_far.passed;
+    split = ap (λ some. some ++ others) so_far.split ∙ append_assoc (map relocation_of so_far.items) left others;
+    written = so_far.written;
+  }
+
+  none_of : (found : ℕ) → 0 ≡ min found (2 ^ 64 - 1) → found ≡ 0
+  none_of found is = omega (arith, is)
+
+  -- a run after others
+  pub run_written : (relocations left later : List Relocation) (before now after : List ℕ) (count index passed next : ℕ) → next ≡ min (index + passed) (2 ^ 64 - 1)
+      → IsWrittenSoFar fields sources own lazy relocations before left now count index
+      → IsWrittenSoFar fields sources own lazy left now later after 0 passed
+      → IsWrittenSoFar fields sources own lazy relocations before later after count next
+  run_written relocations left later before now after count index passed next next_is first second =
+      let one = first.items in
+      let two = second.items in
+      let lengths = length-append one two in
+      let none : count_by (λ item. lacks_number item.word) two ≡ 0 = none_of (count_by (λ item. lacks_number item.word) two) second.written.counted in
+      let sum : count_by (λ item. lacks_number item.word) (one ++ two) ≡ count_by (λ item. lacks_number item.word) one + count_by (λ item. lacks_number item.word) two =
+      sum_by-append (λ item. cond (lacks_number item.word) 1 0) one two in
+      let same = first.written.same_size in record {
+        items = one ++ two;
+        passed = omega (arith, first.passed, second.passed, next_is, lengths);
+        split = first.split ∙ ap (λ rest. map relocation_of one ++ rest) second.split ∙ sym (append_assoc (map relocation_of one) (map relocation_of two) later)
+            ∙ ap (λ some. some ++ later) (sym (map-append relocation_of one two));
+        written = record {
+          have_words = All-append (HasWord fields sources.objects.now (object_file own) own sources.of lazy) one two first.written.have_words second.written.have_words;
+          can_be = All-append (λ item. IsOk (write_item fields sources own lazy (length before) item)) one two first.written.can_be (subst (λ n. All (λ item. IsOk (write_item fields sources own lazy n item)) two) same second.written.can_be);
+          counted = omega (arith, first.written.counted, sum, none);
+          same_size = second.written.same_size ∙ same;
+          bytes = λ i below. second.written.bytes i (subst (λ n. i < n) (sym same) below)
+              ∙ ap (relocated_byte sources (image_start sources sources.of + i) two) (first.written.bytes i below)
+              ∙ sym (bytes_more sources (image_start sources sources.of + i) one two (slice_index before i));
+        };
+      }
+
+-- the object of an iterator is the one whose words are written
+pub run_for : {E : Type 0} {r : _} (fields : E → SymbolFields) (sources : Sources E r) (own : DynamicObject E r) (lazy : Bool) (words : Words E r) (relocations left : List Relocation) (before after : List ℕ) (count index : ℕ)
+    → AreWordsFor sources.objects.now own sources.of lazy words → IsWrittenSoFar fields sources (words_own words) words.lazy relocations before left after count index
+    → IsWrittenSoFar fields sources own lazy relocations before left after count index
+run_for fields sources own lazy words relocations left before after count index are is =
+    subst (λ later. IsWrittenSoFar fields sources own later relocations before left after count index) are.lazy_is
+    (subst (λ object. IsWrittenSoFar fields sources object words.lazy relocations before left after count index) are.own_is is)
+
+-- an item has its word by a later state of the iterator
+pub still_last : {E : Type 0} {r : _} (fields : E → SymbolFields) (words later : Words E r) (last : Option (Relocated E)) → IsSame words later
+    → IfSome last (HasWordOf fields words) → IfSome last (HasWordOf fields later)
+still_last fields words later None same has = tt
+still_last fields words later (Some item) same has =
+    has_word_same fields item _ _ _ _ _ _ _ _ _ _ (ap (λ lent. lent.now) (sym same.0)) (sym same.1) (sym same.2) (sym same.3) (sym same.4) has

@@ -1,14 +1,15 @@
 -- The relocations of a file in the order in which a dynamic linker applies them (gABI, "Relocation" and "Dynamic
 -- Section"; the order, and which records are passed over, as glibc 2.36 has it).
-use Rattle.std.specs.Prelude.{ℕ, ◌+◌, ◌-◌, ◌/◌, ◌==◌, ◌&&◌, is_some, nat_le, Bool, true, false, List, [], ◌++◌, map, take, Option, None, Some, option_map, unwrap_or, Result, Ok, if◌then◌else◌}
+use Rattle.std.specs.Prelude.{◌≡◌, ℕ, ◌+◌, ◌-◌, ◌/◌, ◌==◌, ◌&&◌, is_some, nat_le, Bool, true, false, List, [], ◌++◌, drop, map, take, ⊤, Option, None, Some, option_map, unwrap_or, Result, Ok, if◌then◌else◌}
 use Rattle.elf_base.specs.FirstError.{and_then}
+use Rattle.elf_base.specs.Table.{table_data, table_order}
 use Rattle.elf_linking.specs.DynamicView.{number_with}
 use Rattle.elf_linking.specs.LinkedSections.{relr_at}
-use Rattle.elf_linking.specs.References.{file_machine, record_size, relocation_tables, table_left}
+use Rattle.elf_linking.specs.References.{file_machine, record_size, references_in, relocation_tables, table_left}
 use Rattle.elf_linking.specs.RelocationTypes.{relative_kind}
 use Rattle.elf_linking.specs.Relr.{relr_rest}
 use Rattle.elf_linking.specs.TableLocations.{table_by}
-use Rattle.elf_loading.specs.Types.{Dynamic, ElfFile, InOrder, LinkError, Packed, Part, Reference, Relocation, Relr, TableLocation}
+use Rattle.elf_loading.specs.Types.{Dynamic, ElfFile, InOrder, LinkError, Packed, Part, Records, Reference, Relocation, Relr, TableLocation}
 use Rattle.elf_linking.specs.declared.view.tags.TheConstants.{DT_JMPREL, DT_PLTREL, DT_PLTRELSZ, DT_REL, DT_RELA, DT_RELASZ, DT_RELR, DT_RELRSZ, DT_RELSZ}
 use Rattle.elf_loading.specs.Words.{address_size}
 
@@ -76,7 +77,23 @@ take_most (Some most) references = take most references
 abbrev pub part_left : Part → List Relocation
 part_left part = placed part.in_place part.slot (take_most part.most (table_left part.rest))
 
+-- the relocations of records from an index on
+abbrev pub first_left : Records → ℕ → List Relocation
+first_left records at = placed false false (drop at (take records.end
+    (references_in 8 true (table_order records.table) (table_data records.table))))
+
+-- the relocations of records that are left, if there are records
+abbrev pub records_left : Option Records → List Relocation
+records_left None = []
+records_left (Some records) = first_left records records.at
+
+-- some records, if there are any, are the first `kept` ones of a table
+abbrev pub HasRecords : Result (List Reference) LinkError → ℕ → Option Records → Type 0
+HasRecords answer kept None = ⊤
+HasRecords answer kept (Some records) = (references : List Reference) → answer ≡ Ok references
+    → records_left (Some records) ≡ placed false false (take kept references)
+
 -- the relocations of all tables that are left
 abbrev pub order_left : InOrder → List Relocation
-order_left order = packed_left order.packed
-    ++ (part_left order.rela ++ (part_left order.rel ++ part_left order.slots))
+order_left order = packed_left order.packed ++ (records_left order.records
+    ++ (part_left order.rela ++ (part_left order.rel ++ part_left order.slots)))

@@ -1,11 +1,13 @@
 -- Words that are written without a look-up: those of relative relocations, and those of a symbol that was looked up before
 -- (the processor supplements of the System V ABI; this project's own).
-use Rattle.std.specs.Prelude.{◌≡◌, ℕ, ◌+◌, ◌==◌, ◌&&◌, not, Bool, List, length, slice_index, Option, None, Some, Result, IfErr, IfOk, if◌then◌else◌}
+use Rattle.std.specs.Prelude.{◌≡◌, ℕ, ◌+◌, ◌-◌, ◌^◌, ◌==◌, ◌&&◌, ◌++◌, ◌∷◌, not, min, Bool, true, false, List, map, length, slice_index, Option, None, Some, Result, Ok, IfErr, IfOk, if◌then◌else◌}
 use Rattle.elf_linking.specs.DynamicObject.{object_file}
-use Rattle.elf_loading.specs.Types.{DynamicObject, LoadError, Relocated, Relocation, Row, Word}
-use Rattle.elf_loading.specs.Relocate.{image_start, word_byte, write_item}
+use Rattle.elf_loading.specs.InOrder.{first_left}
+use Rattle.elf_loading.specs.Types.{DynamicObject, LoadError, Records, Relocated, Relocation, Row, Word}
+use Rattle.elf_loading.specs.Relocate.{AreItemsWritten, image_start, word_byte, write_item, write_word}
 use Rattle.elf_loading.specs.Values.{low}
 use Rattle.elf_loading.specs.Words.{HasWord}
+use Rattle.elf_loading.specs.WordsLeft.{relocation_of}
 use Rattle.elf_loading.specs.declared.relocate.Sources.{Sources}
 use Rattle.elf_loading.specs.declared.value.Origin.TheVariants.{Base}
 use Rattle.elf_loading.specs.declared.value.Value.TheVariants.{Sum}
@@ -37,3 +39,26 @@ pub record IsItemWritten {E : Type 0} {r : _} (fields : E → SymbolFields) (sou
   pub bytes : IfOk result (λ lacks. (i : ℕ) → slice_index after i
       ≡ word_byte sources (image_start sources sources.of + i) item.word (slice_index before i))
   pub same : IfErr result (λ error. after ≡ before)
+
+-- the word of the first of some records, a relative relocation, was written to an image, and `later` are the records after it
+pub record IsFirstWritten {E : Type 0} {r : _} (sources : Sources E r) (relative : Option Row) (records later : Records) (before after : List ℕ) : Type 0 where
+  pub relocation : Relocation
+  pub word : Word
+  pub lacks : Bool
+  pub first : first_left records records.at ≡ relocation ∷ first_left later later.at
+  pub word_is : relative_word sources.of relative relocation ≡ Some word
+  pub can_be : write_word sources (length before) word ≡ Ok lacks
+  pub bytes : (i : ℕ) → slice_index after i ≡ word_byte sources (image_start sources sources.of + i) (Ok word) (slice_index before i)
+
+-- the same, if a call says so; otherwise nothing was written
+abbrev pub IsRecordWritten : {E : Type 0} → {r : _} → Sources E r → Option Row → Records → Records → List ℕ → List ℕ → Bool → Type 0
+IsRecordWritten sources relative records later before after true = IsFirstWritten sources relative records later before after
+IsRecordWritten sources relative records later before after false = (later ≡ records) × (after ≡ before)
+
+-- the words of the first `index` relocations are written to an image, `count` of them have no number, and `left` are those
+-- after them
+pub record IsWrittenSoFar {E : Type 0} {r : _} (fields : E → SymbolFields) (sources : Sources E r) (own : DynamicObject E r) (lazy : Bool) (relocations : List Relocation) (before : List ℕ) (left : List Relocation) (after : List ℕ) (count index : ℕ) : Type 0 where
+  pub items : List (Relocated E)
+  pub passed : index ≡ min (length items) (2 ^ 64 - 1)
+  pub split : relocations ≡ map relocation_of items ++ left
+  pub written : AreItemsWritten fields sources own lazy before after items count

@@ -18,6 +18,7 @@ pub use Rattle.elf_loading.specs.declared.error.LoadError.{LoadError}
 pub use Rattle.elf_loading.specs.declared.in_order.InOrder.{InOrder}
 pub use Rattle.elf_loading.specs.declared.in_order.Packed.{Packed}
 pub use Rattle.elf_loading.specs.declared.in_order.Part.{Part}
+pub use Rattle.elf_loading.specs.declared.in_order.Records.{Records}
 pub use Rattle.elf_loading.specs.declared.in_order.Relocation.{Relocation}
 pub use Rattle.elf_loading.specs.declared.load_pass.Pass.{Pass}
 pub use Rattle.elf_loading.specs.declared.load_pass.Wanted.{Wanted}
@@ -40,4 +41,5 @@ pub use Rattle.elf_loading.specs.declared.words.Relocated.{Relocated}
 pub use Rattle.elf_loading.specs.declared.words.Word.{Word}
 pub use Rattle.elf_records.specs.declared.dynamic.Dynamic.{Dynamic}
 pub use Rattle.elf_records.specs.declared.program.Flags.{Flags}
+pub use Rattle.elf_records.specs.declared.sections.relocations.Rela.{Rela}
 pub use Rattle.xmas_elf.specs.declared.ElfFile.{ElfFile}

@@ -15,7 +15,7 @@ ghost use Rattle.elf_loading.specs.ImageWords.{meet, some_marked, touch_one, tou
 ghost use Rattle.elf_loading.specs.Plan.{plan_loads, plan_size, plan_span};
 ghost use Rattle.elf_loading.specs.Segments.{has_flag};
 ghost use Rattle.elf_loading.specs.WordErrors.{IsCheckError, IsFirstUnchecked, error_alone};
-ghost use Rattle.elf_loading.specs.WordsLeft.{HasWordOf, relocations_left, words_file};
+ghost use Rattle.elf_loading.specs.WordsLeft.{HasWordOf, relocations_left};
 
 use crate::LoadError;
 use crate::image_tables::{asks_for_text, check_records, check_tables, tables_of};
@@ -307,7 +307,7 @@ fn check_next<E: LinkedSymbol>(
 ) -> Result<(), LoadError>
     requires start { room.now.start ≡ (plan_span room.now.plan.now).start }
     requires marks { plan_size room.now.plan.now ≤ 8 * length marks.old }
-    requires relative { relative.now ≡ relative_of (file_machine (words_file words.now)) }
+    requires relative { relative.now ≡ relative_of (file_machine words.now.file) }
     requires last { IfSome last.old (HasWordOf E.fields words.now) }
     requires holder { IfSome holder.old (IsKnown (plan_loads room.now.plan.now) room.now.tables) }
     ensures last { IfSome last.new (HasWordOf E.fields words.now) }

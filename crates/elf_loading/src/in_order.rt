@@ -2,26 +2,34 @@
 //! "Dynamic Section"; the order, and which records of a table are passed over, as glibc 2.36 has
 //! it).
 
-ghost use Rattle.std.specs.Prelude.{◌≡◌, ◌<◌, Err, MatchResult, Ok};
+ghost use Rattle.std.specs.Prelude.{◌≡◌, ◌<◌, ◌^◌, ◌+◌, [], ◌∷◌, List, Err, IfSome};
+ghost use Rattle.std.specs.Prelude.{MatchOption, MatchResult, Ok, Some, if◌then◌else◌, is_some};
 ghost use Rattle.std.specs.Iterator.{YieldsFirst, item_count};
 ghost use Rattle.elf_linking.specs.DynamicView.{view_entries};
-ghost use Rattle.elf_linking.specs.References.{record_size, table_left};
+ghost use Rattle.elf_linking.specs.References.{record_size, table_left, table_relocations};
+ghost use Rattle.elf_linking.specs.TableLocations.{table_by};
+ghost use Rattle.elf_linking.specs.declared.references.Reference.{Reference};
+ghost use Rattle.elf_linking.specs.declared.view.tags.TheConstants.{DT_RELA, DT_RELASZ};
 ghost use Rattle.elf_loading.specs.InOrder.{ends_with, is_kind, kept_records, order_left};
-ghost use Rattle.elf_loading.specs.InOrder.{packed_left, part_left};
+ghost use Rattle.elf_loading.specs.InOrder.{HasRecords, first_left, packed_left, part_left};
+ghost use Rattle.elf_loading.specs.InOrder.{records_left};
 ghost use Rattle.elf_linking.specs.RelocationTypes.{relative_kind};
 ghost use Rattle.elf_loading.specs.InOrder.{relocations_in_order, relr_addresses, relr_left};
 ghost use Rattle.elf_loading.specs.InOrder.{take_most};
 ghost use Rattle.elf_loading.specs.Words.{address_size};
 
 use crate::words::address_size;
+use elf_base::P64;
+use elf_base::bytes::Table;
 use elf_linking::LinkError;
 use elf_linking::references::types::R_X86_64_RELATIVE;
-use elf_linking::references::{Reference, TableRelocations, relative_of};
+use elf_linking::references::{Reference, Relocates, TableRelocations, relative_of};
 use elf_linking::relr::Relr;
 use elf_linking::view::{
     DT_JMPREL, DT_PLTREL, DT_PLTRELSZ, DT_REL, DT_RELA, DT_RELASZ, DT_RELSZ, DynamicView,
-    TableLocation,
+    TableLocation, bytes_at,
 };
+use elf_records::sections::Rela;
 use xmas_elf::ElfFile;
 
 /// A relocation of a file, and where its addend is.
@@ -37,9 +45,17 @@ pub struct Relocation {
 
 // The packed relocations that are left, and their type.
 #[derive(Clone, Debug, Drop)]
-struct Packed<'a> {
+pub(crate) struct Packed<'a> {
     kind: u32,
-    rest: Option<Relr<'a>>,
+    pub(crate) rest: Option<Relr<'a>>,
+}
+
+// The records of DT_RELA in a file of class 64, of which those from `at` on, and before `end`, are left.
+#[derive(Clone, Copy, Debug)]
+pub(crate) struct Records<'a> {
+    table: Table<'a, Rela<P64>>,
+    pub(crate) at: usize,
+    end: usize,
 }
 
 // The relocations that are left of a table, at most as many as are given. They are the first of
@@ -58,7 +74,8 @@ struct Part<'a> {
 /// are passed over.
 #[derive(Clone, Debug, Drop)]
 pub struct InOrder<'a> {
-    packed: Packed<'a>,
+    pub(crate) packed: Packed<'a>,
+    pub(crate) records: Option<Records<'a>>,
     rela: Part<'a>,
     rel: Part<'a>,
     slots: Part<'a>,
@@ -104,6 +121,40 @@ impl Packed<'_> {
             slot: false,
         })
     }
+}
+
+impl Records<'_> {
+    // The first relocation that is left.
+    #[tactic(auto, using(crate::proofs::InOrders::left_past, crate::proofs::InOrders::none_left, crate::proofs::InOrders::left_first))]
+    #[inline(always)]
+    pub(crate) fn first(&self) -> Option<Relocation>
+        ensures below { IfSome result (λ relocation. self.now.at + 1 < 2 ^ 64) }
+        ensures first { MatchOption result (first_left self.now self.now.at ≡ []) (λ relocation.
+            first_left self.now self.now.at ≡ relocation ∷ first_left self.now (self.now.at + 1)) }
+    {
+        if self.at >= self.end {
+            return None;
+        }
+        let record = self.table.get(self.at)?;
+        Some(Relocation {
+            reference: record.reference(),
+            in_place: false,
+            slot: false,
+        })
+    }
+}
+
+// The next of the records.
+#[inline(always)]
+fn next_record(records: &mut Option<Records<'_>>) -> Option<Relocation>
+    ensures { YieldsFirst records_left records.old result records.new }
+{
+    let Some(records) = records else {
+        return None;
+    };
+    let relocation = records.first()?;
+    records.at += 1;
+    Some(relocation)
 }
 
 impl Part<'_> {
@@ -179,6 +230,38 @@ pub(crate) fn kept_records(view: &DynamicView<'_>, file: &ElfFile<'_>, kind: u64
     table.size.unwrap_or(0).saturating_sub(again) / record_size(file, kind == DT_RELA)
 }
 
+// The records of DT_RELA in a file of class 64, of which as many are kept.
+fn records_of<'a>(view: &DynamicView<'a>, file: &ElfFile<'a>, kept: u64) -> Option<Records<'a>>
+    ensures { HasRecords (table_relocations file.now (table_by (view_entries view.now) DT_RELA DT_RELASZ)
+        (Some DT_RELA)) kept result }
+{
+    if file.header.pt1.class.raw() != 2 {
+        return None;
+    }
+    let table = view.table_by(DT_RELA, DT_RELASZ);
+    let (Some(start), Some(size)) = (table.start, table.size) else {
+        return None;
+    };
+    let Ok(bytes) = bytes_at(file, start, size) else {
+        return None;
+    };
+    let Ok(table) = Table::new(bytes, file.byte_order()) else {
+        return None;
+    };
+    Some(Records {
+        table,
+        at: 0,
+        end: kept as usize,
+    })
+}
+
+// The number of records of DT_RELA that are kept and not among these.
+fn kept_after(records: &Option<Records<'_>>, kept: u64) -> u64
+    ensures { result ≡ (if is_some records.now then 0 else kept) }
+{
+    if records.is_some() { 0 } else { kept }
+}
+
 // The packed relocations of a file.
 fn packed_of<'a>(view: &DynamicView<'a>, file: &ElfFile<'a>) -> Result<Option<Relr<'a>>, LinkError>
     ensures { let answer = relr_addresses file.now (view_entries view.now) in MatchResult result
@@ -204,14 +287,17 @@ impl<'a> InOrder<'a> {
         let machine = file.header.pt2.machine().raw();
         let rest = packed_of(view, file)?;
         let tables = view.relocation_tables(file)?;
+        let kept = kept_records(view, file, DT_RELA, DT_RELASZ);
+        let records = records_of(view, file, kept);
         Ok(InOrder {
             packed: Packed {
                 kind: relative_type(machine),
                 rest,
             },
+            records,
             rela: Part {
                 rest: tables.rela,
-                most: Some(kept_records(view, file, DT_RELA, DT_RELASZ)),
+                most: Some(kept_after(&records, kept)),
                 in_place: false,
                 slot: false,
             },
@@ -242,6 +328,9 @@ impl Iterator for InOrder<'_> {
     #[inline(always)]
     fn next(&mut self) -> Option<Relocation> {
         if let Some(relocation) = self.packed.next() {
+            return Some(relocation);
+        }
+        if let Some(relocation) = next_record(&mut self.records) {
             return Some(relocation);
         }
         if let Some(relocation) = self.rela.next() {

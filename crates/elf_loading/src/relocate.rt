@@ -9,7 +9,8 @@ ghost use Rattle.elf_linking.specs.DynamicView.{view_entries};
 ghost use Rattle.elf_linking.specs.References.{file_machine};
 ghost use Rattle.elf_linking.specs.RelocationTypes.{relative_of};
 ghost use Rattle.elf_linking.specs.Scope.{scope_objects};
-ghost use Rattle.elf_loading.specs.RelativeWords.{IsItemWritten, relative_word};
+ghost use Rattle.elf_loading.specs.RelativeWords.{IsItemWritten, IsRecordWritten, IsWrittenSoFar};
+ghost use Rattle.elf_loading.specs.RelativeWords.{relative_word};
 ghost use Rattle.elf_loading.specs.Relocate.{AreWordsFor, IsRelocation, IsWriting, byte_of_number};
 ghost use Rattle.elf_loading.specs.Relocate.{has_no_number, image_at, image_start, is_copy_outside};
 ghost use Rattle.elf_loading.specs.Relocate.{is_outside, is_unresolved, is_weak, is_wrong_size};
@@ -17,12 +18,12 @@ ghost use Rattle.elf_loading.specs.Relocate.{origin_sum, place_at, value_byte, v
 ghost use Rattle.elf_loading.specs.Relocate.{word_byte, write_item, write_word};
 ghost use Rattle.elf_loading.specs.WordErrors.{IsFirstUnwritten, IsRelocationError, error_alone};
 ghost use Rattle.elf_loading.specs.Words.{binds_lazily};
-ghost use Rattle.elf_loading.specs.WordsLeft.{HasWordOf, relocations_left, words_file, words_lazy};
+ghost use Rattle.elf_loading.specs.WordsLeft.{HasWordOf, IsSame, relocations_left};
 ghost use Rattle.elf_loading.specs.WordsLeft.{words_own};
 ghost use Rattle.elf_loading.specs.declared.error.LoadError.TheVariants.{CopySource};
 
 use crate::LoadError;
-use crate::in_order::Relocation;
+use crate::in_order::{Records, Relocation};
 use crate::plan::LoadPlan;
 use crate::slots::is_later;
 use crate::value::{Origin, Value, low};
@@ -392,11 +393,11 @@ impl<'b, 's, 'a, E: LinkedSymbol> Sources<'b, 's, 'a, E> {
     ) -> Result<bool, LoadError>
         requires start { start ≡ image_start self.now self.now.of }
         requires words { AreWordsFor self.now.objects.now (words_own words.now) self.now.of
-            (words_lazy words.now) words.now }
+            words.now.lazy words.now }
         requires last { IfSome last.old (HasWordOf E.fields words.now) }
         ensures last { IfSome last.new (HasWordOf E.fields words.now) }
         ensures len { length image.new ≡ length image.old }
-        ensures item { IsItemWritten E.fields self.now (words_own words.now) (words_lazy words.now)
+        ensures item { IsItemWritten E.fields self.now (words_own words.now) words.now.lazy
             relocation image.old image.new result }
     {
         let item = words.item_after(relocation, last);
@@ -418,18 +419,78 @@ impl<'b, 's, 'a, E: LinkedSymbol> Sources<'b, 's, 'a, E> {
     ) -> Result<bool, LoadError>
         requires start { start ≡ image_start self.now self.now.of }
         requires words { AreWordsFor self.now.objects.now (words_own words.now) self.now.of
-            (words_lazy words.now) words.now }
-        requires relative { relative.now ≡ relative_of (file_machine (words_file words.now)) }
+            words.now.lazy words.now }
+        requires relative { relative.now ≡ relative_of (file_machine words.now.file) }
         requires last { IfSome last.old (HasWordOf E.fields words.now) }
         ensures last { IfSome last.new (HasWordOf E.fields words.now) }
         ensures len { length image.new ≡ length image.old }
-        ensures item { IsItemWritten E.fields self.now (words_own words.now) (words_lazy words.now)
+        ensures item { IsItemWritten E.fields self.now (words_own words.now) words.now.lazy
             relocation image.old image.new result }
     {
         match relative_word(self.of, relative, &relocation) {
             Some(word) => self.write_word(start, image, &word),
             None => self.write_other(words, start, relocation, last, image),
         }
+    }
+
+    // Writes the word of the first of some records, if that is of a relative relocation and in the
+    // image, and returns whether it is.
+    #[inline(always)]
+    fn write_record(
+        &self,
+        relative: &Option<Row>,
+        start: u64,
+        records: &mut Records<'_>,
+        image: &mut [u8],
+    ) -> bool
+        requires start { start ≡ image_start self.now self.now.of }
+        ensures len { length image.new ≡ length image.old }
+        ensures first { IsRecordWritten self.now relative.now records.old records.new image.old image.new
+            result }
+    {
+        let Some(relocation) = records.first() else {
+            return false;
+        };
+        let Some(word) = relative_word(self.of, relative, &relocation) else {
+            return false;
+        };
+        let Ok(_) = self.write_word(start, image, &word) else {
+            return false;
+        };
+        records.at += 1;
+        true
+    }
+
+    // Writes the words of the relative relocations that come next in records, and returns how many
+    // these are.
+    fn write_run(
+        &self,
+        words: &mut Words<'s, 'a, E>,
+        relative: &Option<Row>,
+        start: u64,
+        image: &mut [u8],
+    ) -> u64
+        requires start { start ≡ image_start self.now self.now.of }
+        requires words { AreWordsFor self.now.objects.now (words_own words.old) self.now.of
+            words.old.lazy words.old }
+        requires relative { relative.now ≡ relative_of (file_machine words.old.file) }
+        ensures same { IsSame words.old words.new }
+        ensures len { length image.new ≡ length image.old }
+        ensures run { IsWrittenSoFar E.fields self.now (words_own words.old) words.old.lazy
+            (relocations_left words.old) image.old (relocations_left words.new) image.new 0 result }
+    {
+        if words.order.packed.rest.is_some() {
+            return 0;
+        }
+        let Some(mut records) = words.order.records else {
+            return 0;
+        };
+        let mut count = 0u64;
+        while self.write_record(relative, start, &mut records, image) {
+            count = count.saturating_add(1);
+        }
+        words.order.records = Some(records);
+        count
     }
 
     // Writes words, and returns how many have no number.
@@ -448,7 +509,8 @@ impl<'b, 's, 'a, E: LinkedSymbol> Sources<'b, 's, 'a, E> {
     {
         let start = self.image_start(self.of);
         let relative = relative_of(own.file().header.pt2.machine().raw());
-        let (mut words, mut last, mut count, mut index) = (words, None, 0u64, 0u64);
+        let (mut words, mut last, mut count) = (words, None, 0u64);
+        let mut index = self.write_run(&mut words, &relative, start, image);
         while let Some(relocation) = words.next_relocation() {
             match self.write_next(&words, &relative, start, relocation, &mut last, image) {
                 Ok(lacks) => count = counted(count, lacks),
@@ -459,7 +521,8 @@ impl<'b, 's, 'a, E: LinkedSymbol> Sources<'b, 's, 'a, E> {
                     });
                 }
             }
-            index = index.saturating_add(1);
+            let run = self.write_run(&mut words, &relative, start, image);
+            index = index.saturating_add(1).saturating_add(run);
         }
         Ok(count)
     }
@@ -518,10 +581,13 @@ fn is_unresolved<E: LinkedSymbol>(
 ) -> bool
     ensures { result ≡ is_unresolved E.fields own.now lazy item.now }
 {
+    // Most symbols are found, and their file isn't copied.
+    if !matches!(item.bound, Ok(None)) {
+        return false;
+    }
     let file = own.file();
     let machine = file.header.pt2.machine().raw();
     let later = is_later(&file, own, lazy, &item.relocation);
-    matches!(item.bound, Ok(None))
-        && needs_symbol(machine, later, &item.relocation)
+    needs_symbol(machine, later, &item.relocation)
         && !is_weak(own, item.relocation.reference.symbol)
 }

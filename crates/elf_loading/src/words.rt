@@ -15,8 +15,8 @@ ghost use Rattle.elf_loading.specs.Words.{binds_lazily, has_zeros, is_later, nee
 ghost use Rattle.elf_loading.specs.Words.{own_size, takes_addend, takes_symbol, value_rows};
 ghost use Rattle.elf_loading.specs.Words.{value_word, word_in_memory, word_of};
 ghost use Rattle.elf_loading.specs.WordsLeft.{AreWordsOf, HasWordOf, IsSame, own_relocations};
-ghost use Rattle.elf_loading.specs.WordsLeft.{relocation_of, relocations_left, words_file};
-ghost use Rattle.elf_loading.specs.WordsLeft.{words_index, words_lazy, words_objects, words_own};
+ghost use Rattle.elf_loading.specs.WordsLeft.{relocation_of, relocations_left};
+ghost use Rattle.elf_loading.specs.WordsLeft.{words_objects, words_own};
 
 use crate::LoadError;
 use crate::in_order::{InOrder, Relocation};
@@ -84,7 +84,7 @@ pub struct Words<'s, 'a, E: Record> {
     pub(crate) own: &'s DynamicObject<'a, E>,
     pub(crate) of: usize,
     pub(crate) lazy: bool,
-    order: InOrder<'a>,
+    pub(crate) order: InOrder<'a>,
 }
 
 // Whether a number of flags, if there is one, has a flag.
@@ -347,16 +347,16 @@ impl<'s, 'a, E: LinkedSymbol> Words<'s, 'a, E> {
 
     // The row of the type of relative relocations.
     pub(crate) fn relative_row(&self) -> Option<Row>
-        ensures { result ≡ relative_of (file_machine (words_file self.now)) }
+        ensures { result ≡ relative_of (file_machine self.now.file) }
     {
         relative_of(self.file.header.pt2.machine().raw())
     }
 
     // The symbol that a relocation gets, if its word depends on one.
     fn bound(&self, relocation: &Relocation) -> Result<Option<Bound<E>>, LinkError>
-        ensures { IsBoundIf (needs_symbol (file_machine (words_file self.now))
-            (is_later E.fields (words_file self.now) (words_own self.now) (words_lazy self.now) relocation.now)
-            relocation.now) E.fields (words_objects self.now).now (words_index self.now)
+        ensures { IsBoundIf (needs_symbol (file_machine self.now.file)
+            (is_later E.fields self.now.file (words_own self.now) self.now.lazy relocation.now)
+            relocation.now) E.fields (words_objects self.now).now self.now.of
             relocation.now.reference result }
     {
         let machine = self.file.header.pt2.machine().raw();
@@ -417,9 +417,9 @@ impl<'s, 'a, E: LinkedSymbol> Words<'s, 'a, E> {
         relocation: Relocation,
         bound: Result<Option<Bound<E>>, LinkError>,
     ) -> Relocated<E>
-        requires { IsBoundIf (needs_symbol (file_machine (words_file self.now))
-            (is_later E.fields (words_file self.now) (words_own self.now) (words_lazy self.now) relocation)
-            relocation) E.fields (words_objects self.now).now (words_index self.now)
+        requires { IsBoundIf (needs_symbol (file_machine self.now.file)
+            (is_later E.fields self.now.file (words_own self.now) self.now.lazy relocation)
+            relocation) E.fields (words_objects self.now).now self.now.of
             relocation.reference bound }
         ensures relocation { result.relocation ≡ relocation }
         ensures word { HasWordOf E.fields self.now result }

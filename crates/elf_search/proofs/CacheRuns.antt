@@ -80,9 +80,6 @@ module _ (order : ℕ → Option Ordering) where
   run_more : (n i : ℕ) → i < n → is_same (order i) ≡ true → run_from order (n - i) i ≡ i ∷ run_from order (n - (i + 1)) (i + 1)
   run_more n i h same = let e : n - i ≡ suc (n - (i + 1)) = omega arith in rw (e, same, add-one) refl
 
-  run_end : (n i : ℕ) → n ≤ i → run_from order (n - i) i ≡ []
-  run_end n i h = let e : n - i ≡ 0 = omega arith in rw e refl
-
   pub first_step : (k j : ℕ) → k ≡ j + 1 → is_same (order j) ≡ true → first_same order k ≡ first_same order j
   first_step k j e same = rw (e, add-one) (rw same refl)
 

@@ -12,7 +12,7 @@ use Rattle.std.specs.declared.cmp.Ordering.TheVariants.{Less, Equal, Greater}
 use Rattle.elf_search.specs.Pieces.{are_small, name_order, piece_order, pieces, pieces_order}
 use Rattle.elf_search.specs.declared.cache.pieces.Piece.{Piece}
 use Rattle.elf_search.specs.declared.cache.pieces.Piece.TheVariants.{Number, Byte}
-use Rattle.elf_search.specs.Cache.{IsGood, Searches, all_same, first_same, is_entry_good, is_inside, is_pair_good, is_same, key_of, key_place, looked_up, may_follow, order_at, run_around, run_from, usage_of, used}
+use Rattle.elf_search.specs.Cache.{IsGood, Searches, all_same, first_same, is_entry_inside, is_inside, is_pair_good, is_same, key_of, key_place, looked_up, may_follow, order_at, run_around, run_from, usage_of, used}
 use Rattle.elf_search.specs.Cache.Searches.{none, outside, here, after, before}
 use Rattle.elf_search.specs.declared.cache.Cache.{Cache}
 use Rattle.elf_search.specs.declared.cache.Machine.{Machine}
@@ -322,15 +322,11 @@ module _ (R : List ℕ → List ℕ → Ordering) (total : IsTotalOrder R) where
 
 -- Good caches.
 
-key_inside : (cache : Cache) (i : ℕ) → is_entry_good cache i ≡ true → is_inside cache (key_place cache i) ≡ true
-unfolding is_entry_good
-key_inside cache i h = and_left _ _ (and_left _ _ h)
+key_inside : (cache : Cache) (i : ℕ) → is_entry_inside cache i ≡ true → is_inside cache (key_place cache i) ≡ true
+unfolding is_entry_inside
+key_inside cache i h = and_left _ _ h
 
-key_small : (cache : Cache) (i : ℕ) → is_entry_good cache i ≡ true → are_small (pieces (key_of cache i)) ≡ true
-unfolding is_entry_good
-key_small cache i h = and_right _ _ h
-
-order_is : (cache : Cache) (name : List ℕ) (i : ℕ) → is_entry_good cache i ≡ true → order_at cache name i ≡ Some (name_order name (key_of cache i))
+order_is : (cache : Cache) (name : List ℕ) (i : ℕ) → is_entry_inside cache i ≡ true → order_at cache name i ≡ Some (name_order name (key_of cache i))
 unfolding order_at
 order_is cache name i h = rw (key_inside cache i h) refl
 
@@ -349,16 +345,16 @@ some_is a b e = cc
 module _ (cache : Cache) (good : IsGood cache) (name : List ℕ) where
   by_ranks : are_small (pieces name) ≡ true → (i : ℕ) → i < cache.count
       → order_at cache name i ≡ Some (slice_cmp nat_cmp (ranks (pieces name)) (ranks (pieces (key_of cache i))))
-  by_ranks small i b = let fine = good.entries i b in
-      order_is cache name i fine ∙ ap (λ o. Some o) (pieces_ranked (pieces name) (pieces (key_of cache i)) small (key_small cache i fine))
+  by_ranks small i b =
+      order_is cache name i (good.inside i b) ∙ ap (λ o. Some o) (pieces_ranked (pieces name) (pieces (key_of cache i)) small (good.small i b))
 
   keys_down : (i : ℕ) → i + 1 < cache.count → slice_cmp nat_cmp (ranks (pieces (key_of cache i))) (ranks (pieces (key_of cache (i + 1)))) ≡ Less → ⊥
   keys_down i b less = pair_not_less cache i (good.pairs i b)
-      (pieces_ranked (pieces (key_of cache i)) (pieces (key_of cache (i + 1))) (key_small cache i (good.entries i (omega arith))) (key_small cache (i + 1) (good.entries (i + 1) b)) ∙ less)
+      (pieces_ranked (pieces (key_of cache i)) (pieces (key_of cache (i + 1))) (good.small i (omega arith)) (good.small (i + 1) b) ∙ less)
 
   descends : are_small (pieces name) ≡ true → Descends (order_at cache name) cache.count
   descends small = record {
-    there = λ i b is. let e = order_is cache name i (good.entries i b) in cc (e, is);
+    there = λ i b is. let e = order_is cache name i (good.inside i b) in cc (e, is);
     down = λ i b is. by_ranks small (i + 1) b ∙ ap (λ o. Some o) (greater_on (slice_cmp nat_cmp) nat_list_cmp_total (ranks (pieces name)) (ranks (pieces (key_of cache i))) (ranks (pieces (key_of cache (i + 1))))
         (some_is _ _ (sym (by_ranks small i (omega arith)) ∙ is)) _ refl (keys_down i b));
     up = λ i b is. by_ranks small i (omega arith) ∙ ap (λ o. Some o) (less_on (slice_cmp nat_cmp) nat_list_cmp_total (ranks (pieces name)) (ranks (pieces (key_of cache i))) (ranks (pieces (key_of cache (i + 1))))
@@ -367,11 +363,11 @@ module _ (cache : Cache) (good : IsGood cache) (name : List ℕ) where
 
   large_differs : are_small (pieces name) ≡ false → (i : ℕ) → i < cache.count → (o : Ordering) → name_order name (key_of cache i) ≡ o → is_same (Some o) ≡ false
   large_differs large i b Less is = refl
-  large_differs large i b Equal is = absurd (both_ways _ large (equal_small (pieces name) (pieces (key_of cache i)) is (key_small cache i (good.entries i b))))
+  large_differs large i b Equal is = absurd (both_ways _ large (equal_small (pieces name) (pieces (key_of cache i)) is (good.small i b)))
   large_differs large i b Greater is = refl
 
   large_none : are_small (pieces name) ≡ false → NoneBelow (order_at cache name) cache.count
-  large_none large i b = rw (order_is cache name i (good.entries i b)) (large_differs large i b (name_order name (key_of cache i)) refl)
+  large_none large i b = rw (order_is cache name i (good.inside i b)) (large_differs large i b (name_order name (key_of cache i)) refl)
 
   around_is_all : (found : Option ℕ) → Searches (order_at cache name) 0 cache.count found → (small : Bool) → are_small (pieces name) ≡ small
       → run_around (order_at cache name) cache.count found ≡ all_same (order_at cache name) cache.count 0

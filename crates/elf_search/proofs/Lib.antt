@@ -3,6 +3,7 @@ pub mod SegmentSearch
 pub mod NamePieces
 pub mod CacheRuns
 pub mod CacheSearch
+pub mod CacheChecks
 pub mod LoadOrders
 pub mod PlainOrders
 pub mod Starting

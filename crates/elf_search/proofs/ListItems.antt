@@ -76,9 +76,6 @@ any_behind test xs i x is fails = ap (list_any test) (drop_some xs i x is) ∙ r
 pub any_here : {X : Type 0} (test : X → Bool) (xs : List X) (i : ℕ) (x : X) → slice_get xs i ≡ Some x → test x ≡ true → list_any test (drop i xs) ≡ true
 any_here test xs i x is hit = ap (list_any test) (drop_some xs i x is) ∙ rw hit refl
 
-pub any_end : {X : Type 0} (test : X → Bool) (xs : List X) (i : ℕ) → drop i xs ≡ [] → list_any test (drop i xs) ≡ false
-any_end test xs i is = ap (list_any test) is
-
 all_behind : {X : Type 0} (xs : List X) → drop (length xs) xs ≡ []
 all_behind [] = refl
 all_behind (x ∷ xs) = all_behind xs

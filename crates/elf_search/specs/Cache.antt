@@ -1,13 +1,14 @@
 -- The cache of libraries that `ldconfig` writes, and what the loader finds there for a name (glibc, `dl-cache.h` and
--- `ld.so`'s `search_cache`). A search of any bytes, and which caches are good, are this project's own.
-use Rattle.std.specs.Prelude.{◌≡◌, ℕ, zero, suc, ◌+◌, ◌-◌, ◌*◌, ◌/◌, ◌%◌, ◌^◌, ◌<◌, ◌≤◌, ◌==◌, ◌&&◌, ◌||◌, Bool, true, false, not, nat_eq, nat_le, nat_lt, List, [], ◌∷◌, length, drop, position, unwrap_or, option_map, Option, None, Some, Result, if◌then◌else◌, bit_and, bit_or, is_some}
-use Rattle.std.specs.Cmp.Lexicographic.{pointwise}
+-- `ld.so`'s `search_cache`). A search of any bytes, and what is wrong with a cache, are this project's own.
+use Rattle.std.specs.Prelude.{◌≡◌, ℕ, zero, suc, ◌+◌, ◌-◌, ◌*◌, ◌/◌, ◌%◌, ◌^◌, ◌<◌, ◌≤◌, ◌==◌, ◌&&◌, ◌||◌, Bool, true, false, not, nat_eq, nat_le, nat_lt, List, [], ◌∷◌, length, drop, position, unwrap_or, option_map, Option, None, Some, Result, Ok, Err, is_none, if◌then◌else◌, bit_and, bit_or, is_some}
+use Rattle.std.specs.Cmp.Lexicographic.{pointwise, slice_cmp}
 use Rattle.std.specs.Int.{bit_at}
 use Rattle.std.specs.List.{starts_with}
+use Rattle.std.specs.Ordering.{is_lt, nat_cmp}
 use Rattle.std.specs.declared.cmp.Ordering.{Ordering}
 use Rattle.std.specs.declared.cmp.Ordering.TheVariants.{Less, Equal, Greater}
 use Rattle.elf_base.specs.Number.{byte_at, number}
-use Rattle.elf_base.specs.FirstError.{unless}
+use Rattle.elf_base.specs.FirstError.{and_then, unless}
 use Rattle.elf_base.specs.Text.{before_zero}
 use Rattle.elf_base.specs.declared.bytes.Order.TheVariants.{Little}
 use Rattle.elf_search.specs.Pieces.{are_small, name_order, pieces}
@@ -17,7 +18,7 @@ use Rattle.elf_search.specs.declared.cache.TheConstants.{MAGIC, OLD_MAGIC, PLATF
 use Rattle.elf_search.specs.declared.cache.Usage.{Usage}
 use Rattle.elf_search.specs.declared.cache.Usage.TheVariants.{Foreign, Named, Plain, Unfit}
 use Rattle.elf_search.specs.declared.error.SearchError.{SearchError}
-use Rattle.elf_search.specs.declared.error.SearchError.TheVariants.{CacheCount, CacheOrder, NotACache}
+use Rattle.elf_search.specs.declared.error.SearchError.TheVariants.{CacheCount, CacheEntry, CacheEntryOrder, CacheExtension, CacheNumber, CacheOrder, HwcapsName, HwcapsOrder, NotACache}
 
 -- The layout.
 
@@ -76,9 +77,13 @@ extension_words bytes place = if place == 0 then Some (0, 0)
     else (if is_extension bytes place then (let n = word_at bytes (place + 4) in
     if are_within bytes (place + 8) n then Some (tagged_words bytes (place + 8) n) else None) else None)
 
+-- those of the extension of the header at a place
+abbrev pub words_of_header : List ℕ → ℕ → Option (ℕ × ℕ)
+words_of_header bytes start = extension_words bytes (word_at bytes (start + 32))
+
 -- the words for names of hwcaps of a cache: none if the extension is damaged
 abbrev pub name_words : List ℕ → ℕ × ℕ
-name_words bytes = unwrap_or (extension_words bytes (word_at bytes (header_place bytes + 32))) (0, 0)
+name_words bytes = unwrap_or (words_of_header bytes (header_place bytes)) (0, 0)
 
 -- Entries.
 
@@ -250,16 +255,20 @@ pub record LooksUp (cache : Cache) (machine : Machine) (name : List ℕ) (entry 
 abbrev pub looked_up : Cache → Machine → List ℕ → Option ℕ
 looked_up cache machine name = used (usage_of cache machine) (all_same (order_at cache name) cache.count 0)
 
--- Good caches.
+-- What is wrong with a cache.
+
+-- the first error of tests 0 to n - 1
+abbrev pub first_error : (ℕ → Result (Unit {0}) SearchError) → ℕ → Result (Unit {0}) SearchError
+first_error test zero = Ok tt
+first_error test (suc n) = and_then (first_error test n) (λ _. test n)
 
 -- the key of entry i, with all that follows it
 abbrev pub key_of : Cache → ℕ → List ℕ
 key_of cache i = drop (key_place cache i) cache.bytes.now
 
--- the key and the value of entry i are in the file, and the numbers in the key are below 2 to the 31
-unfoldable pub is_entry_good : Cache → ℕ → Bool
-is_entry_good cache i = is_inside cache (key_place cache i) && is_inside cache (value_place cache i)
-    && are_small (pieces (key_of cache i))
+-- the key and the value of entry i are in the file
+unfoldable pub is_entry_inside : Cache → ℕ → Bool
+is_entry_inside cache i = is_inside cache (key_place cache i) && is_inside cache (value_place cache i)
 
 -- entries may be in this order: the keys downwards, and of equal keys those of named entries first
 abbrev pub may_follow : Ordering → Bool → Bool → Bool
@@ -272,7 +281,47 @@ unfoldable pub is_pair_good : Cache → ℕ → Bool
 is_pair_good cache i = may_follow (name_order (key_of cache i) (key_of cache (i + 1)))
     (is_named (hwcap_of cache i)) (is_named (hwcap_of cache (i + 1)))
 
+-- entry i may come after the one before it, if there is one
+abbrev pub is_in_order : Cache → ℕ → Bool
+is_in_order cache zero = true
+is_in_order cache (suc i) = is_pair_good cache i
+
+-- the first error of entry i: a part is past the end, a number in its key is 2 to the 31 or more, or it is out of order
+unfoldable pub entry_check : Cache → ℕ → Result (Unit {0}) SearchError
+entry_check cache i = unless (
+    (not (is_entry_inside cache i), CacheEntry)
+    ∷ (not (are_small (pieces (key_of cache i))), CacheNumber)
+    ∷ (not (is_in_order cache i), CacheEntryOrder)
+    ∷ []) tt
+
+-- name i - 1 of hwcaps, if there is one
+abbrev pub name_before : Cache → ℕ → Option (List ℕ)
+name_before cache zero = None
+name_before cache (suc i) = hwcaps_name cache i
+
+-- a name is above the one before it, if there is one: by their bytes, and where one ends first, by their lengths (`ld.so`,
+-- `glibc_hwcaps_compare`)
+abbrev pub is_above : Option (List ℕ) → List ℕ → Bool
+is_above None name = true
+is_above (Some last) name = is_lt (slice_cmp nat_cmp last name)
+
+-- the error of a name of hwcaps after another one: it is past the end, or not above that one
+abbrev pub name_error : Option (List ℕ) → Option (List ℕ) → Result (Unit {0}) SearchError
+name_error last None = Err HwcapsName
+name_error last (Some name) = if is_above last name then Ok tt else Err HwcapsOrder
+
+-- the error of name i of hwcaps
+abbrev pub name_check : Cache → ℕ → Result (Unit {0}) SearchError
+name_check cache i = name_error (name_before cache i) (hwcaps_name cache i)
+
+-- the first error of a cache: of its entries, then of its extension, then of the names of hwcaps there
+abbrev pub cache_check : Cache → Result (Unit {0}) SearchError
+cache_check cache = and_then (first_error (entry_check cache) cache.count) (λ _.
+    if is_none (words_of_header cache.bytes.now cache.start) then Err CacheExtension
+    else first_error (name_check cache) cache.name_count)
+
 -- the entries of a cache are in order, and all that they say is in the file
 pub record IsGood (cache : Cache) : Type 0 where
-  pub entries : (i : ℕ) → i < cache.count → is_entry_good cache i ≡ true
+  pub inside : (i : ℕ) → i < cache.count → is_entry_inside cache i ≡ true
+  pub small : (i : ℕ) → i < cache.count → are_small (pieces (key_of cache i)) ≡ true
   pub pairs : (i : ℕ) → i + 1 < cache.count → is_pair_good cache i ≡ true

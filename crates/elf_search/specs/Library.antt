@@ -1,6 +1,6 @@
 -- Whether a file that a search took can be loaded as a library (glibc 2.36; gABI, "Program Header": PT_LOAD and PT_DYNAMIC;
 -- DT_FLAGS_1 of Solaris and GNU, `elf.h`).
-use Rattle.std.specs.Prelude.{ℕ, ◌==◌, ◌&&◌, not, false, bit_and, Bool, List, [], ◌∷◌, Option, None, Some, is_some, if◌then◌else◌}
+use Rattle.std.specs.Prelude.{ℕ, ◌==◌, not, false, bit_and, Bool, List, [], ◌∷◌, Option, None, Some, is_some}
 use Rattle.std.specs.List.{find}
 use Rattle.elf_base.specs.FileHeader.{header_fields, type_number}
 use Rattle.elf_linking.specs.Segments.{segments_of}

@@ -28,6 +28,12 @@ search_row error.CacheCount = (518, codes "entries extend past the end of the ca
 search_row error.CacheOrder = (519, codes "cache is of another byte order")
 search_row error.FewWords = (520, codes "too few words for the objects")
 search_row error.NoObject = (521, codes "no such object or entry")
+search_row error.CacheEntry = (522, codes "key or value past the end of the cache")
+search_row error.CacheNumber = (523, codes "number in a key of the cache is too large")
+search_row error.CacheEntryOrder = (524, codes "entries of the cache are not in order")
+search_row error.CacheExtension = (525, codes "extension of the cache is damaged")
+search_row error.HwcapsName = (526, codes "name of hwcaps past the end of the cache")
+search_row error.HwcapsOrder = (527, codes "names of hwcaps are not in order")
 search_row error.NoProvider = (530, codes "file of a need of versions is no object")
 search_row (error.Link e) = (link_number e, link_message e)
 

@@ -1,17 +1,17 @@
 //! The cache of libraries that `ldconfig` writes (`ld.so.cache`; glibc, `dl-cache.h`), and what the
 //! loader finds there for a name.
 
-ghost use Rattle.std.specs.Prelude.{◌≡◌, ◌↔◌, ◌≤◌, ◌+◌, ◌*◌, ℕ, Err, IsOk, IsTrue, MatchOption, MatchResult, None, Some, length};
+ghost use Rattle.std.specs.Prelude.{◌≡◌, ◌↔◌, ◌≤◌, ◌+◌, ◌*◌, ℕ, Err, IsOk, MatchOption, MatchResult, None, Ok, Some, length};
 
+mod check;
 mod entries;
 mod layout;
 mod pieces;
 mod search;
 
 use crate::SearchError;
-use crate::cache::layout::{check_header, extension_words, header_place};
+use crate::cache::layout::{check_header, header_place, words_of_header};
 pub use crate::cache::pieces::compare;
-use elf_base::bytes::{Order, read_u32};
 
 // The first bytes of a cache.
 pub(crate) const MAGIC: &[u8; 20] = b"glibc-ld.so.cache1.1";
@@ -68,8 +68,8 @@ pub struct Cache<'a> {
 }
 
 impl<'a> Cache<'a> {
-    ghost use Rattle.elf_search.specs.Cache.{IsGood, LooksUp, cache_bytes, cache_of, entry_count};
-    ghost use Rattle.elf_search.specs.Cache.{header_place, looked_up, name_words, value_of};
+    ghost use Rattle.elf_search.specs.Cache.{IsGood, LooksUp, cache_bytes, cache_check, cache_of};
+    ghost use Rattle.elf_search.specs.Cache.{entry_count, header_place, looked_up, name_words, value_of};
 
     /// The cache in the bytes of a file. The older format may come before it.
     ///
@@ -89,8 +89,7 @@ impl<'a> Cache<'a> {
     {
         let start = header_place(bytes)?;
         let count = check_header(bytes, start)?;
-        let place = read_u32(bytes, start + 32, Order::Little);
-        let (names, name_count) = extension_words(bytes, place as usize).unwrap_or((0, 0));
+        let (names, name_count) = words_of_header(bytes, start).unwrap_or((0, 0));
         Ok(Cache {
             bytes,
             start,
@@ -106,7 +105,7 @@ impl<'a> Cache<'a> {
     /// file. Of the entries around it that are equal, in order, those count that are for the machine
     /// and have a value in the file: the best of those in active subdirectories of hwcaps, if such
     /// come first, or else the first whose capabilities the machine has. In a cache that is not in
-    /// order a name may be missed; if `check` is true, it is looked up among all entries.
+    /// order a name may be missed; if `check` has no error, it is looked up among all entries.
     ///
     /// The time is that of a comparison for each step of the search and for each equal entry; each
     /// comparison may read a key as long as the file if it begins with zeros.
@@ -123,22 +122,30 @@ impl<'a> Cache<'a> {
         Some(self.value(entry))
     }
 
-    /// Whether the cache is good: keys and values are in the file, keys are in descending
-    /// order by `compare`, of entries with equal keys those in subdirectories of hwcaps come first, and no
-    /// number in a key is 2 to the 31 or more. (`compare` is no order if there are such numbers.)
+    /// Checks all that a look-up may read. Without an error `look_up` finds the best of all entries with a
+    /// name, and `ld.so` finds the same.
     ///
-    /// The time is that of a comparison for each two neighbours.
-    pub fn check(&self) -> bool
-        ensures { IsTrue result ↔ IsGood self.now }
+    /// Errors: of the first entry with one, `CacheEntry` if its key or its value is past the end,
+    /// `CacheNumber` if a number in its key is 2 to the 31 or more, where `compare` is no order, and
+    /// `CacheEntryOrder` if its key is above that of the entry before it, by `compare`, or equals it and of
+    /// the two this entry alone is in a subdirectory of hwcaps. Then `CacheExtension` if there is an
+    /// extension, and its place is no multiple of 4, its magic number is another, or a part of it is past
+    /// the end. Then, of the first name of hwcaps with one, `HwcapsName` if its place is past the end,
+    /// where `ld.so` of glibc 2.36 crashes, and `HwcapsOrder` if it is not above the name before it, by
+    /// their bytes, where `ld.so` may pass over a subdirectory.
+    ///
+    /// The time is that of a comparison for each two neighbours, of a pass over the sections of the
+    /// extension, and of reading each name of hwcaps up to a zero byte.
+    #[tactic(auto, using(crate::proofs::CacheChecks::checked_after, crate::proofs::CacheChecks::checked_good))]
+    pub fn check(&self) -> Result<(), SearchError>
+        ensures exact { MatchResult result (λ _. cache_check self.now ≡ Ok tt)
+            (λ error. cache_check self.now ≡ Err error) }
+        ensures good { IsOk result → IsGood self.now }
     {
-        for index in 0..self.count {
-            if !self.is_entry_good(index) {
-                return false;
-            }
-            if index > 0 && !self.is_pair_good(index - 1) {
-                return false;
-            }
+        self.check_entries()?;
+        if words_of_header(self.bytes, self.start).is_none() {
+            return Err(SearchError::CacheExtension);
         }
-        true
+        self.check_names()
     }
 }

@@ -55,6 +55,18 @@ pub enum SearchError {
     /// No object has the number, or no entry is asked for. Returned by `Order::found`, `found_before`,
     /// `add` and `add_before`.
     NoObject,
+    /// A key or a value is past the end of the cache. Returned by `Cache::check`.
+    CacheEntry,
+    /// A number in a key of the cache is 2 to the 31 or more. Returned by `Cache::check`.
+    CacheNumber,
+    /// The entries of the cache are not in order. Returned by `Cache::check`.
+    CacheEntryOrder,
+    /// The extension of the cache can't be read. Returned by `Cache::check`.
+    CacheExtension,
+    /// A name of hwcaps is past the end of the cache. Returned by `Cache::check`.
+    HwcapsName,
+    /// The names of hwcaps are not in order. Returned by `Cache::check`.
+    HwcapsOrder,
     /// The file of a need of versions is no object, and no missing one. Returned by the items of
     /// `missing_versions`.
     NoProvider,
@@ -109,6 +121,12 @@ impl SearchError {
             519 => Some(SearchError::CacheOrder),
             520 => Some(SearchError::FewWords),
             521 => Some(SearchError::NoObject),
+            522 => Some(SearchError::CacheEntry),
+            523 => Some(SearchError::CacheNumber),
+            524 => Some(SearchError::CacheEntryOrder),
+            525 => Some(SearchError::CacheExtension),
+            526 => Some(SearchError::HwcapsName),
+            527 => Some(SearchError::HwcapsOrder),
             530 => Some(SearchError::NoProvider),
             _ => None,
         }
@@ -144,6 +162,12 @@ impl SearchError {
             SearchError::CacheOrder => (519, "cache is of another byte order"),
             SearchError::FewWords => (520, "too few words for the objects"),
             SearchError::NoObject => (521, "no such object or entry"),
+            SearchError::CacheEntry => (522, "key or value past the end of the cache"),
+            SearchError::CacheNumber => (523, "number in a key of the cache is too large"),
+            SearchError::CacheEntryOrder => (524, "entries of the cache are not in order"),
+            SearchError::CacheExtension => (525, "extension of the cache is damaged"),
+            SearchError::HwcapsName => (526, "name of hwcaps past the end of the cache"),
+            SearchError::HwcapsOrder => (527, "names of hwcaps are not in order"),
             SearchError::NoProvider => (530, "file of a need of versions is no object"),
             SearchError::Link(error) => (error.number(), error.message()),
         }

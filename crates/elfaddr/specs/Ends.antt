@@ -32,9 +32,11 @@ pub data AreInputFailed (source : Source) (input : Bor (List ℕ)) : LinkError �
 abbrev pub AreNamedLines : Options → List ℕ → Bor (List ℕ) → List ℕ → Type 0
 AreNamedLines options addresses input text = ByNaming options input (λ bytes. AreInputLines options.form options.source addresses bytes text)
 
+-- the symbols that are asked for are there, in the file that names the addresses of an input
 abbrev pub AreNamedThere : Options → Bor (List ℕ) → Type 0
 AreNamedThere options input = ByNaming options input (AreInputThere options.source)
 
+-- why they are not
 abbrev pub IsNamedError : Options → Bor (List ℕ) → LinkError → Type 0
 IsNamedError options input error = ByNaming options input (λ bytes. AreInputFailed options.source bytes error)
 

@@ -40,8 +40,8 @@ use linking_programs::{
 use program_ends::json::{Form, form_asked};
 use program_ends::{CLOSED, Fault, Stop, Watched, arguments, exit_code, say, write_about};
 use program_libraries::{
-    Finder, Given, Settings, StoredFile, Tree, given_files, listed_inputs, say_error, say_missing,
-    with_missing,
+    Finder, Given, Settings, StoredFile, Tree, given_files, listed_inputs, say_error,
+    say_lacked_given, say_missing, with_missing,
 };
 use std::alloc::Global;
 use std::io;
@@ -335,7 +335,8 @@ fn run_on_program<W: Write, E: Write>(
     }
 }
 
-// Writes what is asked of the files at some paths, or which can't be read.
+// Writes what is asked of a file by itself, or of a program and its libraries, at these paths, and which versions they lack
+// of each other, or which file can't be read.
 fn run_on_files<W: Write, E: Write>(
     rt: &HostRuntime,
     question: Question,
@@ -344,7 +345,11 @@ fn run_on_files<W: Write, E: Write>(
     err: &mut E,
 ) -> u8 {
     match read_inputs::<_, LinkError>(rt, paths) {
-        Ok(inputs) => run(rt.alloc(), question, &inputs, out, err),
+        Ok(inputs) if paths.len() == 1 => run(rt.alloc(), question, &inputs, out, err),
+        Ok(inputs) => {
+            let missing = say_lacked_given(rt.alloc(), NAME, &inputs, &mut *err);
+            with_missing(missing, run(rt.alloc(), question, &inputs, out, err))
+        }
         Err(unread) => say(NAME, &unread, err),
     }
 }

@@ -54,6 +54,7 @@ abbrev pub IsWrittenBy : {E : Type 0} → {r : _} → (E → SymbolFields) → B
 IsWrittenBy fields when form inputs objects None = AreWordsWritten fields form when inputs objects
 IsWrittenBy fields when form inputs objects (Some steps) = IsStartText fields form inputs objects steps.now
 
+-- the same, by the options: when functions are bound, the form of the lines, and the steps if functions are asked for
 abbrev pub IsWritten : {E : Type 0} → {r : _} → (E → SymbolFields) → Options → List Input → List (DynamicObject E r) → List ℕ → Type 0
 IsWritten fields options inputs objects = IsWrittenBy fields options.when options.form inputs objects options.steps
 
@@ -62,6 +63,7 @@ abbrev pub IsFailedBy : {E : Type 0} → {r : _} → (E → SymbolFields) → Bi
 IsFailedBy fields when inputs objects None = IsTextFailed fields when inputs objects
 IsFailedBy fields when inputs objects (Some steps) = AreStartsFailed fields inputs objects steps.now
 
+-- the same, by the options
 abbrev pub IsWritingFailed : {E : Type 0} → {r : _} → (E → SymbolFields) → Options → List Input → List (DynamicObject E r) → Failed LoadError → Type 0
 IsWritingFailed fields options inputs objects = IsFailedBy fields options.when inputs objects options.steps
 

@@ -17,6 +17,7 @@ use Rattle.program_ends.specs.declared.json.Value.TheVariants.{Null, Number}
 abbrev pub edges : json.Value → json.Value → Edges
 edges start end = record { start = start; end = end }
 
+-- those of the pages that a plan makes readable: null without a plan for them, or if they are empty
 abbrev pub relro_edges : Option Span → Edges
 relro_edges (Some span) = if nat_lt span.start span.end then edges (Number span.start) (Number span.end) else edges Null Null
 relro_edges None = edges Null Null
@@ -25,6 +26,7 @@ relro_edges None = edges Null Null
 abbrev pub template : json.Value → json.Value → json.Value → json.Value → Template
 template address file_size size align = record { address = address; file_size = file_size; size = size; align = align }
 
+-- those of the storage of a plan: its address, its bytes in the file, its bytes in memory and its alignment, or null without one
 abbrev pub template_of : Option Tls → Template
 template_of (Some tls) = template (Number tls.address) (Number tls.file_size) (Number tls.mem_size) (Number tls.align)
 template_of None = template Null Null Null Null

@@ -26,15 +26,17 @@ value_kind (ThreadNegated object offset) = codes "thread_negated"
 value_kind (Descriptor object offset) = codes "descriptor"
 value_kind (Copy object offset size) = codes "copy"
 
--- its numbers: the index of a file, the function whose result it is, what is added or where it is, and how many bytes are copied
+-- the numbers of a value: the index of a file, the function whose result it is, what is added or where it is, and how many bytes are copied
 abbrev pub numbers : Option ℕ → Option ℕ → Option ℕ → Option ℕ → Numbers
 numbers object resolver offset size = record { object = object; resolver = resolver; offset = offset; size = size }
 
+-- those of an origin and what is added to it: the absolute address 0, the base of a file, or the result of a function
 abbrev pub origin_numbers : Origin → ℕ → Numbers
 origin_numbers Zero offset = numbers None None (Some offset) None
 origin_numbers (Base object) offset = numbers (Some object) None (Some offset) None
 origin_numbers (Call object resolver) offset = numbers object (Some resolver) (Some offset) None
 
+-- those of a value
 abbrev pub value_numbers : Value → Numbers
 value_numbers Unchanged = numbers None None None None
 value_numbers (Sum origin offset) = origin_numbers origin offset

@@ -45,6 +45,7 @@ abbrev pub mapped_line : Form → List ℕ → List ℕ
 mapped_line Text path = path ++ codes ": loads: yes\n"
 mapped_line Json path = json_line (member (codes "file") (text_value path) ∷ member (codes "loads") (Bool true) ∷ [])
 
+-- the text is that line
 abbrev pub IsMappedLine : Form → List ℕ → List ℕ → Type 0
 IsMappedLine form path text = text ≡ mapped_line form path
 

@@ -35,10 +35,10 @@ use crate::paths::run_on_arguments;
 use crate::plans::{AnyError, Plan};
 use crate::printing::print_words;
 use crate::steps::{Step, early_starts, start_steps};
-use crate::symbols::say_unresolved;
+use crate::symbols::say_references;
 use elf_base::bytes::Record;
 use elf_loading::Binding;
-use linking_programs::{Input, say_past_numbers};
+use linking_programs::Input;
 use program_ends::json::Form;
 use program_ends::{
     CLOSED, Fault, Watched, exit_code, fault_of, quiet_status_of, say, write_buffered,
@@ -226,13 +226,7 @@ fn with_references<E: Write>(
     if status != 0 || missing {
         return with_missing(missing, status);
     }
-    if say_past_numbers(alloc, NAME, inputs, &mut *err) {
-        return 1;
-    }
-    if !wanted {
-        return 0;
-    }
-    say_unresolved(alloc, inputs, err)
+    say_references(alloc, wanted, inputs, err)
 }
 
 /// Writes which functions run when a program starts, whose libraries were found, to `out`, and says to `err` which
@@ -292,8 +286,7 @@ fn run_steps<W: Write, E: Write>(
     ensures checked { result ≡ 0
         → AreImagesGood ⟦<DynEntry32 as Record>⟧ ⟦<DynEntry64 as Record>⟧ page inputs.now }
 {
-    let early = early_starts(&tree.list, &tree.starts, inputs);
-    match start_steps(alloc, &tree.list, &tree.starts, early) {
+    match tree_steps(alloc, tree, inputs) {
         Some(steps) => {
             let asked = Options {
                 page,
@@ -305,6 +298,14 @@ fn run_steps<W: Write, E: Write>(
         }
         None => say_memory(err),
     }
+}
+
+// The steps of the start of a tree, whose files these are; `None` if there is no memory for them.
+fn tree_steps(alloc: Global, tree: &Tree, inputs: &[Input<'_>]) -> Option<Vec<Step>> {
+    let list: &[u32] = &tree.list;
+    let starts: &[u32] = &tree.starts;
+    let early = early_starts(list, starts, inputs);
+    start_steps(alloc, list, starts, early)
 }
 
 // The plans of all files, and the status: 1 if that of one is. Once nobody reads the output, no other plan is written.

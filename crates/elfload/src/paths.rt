@@ -10,7 +10,7 @@ use elf_loading::Loader;
 use linking_programs::read_inputs;
 use program_ends::json::{Form, form_asked};
 use program_ends::{Watched, arguments, say, write_about};
-use program_libraries::{Finder, Given, Settings, say_error};
+use program_libraries::{Finder, Given, Settings, say_error, say_lacked_given};
 use std::io;
 use std::io::Write;
 
@@ -82,7 +82,8 @@ fn run_start_on<W: Write, E: Write>(
     }
 }
 
-// Writes what is asked of a file by itself, or of a program and its libraries, at these paths, or which can't be read.
+// Writes what is asked of a file by itself, or of a program and its libraries, at these paths, and which versions they lack
+// of each other, or which file can't be read.
 fn run_on_files<W: Write, E: Write>(
     rt: &HostRuntime,
     asked: Options<'_>,
@@ -94,7 +95,10 @@ fn run_on_files<W: Write, E: Write>(
 {
     match read_inputs::<_, AnyError>(rt, paths) {
         Ok(inputs) if paths.len() == 1 => run(rt.alloc(), asked, &inputs, out, err),
-        Ok(inputs) => run_together(rt.alloc(), asked, false, &inputs, out, err),
+        Ok(inputs) => {
+            let missing = say_lacked_given(rt.alloc(), NAME, &inputs, &mut *err);
+            run_together(rt.alloc(), asked, missing, &inputs, out, err)
+        }
         Err(fault) => say(NAME, &fault, err),
     }
 }

@@ -1,7 +1,10 @@
-//! Whether each reference gets a symbol, unless it is weak.
+//! Whether the version numbers of symbols are known, and each reference gets a symbol, unless it is weak.
 
-ghost use Rattle.std.specs.Prelude.{◌≡◌, ◌≤◌};
+ghost use Rattle.std.specs.Prelude.{◌≡◌, ◌≤◌, [], IsTrue, length, map};
+ghost use Rattle.elf_linking.specs.CheckedBindings.{all_unresolved};
+ghost use Rattle.elf_linking.specs.Exports.{object_parts};
 ghost use Rattle.elfload.specs.Symbols.{AreInputsBound, AreSymbolsFound};
+ghost use Rattle.linking_programs.specs.Numbers.{AreInputsKnown, AreNumbersKnown};
 
 use crate::NAME;
 use crate::printing::{load_stop, words_fault_of};
@@ -9,43 +12,79 @@ use elf_base::bytes::Record;
 use elf_linking::DynamicObject;
 use elf_linking::checked::{CheckedBinding, CheckedScope};
 use elf_linking::view::LinkedSymbol;
-use linking_programs::{Input, checked_objects, is_first_narrow, read_objects};
+use linking_programs::{
+    Input, checked_objects, is_first_narrow, read_objects, say_past_numbers_of,
+};
 use program_ends::{say, write_name};
 use std::alloc::Global;
 use std::io;
 use std::io::Write;
 use xmas_elf::symbol_table::{DynEntry32, DynEntry64};
 
-// 0 if each reference of the files that isn't weak gets a symbol; otherwise 1, and `err` says of the first
-// that doesn't which file has it and for which symbol, or why the files can't be read.
-pub(crate) fn say_unresolved<W: Write>(alloc: Global, inputs: &[Input<'_>], err: &mut W) -> u8
+// 0 if no symbol of the files has a version number past those of all versions and, where that is wanted, each reference
+// that isn't weak gets a symbol; otherwise 1, and `err` says of the first which it is, or why the files can't be read.
+pub(crate) fn say_references<W: Write>(
+    alloc: Global,
+    wanted: bool,
+    inputs: &[Input<'_>],
+    err: &mut W,
+) -> u8
     ensures bound { result ≤ 1 }
-    ensures found { result ≡ 0
+    ensures known { result ≡ 0
+        → AreNumbersKnown ⟦<DynEntry32 as Record>⟧ ⟦<DynEntry64 as Record>⟧ inputs.now }
+    ensures found { result ≡ 0 → IsTrue wanted
         → AreSymbolsFound ⟦<DynEntry32 as Record>⟧ ⟦<DynEntry64 as Record>⟧ inputs.now }
 {
     if is_first_narrow(inputs) {
-        say_first::<DynEntry32, _>(alloc, inputs, err)
+        say_of_class::<DynEntry32, _>(alloc, wanted, inputs, err)
     } else {
-        say_first::<DynEntry64, _>(alloc, inputs, err)
+        say_of_class::<DynEntry64, _>(alloc, wanted, inputs, err)
     }
 }
 
 // The same for files of a class.
-fn say_first<E: LinkedSymbol, W: Write>(alloc: Global, inputs: &[Input<'_>], err: &mut W) -> u8
+fn say_of_class<E: LinkedSymbol, W: Write>(
+    alloc: Global,
+    wanted: bool,
+    inputs: &[Input<'_>],
+    err: &mut W,
+) -> u8
     ensures bound { result ≤ 1 }
-    ensures found { result ≡ 0
+    ensures known { result ≡ 0
+        → AreInputsKnown {E = E} E.Record E.fields E.CLASS E.SIZE inputs.now }
+    ensures found { result ≡ 0 → IsTrue wanted
         → AreInputsBound {E = E} E.Record E.fields E.CLASS E.SIZE inputs.now }
 {
     let objects = match read_objects::<E>(alloc, inputs) {
         Ok(objects) => objects,
         Err(stop) => return say(NAME, &words_fault_of(load_stop(stop)), err),
     };
-    let checked = match checked_objects(alloc, inputs, &objects) {
+    if say_past_numbers_of(NAME, inputs, &objects, &mut *err) {
+        return 1;
+    }
+    if !wanted {
+        return 0;
+    }
+    say_first(alloc, inputs, &objects, err)
+}
+
+// 0 if each reference that isn't weak gets a symbol; otherwise 1, and `err` says which the first is that doesn't.
+fn say_first<E: LinkedSymbol, W: Write>(
+    alloc: Global,
+    inputs: &[Input<'_>],
+    objects: &[DynamicObject<'_, E>],
+    err: &mut W,
+) -> u8
+    requires { length objects.now ≡ length inputs.now }
+    ensures bound { result ≤ 1 }
+    ensures found { result ≡ 0 → all_unresolved (map (object_parts E.fields) objects.now) ≡ [] }
+{
+    let checked = match checked_objects(alloc, inputs, objects) {
         Ok(checked) => checked,
         Err(stop) => return say(NAME, &words_fault_of(load_stop(stop)), err),
     };
     match CheckedScope::new(&checked).unresolved().next() {
-        Some(item) => say_symbol(inputs, &objects, item, err),
+        Some(item) => say_symbol(inputs, objects, item, err),
         None => 0,
     }
 }

@@ -50,6 +50,7 @@ pub record AreParts (file : ElfFile) (symbols : Symbols) (parts : List SizedPart
 
 -- The lines.
 
+-- the sign of a change of size: `-` if there are fewer bytes now, otherwise `+`
 abbrev pub sign_of : ℕ → ℕ → List ℕ
 sign_of old new = if nat_lt new old then codes "-" else codes "+"
 
@@ -113,10 +114,11 @@ kinds_lines old new old_bytes new_bytes =
     ++ (kind_line old.after new.after (codes "after all parts")
     ++ kind_line old_bytes new_bytes (codes "sum"))))))))
 
--- the same as JSON
+-- the record of a kind as JSON
 unfoldable pub kind_record : ℕ → ℕ → List ℕ → List ℕ
 kind_record old new kind = change_record kind None None None (capped old) (capped new) true
 
+-- the bytes by kind as JSON: a record for each kind, and one for the sizes of the files
 abbrev pub kinds_records : Sums → Sums → ℕ → ℕ → List ℕ
 kinds_records old new old_bytes new_bytes = kind_record old.sections new.sections (codes "sections")
     ++ (kind_record old.segments new.segments (codes "segments")
@@ -127,6 +129,7 @@ kinds_records old new old_bytes new_bytes = kind_record old.sections new.section
     ++ (kind_record old.after new.after (codes "after all parts")
     ++ kind_record old_bytes new_bytes (codes "sum")))))))
 
+-- the bytes by kind, in the form that is asked for
 abbrev pub kinds_text : Form → Kinds → List ℕ
 kinds_text forms.Text kinds = kinds_lines kinds.old kinds.new kinds.old_bytes kinds.new_bytes
 kinds_text forms.Json kinds = kinds_records kinds.old kinds.new kinds.old_bytes kinds.new_bytes

@@ -25,6 +25,7 @@ abbrev pub name_or_mark : ElfFile → Result SectionHeader ElfError → List ℕ
 name_or_mark file (Ok section) = or_mark (shstr_bytes_of file (section_fields section).name)
 name_or_mark file (Err error) = codes "?"
 
+-- the name of the section at an index of a file, as it is written
 abbrev pub section_name : ElfFile → ℕ → List ℕ
 section_name file index = name_or_mark file (section_of file index)
 
@@ -67,10 +68,11 @@ kind_word part =
     if part % 4 == 0 then codes "section"
     else (if part % 4 == 1 then codes "segment" else (if part % 4 == 2 then codes "symbol" else other_text (part / 4)))
 
--- the index of a part, and the name, where it has one
+-- the index of a part, where it has one
 abbrev pub index_of : ℕ → Option ℕ
 index_of part = if part % 4 == 3 then None else Some (part / 4)
 
+-- the name of a part as JSON has it: that of a section or of a symbol; other parts have none
 abbrev pub name_of : ℕ → List ℕ → Option (List ℕ)
 name_of part name = if part % 4 == 0 || part % 4 == 2 then Some name else None
 
@@ -86,6 +88,7 @@ line_text forms.Json path file symbols one =
 abbrev pub sum_line : ℕ → List ℕ
 sum_line n = amount_text n n ++ codes "sum\n"
 
+-- the sum of the sizes, in the form that is asked for
 abbrev pub sum_text : Form → List ℕ → ℕ → List ℕ
 sum_text forms.Text path n = sum_line n
 sum_text forms.Json path n = size_record (Some path) (codes "sum") None None n (Some (capped (share_of n n)))

@@ -12,6 +12,7 @@ use Rattle.xmas_elf.specs.Types.{ElfFile}
 abbrev pub numbered : ℕ → ℕ → ℕ
 numbered kind index = 4 * (index % 0x100000000) + kind
 
+-- the number of the part that an owner of bytes is
 abbrev pub part_number : Owner → ℕ
 part_number (Section index) = numbered 0 index
 part_number (Segment index) = numbered 1 index

@@ -29,10 +29,12 @@ abbrev pub first_address : ElfFile → SectionHeader → ℕ
 first_address file section =
     if type_number (header_fields file.header.pt2).type_ == 1 then 0 else (section_fields section).address
 
+-- the same of a section that may be unreadable, which has neither
 abbrev pub place_or_zero : ElfFile → Result SectionHeader ElfError → ℕ × ℕ
 place_or_zero file (Ok section) = ((section_fields section).offset, first_address file section)
 place_or_zero file (Err error) = (0, 0)
 
+-- the offset of the section at an index of a file, and the address of its first byte
 abbrev pub section_place : ElfFile → ℕ → ℕ × ℕ
 section_place file index = place_or_zero file (section_of file index)
 
@@ -45,6 +47,7 @@ abbrev pub symbol_part : ℕ → Option ℕ → ℕ
 symbol_part index None = numbered 0 index
 symbol_part index (Some symbol) = numbered 2 symbol
 
+-- a run of addresses in the section at an index, as a part with as many bytes
 abbrev pub symbol_run : ℕ → SymbolPiece → Run
 symbol_run index piece = record { part = symbol_part index piece.symbol; size = piece.end - piece.begin }
 

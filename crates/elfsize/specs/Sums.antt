@@ -76,10 +76,11 @@ lines_of sums =
     ++ (sums_line sums.after (codes "after all parts")
     ++ sums_line (all_of sums) (codes "sum"))))))))
 
--- the same as JSON, where a sum is at most 2 to the 64 minus 1
+-- the record of a kind as JSON, where a sum is at most 2 to the 64 minus 1
 unfoldable pub sums_record : ℕ → List ℕ → List ℕ
 sums_record bytes kind = size_record None kind None None (capped bytes) None
 
+-- the sums as JSON: a record for each kind, and one for the bytes of all kinds
 abbrev pub records_of : Sums → List ℕ
 records_of sums = sums_record sums.sections (codes "sections")
     ++ (sums_record sums.segments (codes "segments")
@@ -90,6 +91,7 @@ records_of sums = sums_record sums.sections (codes "sections")
     ++ (sums_record sums.after (codes "after all parts")
     ++ sums_record (all_of sums) (codes "sum")))))))
 
+-- the sums, in the form that is asked for
 abbrev pub sums_text : Form → Sums → List ℕ
 sums_text forms.Text sums = lines_of sums
 sums_text forms.Json sums = records_of sums

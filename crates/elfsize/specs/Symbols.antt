@@ -46,6 +46,7 @@ abbrev pub AreFirst : ElfFile → Option ℕ → Symbols → Type 0
 AreFirst file None symbols = symbols ≡ are.None
 AreFirst file (Some index) symbols = AreSymtabAt file index symbols
 
+-- the symbols of a file: those of the first section of type SHT_SYMTAB in its section header table, or none
 abbrev pub AreSymtab : ElfFile → Symbols → Type 0
 AreSymtab file symbols = (first : Option ℕ) × FindsFirstAt IsSymtabSection (section_parts file) first × AreFirst file first symbols
 
@@ -68,10 +69,12 @@ IsFailedAt file index (Elf error) = IsSymtabError file index error
 IsFailedAt file index Many = (symbols : Symbols) × AreSymtabAt file index symbols × (0x100000000 ≤ count_in symbols)
 IsFailedAt file index Memory = ⊥
 
+-- why the symbols of a file can't be used: the first section of type SHT_SYMTAB has this error
 abbrev pub IsSymtabReason : ElfFile → AnyError → Type 0
 IsSymtabReason file failure =
     (index : ℕ) × FindsFirstAt IsSymtabSection (section_parts file) (Some index) × IsFailedAt file index failure
 
+-- the same by what is asked for: no error where no symbols are
 abbrev pub IsSymbolsError : View → ElfFile → AnyError → Type 0
 IsSymbolsError views.Whole file failure = ⊥
 IsSymbolsError views.Segments file failure = ⊥

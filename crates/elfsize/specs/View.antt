@@ -13,6 +13,7 @@ abbrev pub without_sections : List ℕ → List ℕ
 without_sections bytes =
     if nat_lt (length bytes) 48 then bytes else (if slice_index bytes 4 == 1 then zeroed 32 4 bytes else zeroed 40 8 bytes)
 
+-- the bytes that are read of a file: all of them, or without the section header table if segments alone are asked for
 abbrev pub shown : View → List ℕ → List ℕ
 shown Whole bytes = bytes
 shown Segments bytes = without_sections bytes

@@ -12,16 +12,17 @@ use Rattle.program_ends.specs.Stops.{HasBegun}
 use Rattle.program_ends.specs.declared.Fault.{Fault}
 use Rattle.program_ends.specs.declared.json.Form.{Form}
 
--- by the question: what is written of an input, its error, and how far the program has come when the first line is
--- written
+-- what is written of an input, by the question
 abbrev pub IsAnswer : {S : Type 0} → Form → (S → List ℕ) → questions.Question S → Bor (List ℕ) → List ℕ → Type 0
 IsAnswer form text_of Needed input text = AreInputLibraries form input text
 IsAnswer form text_of (Symbols references) input text = AreInputLines form text_of input references.now text
 
+-- why nothing is: the error of the input for this question
 abbrev pub IsFailed : {S : Type 0} → Form → (S → List ℕ) → questions.Question S → Bor (List ℕ) → LinkError → Type 0
 IsFailed form text_of Needed input error = AreInputLibrariesFailed form input error
 IsFailed form text_of (Symbols references) input error = AreInputLinesFailed form text_of input references.now error
 
+-- how far the program has come for this question when a write fails: the input can be read, and lines of it may be written
 abbrev pub IsBegun : {S : Type 0} → Form → (S → List ℕ) → questions.Question S → Bor (List ℕ) → Type 0
 IsBegun form text_of Needed input = HasBegun (AreInputLibrariesBegun input) (AppendsSome (AreInputLibraries form input))
 IsBegun form text_of (Symbols references) input = HasBegun (AreInputLinesBegun form text_of input references.now)

@@ -23,7 +23,7 @@ mod checked;
 mod numbers;
 
 pub use crate::checked::checked_objects;
-pub use crate::numbers::{first_past, say_past_numbers};
+pub use crate::numbers::{first_past, say_past_numbers, say_past_numbers_of};
 
 /// A file that a program is given.
 #[derive(Drop)]

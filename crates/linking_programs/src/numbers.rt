@@ -50,14 +50,14 @@ fn say_of_class<E: LinkedSymbol, W: Write>(
         → AreInputsKnown {E = E} E.Record E.fields E.CLASS E.SIZE inputs.now }
 {
     match read_objects::<E>(alloc, inputs) {
-        Ok(objects) => say_of_objects(program, inputs, &objects, err),
+        Ok(objects) => say_past_numbers_of(program, inputs, &objects, err),
         Err(Stop::Memory) => say(program, &"not enough memory", err) > 0,
         Err(_) => true,
     }
 }
 
-// The same for the objects of files.
-fn say_of_objects<E: LinkedSymbol, W: Write>(
+/// The same for the objects of files.
+pub fn say_past_numbers_of<E: LinkedSymbol, W: Write>(
     program: &str,
     inputs: &[Input<'_>],
     objects: &[DynamicObject<'_, E>],

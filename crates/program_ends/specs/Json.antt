@@ -56,25 +56,29 @@ json_value (values.Name name) = if is_utf8 name.now then json_string name.now el
 abbrev pub json_member : Member → List ℕ
 json_member member = json_string (member.key.now ++ key_end member.value) ++ 58 ∷ json_value member.value
 
--- a member by its key, and the values of a text and of a name
+-- a member by its key and its value
 abbrev pub member : List ℕ → Value → Member
 member key value = record { key = record { ref_ptr = (0, 0); now = key }; value = value }
 
+-- the value of a text: a string
 abbrev pub text_value : List ℕ → Value
 text_value text = values.Text (record { ref_ptr = (0, 0); now = text })
 
+-- the value of a name of a file, of any bytes
 abbrev pub name_value : List ℕ → Value
 name_value name = values.Name (record { ref_ptr = (0, 0); now = name })
 
--- the values of a number, of a text and of a name that may be missing: null without it
+-- the value of a number that may be missing: null without it
 abbrev pub number_or_null : Option ℕ → Value
 number_or_null None = values.Null
 number_or_null (Some number) = values.Number number
 
+-- the value of a text that may be missing: null without it
 abbrev pub text_or_null : Option (List ℕ) → Value
 text_or_null None = values.Null
 text_or_null (Some text) = text_value text
 
+-- the value of a name that may be missing: null without it
 abbrev pub name_or_null : Option (List ℕ) → Value
 name_or_null None = values.Null
 name_or_null (Some name) = name_value name

@@ -5,13 +5,14 @@ ghost use Rattle.program_ends.specs.declared.TheConstants.{CLOSED};
 ghost use Rattle.program_libraries.specs.Complete.{IsComplete, with_missing};
 
 use crate::complete::is_complete;
-use crate::error::say_error;
+use crate::error::{FindError, say_error};
 use crate::objects::Object;
 use crate::store::StoredFile;
 use crate::trees::Tree;
-use crate::versions::{LackedVersion, lacked_versions};
+use crate::versions::{LackedVersion, lacked_given, lacked_versions};
 use elf_search::names::NameKind;
 use elf_search::versions::Lack;
+use linking_programs::Input;
 use program_ends::write_name;
 use std::alloc::Global;
 use std::io;
@@ -47,7 +48,28 @@ fn say_lacked<W: Write>(
     tree: &Tree,
     err: &mut W,
 ) -> bool {
-    let all = match lacked_versions(alloc, files, tree) {
+    say_all(program, lacked_versions(alloc, files, tree), err)
+}
+
+/// Says which versions files given by hand, in the order in which they are loaded, lack of each other, after the name of
+/// the program that runs. Whether one isn't weak, or `ld.so` doesn't support the record of a version: it doesn't start
+/// such a program. What isn't among the files is no error, and an error of a file is left to the checks of the program.
+pub fn say_lacked_given<W: Write>(
+    alloc: Global,
+    program: &str,
+    inputs: &[Input<'_>],
+    err: &mut W,
+) -> bool {
+    say_all(program, lacked_given(alloc, inputs), err)
+}
+
+// Says which versions are missing, or why that isn't known; whether one isn't weak, or it isn't known.
+fn say_all<W: Write>(
+    program: &str,
+    found: Result<Vec<LackedVersion<'_>>, FindError>,
+    err: &mut W,
+) -> bool {
+    let all = match found {
         Ok(all) => all,
         Err(error) => return say_error(program, &error, err) > 0,
     };
@@ -92,6 +114,7 @@ fn write_version<W: Write>(before: &str, version: &str, out: &mut W) -> io::Resu
 /// The status of a program that says whether a library or a version is missing: 1 in place of 0 if one is.
 pub fn with_missing(missing: bool, status: u8) -> u8
     ensures value { result ≡ with_missing missing status }
+    ensures same { status ≢ 0 → result ≡ status }
     ensures whole { result ≡ 0 → IsFalse missing }
     ensures kept { result ≡ 0 → status ≡ 0 }
     ensures bound { (status ≢ CLOSED → status ≤ 1) → result ≢ CLOSED → result ≤ 1 }

@@ -1,10 +1,7 @@
 //! Records of versions with another version number than 1, which `ld.so` doesn't support (LSB, "Symbol
 //! Versioning": vd_version, vn_version).
 
-use crate::contents::bytes_in;
 use crate::objects::view_of;
-use crate::store::StoredFile;
-use crate::trees::Tree;
 use elf_base::bytes::{Order, read_u16, read_u32};
 use elf_linking::versions::{Need, Versions};
 use elf_linking::view::{DT_VERDEF, DT_VERNEED, bytes_from};
@@ -54,14 +51,9 @@ pub(crate) fn other_need(bytes: &[u8]) -> Option<u16> {
     }
 }
 
-/// The first record of the definitions of the file of an object with another version number than 1.
-pub(crate) fn other_definition(
-    files: &[StoredFile],
-    tree: &Tree,
-    number: Option<u32>,
-) -> Option<OtherRecord> {
-    let object = tree.object(number?)?;
-    let (records, order) = records_at(bytes_in(files, object.file), DT_VERDEF)?;
+/// The first record of the definitions of a file with another version number than 1.
+pub(crate) fn other_definition(bytes: &[u8]) -> Option<OtherRecord> {
+    let (records, order) = records_at(bytes, DT_VERDEF)?;
     first_other(records, order)
 }
 

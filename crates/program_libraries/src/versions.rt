@@ -1,8 +1,8 @@
 //! The versions that objects need and that the libraries they get lack.
 
-use crate::contents::bytes_in;
 use crate::error::{FindError, error_in, need_record};
-use crate::objects::{Object, view_of};
+use crate::holders::{Holder, given_holders, tree_holders};
+use crate::objects::view_of;
 use crate::records::{OtherRecord, is_passed, other_definition, other_need};
 use crate::store::StoredFile;
 use crate::trees::Tree;
@@ -11,6 +11,7 @@ use elf_linking::versions::{Need, Versions};
 use elf_linking::view::DT_VERDEF;
 use elf_search::SearchError;
 use elf_search::versions::{Lack, MissingVersion, Provided, Provider, missing_versions};
+use linking_programs::Input;
 use std::alloc::{AllocError, Global};
 use xmas_elf::ElfFile;
 
@@ -39,22 +40,50 @@ pub fn lacked_versions<'t>(
     files: &'t [StoredFile],
     tree: &'t Tree,
 ) -> Result<Vec<LackedVersion<'t>>, FindError> {
-    let all = all_names(alloc, tree)?;
-    let providers = all_providers(alloc, files, tree, &all)?;
-    let others = all_others(alloc, files, tree, &all)?;
+    let holders = tree_holders(alloc, files, tree)?;
+    lacked_among(alloc, &holders, false)
+}
+
+/// The versions that files given by hand, in the order in which they are loaded, need of each other and lack, in the
+/// same order. Those of files that aren't among them are passed over, and so are those that can't be read.
+///
+/// Errors: `NeedRecord`, as those of `lacked_versions`; `Memory`.
+pub(crate) fn lacked_given<'t>(
+    alloc: Global,
+    inputs: &'t [Input<'_>],
+) -> Result<Vec<LackedVersion<'t>>, FindError> {
+    let holders = given_holders(alloc, inputs)?;
+    lacked_among(alloc, &holders, true)
+}
+
+// The objects among which versions are looked for: what each provides, and its first record that `ld.so` doesn't
+// support; and whether they are given by hand.
+#[derive(Clone, Copy)]
+struct Scope<'s, 't> {
+    holders: &'s [Holder<'t>],
+    providers: &'s [Provider<'s, 't>],
+    others: &'s [Option<OtherRecord>],
+    is_given: bool,
+}
+
+// The versions that these objects need and lack.
+fn lacked_among<'t>(
+    alloc: Global,
+    holders: &[Holder<'t>],
+    is_given: bool,
+) -> Result<Vec<LackedVersion<'t>>, FindError> {
+    let providers = all_providers(alloc, holders, is_given)?;
+    let others = all_others(alloc, holders)?;
+    let scope = Scope {
+        holders,
+        providers: &providers,
+        others: &others,
+        is_given,
+    };
     let mut lacked = Vec::new(alloc);
-    for number in &tree.list {
-        if let Some(object) = tree.object(*number) {
-            push_all_lacked(
-                alloc,
-                files,
-                tree,
-                &all,
-                &providers,
-                &others,
-                object,
-                &mut lacked,
-            )?;
+    for holder in holders {
+        if let Some(bytes) = holder.bytes {
+            push_all_lacked(alloc, scope, holder.path, bytes, &mut lacked)?;
         }
     }
     Ok(lacked)
@@ -84,76 +113,17 @@ fn provided_by(bytes: &[u8]) -> Result<Provided<'_>, LinkError> {
     }
 }
 
-// The objects in the order of the list, and the missing names between them: the number of the object, or
-// `None`, and the names by which it is known.
-type Named<'t> = (Option<u32>, Vec<&'t [u8]>);
-
-// All of them.
-fn all_names<'t>(alloc: Global, tree: &'t Tree) -> Result<Vec<Named<'t>>, AllocError> {
-    let mut all = Vec::new(alloc);
-    for place in 0..tree.list.len() {
-        push_named(alloc, tree, tree.list[place] as usize, &mut all)?;
-        push_missing(alloc, tree, place, &mut all)?;
-    }
-    Ok(all)
-}
-
-// The names of an object. The program is known by an empty name.
-fn push_named<'t>(
-    alloc: Global,
-    tree: &'t Tree,
-    number: usize,
-    all: &mut Vec<Named<'t>>,
-) -> Result<(), AllocError> {
-    let (Some(object), Ok(own)) = (tree.objects.get(number), u32::try_from(number)) else {
-        return Ok(());
-    };
-    let mut names: Vec<&'t [u8]> = Vec::new(alloc);
-    names.push(if number == 0 {
-        b""
-    } else {
-        object.path.as_bytes()
-    })?;
-    for name in &object.names {
-        names.push(name.as_slice())?;
-    }
-    all.push((Some(own), names))?;
-    Ok(())
-}
-
-// The names that were missing when the object at a place of the list was the last there.
-fn push_missing<'t>(
-    alloc: Global,
-    tree: &'t Tree,
-    place: usize,
-    all: &mut Vec<Named<'t>>,
-) -> Result<(), AllocError> {
-    for missing in &tree.missing {
-        if tree.last_of(missing.0) == Some(place) {
-            let mut names: Vec<&'t [u8]> = Vec::new(alloc);
-            names.push(missing.1.as_slice())?;
-            all.push((None, names))?;
-        }
-    }
-    Ok(())
-}
-
-// What they provide.
+// What each object provides.
 fn all_providers<'s, 't>(
     alloc: Global,
-    files: &'t [StoredFile],
-    tree: &'t Tree,
-    all: &'s [Named<'t>],
+    holders: &'s [Holder<'t>],
+    is_given: bool,
 ) -> Result<Vec<Provider<'s, 't>>, FindError> {
     let mut providers = Vec::new(alloc);
-    for named in all {
-        let object = match named.0 {
-            Some(number) => tree.object(number),
-            None => None,
-        };
+    for holder in holders {
         providers.push(Provider {
-            names: &named.1,
-            provided: provided_of(alloc, files, object)?,
+            names: &holder.names,
+            provided: provided_of(alloc, holder, is_given)?,
         })?;
     }
     Ok(providers)
@@ -162,58 +132,58 @@ fn all_providers<'s, 't>(
 // For each the first record of its definitions that `ld.so` doesn't support.
 fn all_others(
     alloc: Global,
-    files: &[StoredFile],
-    tree: &Tree,
-    all: &[Named<'_>],
+    holders: &[Holder<'_>],
 ) -> Result<Vec<Option<OtherRecord>>, AllocError> {
     let mut others = Vec::new(alloc);
-    for named in all {
-        others.push(other_definition(files, tree, named.0))?;
+    for holder in holders {
+        others.push(match holder.bytes {
+            Some(bytes) => other_definition(bytes),
+            None => None,
+        })?;
     }
     Ok(others)
 }
 
-// What an object provides; `None` is a missing one.
+// What an object provides; one that can't be read counts as missing if it is given by hand.
 fn provided_of<'t>(
     alloc: Global,
-    files: &'t [StoredFile],
-    object: Option<&'t Object>,
+    holder: &Holder<'t>,
+    is_given: bool,
 ) -> Result<Provided<'t>, FindError> {
-    let Some(object) = object else {
+    let Some(bytes) = holder.bytes else {
         return Ok(Provided::NotFound);
     };
-    match provided_by(bytes_in(files, object.file)) {
+    match provided_by(bytes) {
         Ok(provided) => Ok(provided),
-        Err(error) => Err(error_in(alloc, &object.path, SearchError::Link(error))),
+        Err(_) if is_given => Ok(Provided::NotFound),
+        Err(error) => Err(error_in(alloc, holder.path, SearchError::Link(error))),
     }
 }
 
-// The versions that an object needs and that are missing.
+// The versions that the object at a path, with these bytes, needs and that are missing.
 fn push_all_lacked<'t>(
     alloc: Global,
-    files: &'t [StoredFile],
-    tree: &'t Tree,
-    all: &[Named<'t>],
-    providers: &[Provider<'_, 't>],
-    others: &[Option<OtherRecord>],
-    object: &'t Object,
+    scope: Scope<'_, 't>,
+    path: &'t str,
+    bytes: &'t [u8],
     lacked: &mut Vec<LackedVersion<'t>>,
 ) -> Result<(), FindError> {
-    let bytes = bytes_in(files, object.file);
     let versions = match versions_in(bytes) {
         Ok(Some(versions)) => versions,
         Ok(None) => return Ok(()),
-        Err(error) => return Err(error_in(alloc, &object.path, SearchError::Link(error))),
+        Err(_) if scope.is_given => return Ok(()),
+        Err(error) => return Err(error_in(alloc, path, SearchError::Link(error))),
     };
     if let Some(number) = other_need(bytes) {
-        return Err(need_record(alloc, &object.path, number));
+        return Err(need_record(alloc, path, number));
     }
-    push_all_stopped(tree, all, providers, others, object, &versions, lacked)?;
-    for item in missing_versions(versions.needs(), providers) {
+    push_all_stopped(scope, path, &versions, lacked)?;
+    for item in missing_versions(versions.needs(), scope.providers) {
         match item {
-            Ok(missing) if has_other(others, missing.provider) => {}
-            Ok(missing) => lacked.push(lacked_version(tree, all, object, &missing))?,
-            Err(error) => return Err(error_in(alloc, &object.path, error)),
+            Ok(missing) if has_other(scope.others, missing.provider) => {}
+            Ok(missing) => lacked.push(lacked_version(scope, path, &missing))?,
+            Err(_) if scope.is_given => {}
+            Err(error) => return Err(error_in(alloc, path, error)),
         }
     }
     Ok(())
@@ -226,26 +196,23 @@ fn has_other(others: &[Option<OtherRecord>], provider: usize) -> bool {
 
 // The versions that an object needs for which `ld.so` comes to a record that it doesn't support.
 fn push_all_stopped<'t>(
-    tree: &'t Tree,
-    all: &[Named<'t>],
-    providers: &[Provider<'_, 't>],
-    others: &[Option<OtherRecord>],
-    object: &'t Object,
+    scope: Scope<'_, 't>,
+    path: &'t str,
     versions: &Versions<'t>,
     lacked: &mut Vec<LackedVersion<'t>>,
 ) -> Result<(), AllocError> {
-    if others.iter().all(|other| other.is_none()) {
+    if scope.others.iter().all(|other| other.is_none()) {
         return Ok(());
     }
     for item in versions.needs() {
         let Ok(need) = item else {
             return Ok(());
         };
-        if let Some((provider, number)) = stop_of(providers, others, &need) {
+        if let Some((provider, number)) = stop_of(scope, &need) {
             lacked.push(LackedVersion {
-                library: library_path(tree, all, provider),
+                library: library_path(scope, provider),
                 version: need.name().unwrap_or(""),
-                by: &object.path,
+                by: path,
                 lack: Lack::Strong,
                 record: Some(number),
             })?;
@@ -256,18 +223,16 @@ fn push_all_stopped<'t>(
 
 // The place of the provider of a need, and the version number of the record at which the search for the
 // version ends, if there is one.
-fn stop_of(
-    providers: &[Provider<'_, '_>],
-    others: &[Option<OtherRecord>],
-    need: &Need<'_>,
-) -> Option<(usize, u16)> {
+fn stop_of(scope: Scope<'_, '_>, need: &Need<'_>) -> Option<(usize, u16)> {
     let Ok(file) = need.file() else {
         return None;
     };
-    let place = providers
+    let place = scope
+        .holders
         .iter()
-        .position(|provider| has_name(provider, file.as_bytes()))?;
-    let (Some(provider), Some(Some(record))) = (providers.get(place), others.get(place)) else {
+        .position(|holder| holder.has_name(file.as_bytes()))?;
+    let (Some(provider), Some(Some(record))) = (scope.providers.get(place), scope.others.get(place))
+    else {
         return None;
     };
     match provider.provided {
@@ -278,34 +243,25 @@ fn stop_of(
     }
 }
 
-// Whether a provider has a name.
-fn has_name(provider: &Provider<'_, '_>, name: &[u8]) -> bool {
-    provider.names.iter().any(|own| *own == name)
-}
-
 // The paths and the name of a missing version.
 fn lacked_version<'t>(
-    tree: &'t Tree,
-    all: &[Named<'t>],
-    object: &'t Object,
+    scope: Scope<'_, 't>,
+    path: &'t str,
     missing: &MissingVersion<'t>,
 ) -> LackedVersion<'t> {
     LackedVersion {
-        library: library_path(tree, all, missing.provider),
+        library: library_path(scope, missing.provider),
         version: missing.need.name().unwrap_or(""),
-        by: &object.path,
+        by: path,
         lack: missing.lack,
         record: None,
     }
 }
 
 // The path of a provider.
-fn library_path<'t>(tree: &'t Tree, all: &[Named<'t>], provider: usize) -> &'t str {
-    let Some((Some(number), _)) = all.get(provider) else {
-        return "";
-    };
-    match tree.object(*number) {
-        Some(object) => &object.path,
+fn library_path<'t>(scope: Scope<'_, 't>, provider: usize) -> &'t str {
+    match scope.holders.get(provider) {
+        Some(holder) => holder.path,
         None => "",
     }
 }

@@ -3,15 +3,15 @@
 ghost use Rattle.std.specs.Prelude.{◌≡◌, ◌<◌, ◌+◌, ◌*◌, MatchOption, None, Some, length};
 ghost use Rattle.elf_search.specs.Cache.{is_plain, rank_of, ranked};
 
-use crate::cache::pieces::{are_small, compare};
+use crate::cache::pieces::compare;
 use crate::cache::{Cache, Machine, PLATFORMS, Usage};
 use elf_base::bytes::{Order, bytes_up_to_zero, read_u32, read_u64};
 use std::cmp::Ordering;
 
 impl<'a> Cache<'a> {
-    ghost use Rattle.elf_search.specs.Cache.{flags_of, hwcap_of, hwcaps_name, is_entry_good};
-    ghost use Rattle.elf_search.specs.Cache.{is_pair_good, key_of, key_place, order_at, text_from};
-    ghost use Rattle.elf_search.specs.Cache.{usage_by, usage_of, value_of, value_place, word_at};
+    ghost use Rattle.elf_search.specs.Cache.{flags_of, hwcap_of, hwcaps_name, key_of};
+    ghost use Rattle.elf_search.specs.Cache.{key_place, order_at, text_from, usage_by, usage_of};
+    ghost use Rattle.elf_search.specs.Cache.{value_of, value_place, word_at};
 
     // The 32-bit number in an entry from a byte of it on.
     fn word(&self, index: usize, byte: usize) -> u32
@@ -29,7 +29,7 @@ impl<'a> Cache<'a> {
 
     // The place of the key of an entry.
     #[tactic(auto, unfolding(crate::specs::Cache::key_place))]
-    fn key_place(&self, index: usize) -> usize
+    pub(crate) fn key_place(&self, index: usize) -> usize
         requires { index < self.now.count }
         ensures { result ≡ key_place self.now index }
     {
@@ -38,7 +38,7 @@ impl<'a> Cache<'a> {
 
     // The place of the value of an entry.
     #[tactic(auto, unfolding(crate::specs::Cache::value_place))]
-    fn value_place(&self, index: usize) -> usize
+    pub(crate) fn value_place(&self, index: usize) -> usize
         requires { index < self.now.count }
         ensures { result ≡ value_place self.now index }
     {
@@ -47,7 +47,7 @@ impl<'a> Cache<'a> {
 
     // The capabilities that an entry asks for.
     #[tactic(auto, unfolding(crate::specs::Cache::hwcap_of))]
-    fn hwcap(&self, index: usize) -> u64
+    pub(crate) fn hwcap(&self, index: usize) -> u64
         requires { index < self.now.count }
         ensures { result ≡ hwcap_of self.now index }
     {
@@ -68,7 +68,7 @@ impl<'a> Cache<'a> {
     }
 
     // The key of an entry, with all that follows it.
-    fn key(&self, index: usize) -> &'a [u8]
+    pub(crate) fn key(&self, index: usize) -> &'a [u8]
         requires { index < self.now.count }
         ensures { result.now ≡ key_of self.now index }
     {
@@ -102,7 +102,7 @@ impl<'a> Cache<'a> {
 
     // Name `index` of hwcaps.
     #[tactic(auto, unfolding(crate::specs::Cache::hwcaps_name))]
-    fn hwcaps_name(&self, index: usize) -> Option<&'a [u8]>
+    pub(crate) fn hwcaps_name(&self, index: usize) -> Option<&'a [u8]>
         ensures { MatchOption result (hwcaps_name self.now index ≡ None)
             (λ name. hwcaps_name self.now index ≡ Some name.now) }
     {
@@ -149,34 +149,6 @@ impl<'a> Cache<'a> {
         match self.hwcaps_name((hwcap % (1 << 32)) as usize) {
             Some(name) => ranked(rank_of(machine, name)),
             None => Usage::Unfit,
-        }
-    }
-
-    // Whether the key and the value of an entry are in the file, and no number in the key is 2 to
-    // the 31 or more.
-    #[tactic(auto, unfolding(crate::specs::Cache::is_entry_good))]
-    pub(crate) fn is_entry_good(&self, index: usize) -> bool
-        requires { index < self.now.count }
-        ensures { result ≡ is_entry_good self.now index }
-    {
-        let place = self.key_place(index);
-        if place >= self.bytes.len() || self.value_place(index) >= self.bytes.len() {
-            return false;
-        }
-        are_small(&self.bytes[place..])
-    }
-
-    // Whether an entry may stand before the next one.
-    #[tactic(auto, unfolding(crate::specs::Cache::is_pair_good))]
-    pub(crate) fn is_pair_good(&self, index: usize) -> bool
-        requires { index + 1 < self.now.count }
-        ensures { result ≡ is_pair_good self.now index }
-    {
-        match compare(self.key(index), self.key(index + 1)) {
-            Ordering::Less => false,
-            Ordering::Equal => self.hwcap(index) >> 42 == 1 << 20
-                || self.hwcap(index + 1) >> 42 != 1 << 20,
-            Ordering::Greater => true,
         }
     }
 }

@@ -2,7 +2,7 @@
 
 ghost use Rattle.std.specs.Prelude.{◌≡◌, ◌<◌, ◌≤◌, ◌+◌, ◌*◌, ◌^◌, Err, IfSome, MatchResult, Ok, None, Some, length, if◌then◌else◌};
 ghost use Rattle.elf_search.specs.Cache.{cache_of, entry_count, extension_words, header_place};
-ghost use Rattle.elf_search.specs.Cache.{aligned_words, are_within, tagged_words};
+ghost use Rattle.elf_search.specs.Cache.{aligned_words, are_within, tagged_words, words_of_header};
 
 use crate::SearchError;
 use crate::cache::{MAGIC, OLD_MAGIC};
@@ -56,10 +56,20 @@ pub(crate) fn check_header(bytes: &[u8], start: usize) -> Result<usize, SearchEr
     Ok(count)
 }
 
+// The place and the number of the words for names of hwcaps in the extension of the header at a place;
+// `None` if the extension is damaged.
+pub(crate) fn words_of_header(bytes: &[u8], start: usize) -> Option<(usize, usize)>
+    requires { start + 48 ≤ length bytes.now }
+    ensures value { result ≡ words_of_header bytes.now start }
+    ensures within { IfSome result (λ words. words.0 + 4 * words.1 ≤ length bytes.now) }
+{
+    extension_words(bytes, read_u32(bytes, start + 32, Order::Little) as usize)
+}
+
 // The place and the number of the words for names of hwcaps in the extension at a place, which is 0
 // if there is no extension; `None` if the extension is damaged.
 #[tactic(auto, unfolding(crate::specs::Cache::extension_words))]
-pub(crate) fn extension_words(bytes: &[u8], place: usize) -> Option<(usize, usize)>
+fn extension_words(bytes: &[u8], place: usize) -> Option<(usize, usize)>
     requires { place < 2 ^ 32 }
     ensures value { result ≡ extension_words bytes.now place }
     ensures within { IfSome result (λ words. words.0 + 4 * words.1 ≤ length bytes.now) }

@@ -1,6 +1,7 @@
 //! The symbol that a reference gets of the files in a scope: rows worked by hand from the rules
 //! over two files in which up to three symbols have one name.
 
+mod corners;
 mod files;
 mod linked;
 mod rules;

@@ -107,22 +107,111 @@ const CHANGED: &[((usize, u8), &[u8], Option<&[u8]>)] = &[
     ((95, 0), b"libq2.so", Some(b"/v2.so")),
 ];
 
-// The bytes at a place, and whether a cache with them is good.
-const CHECKED: &[((usize, &[u8]), bool)] = &[
-    ((384, b"libq10.so"), true),
-    // the value of libq10.so is past the end
-    ((58, &[1]), false),
-    // the key in the middle is past the end
-    ((198, &[1]), false),
+// Bytes at places of the cache.
+type Changes = &'static [(usize, &'static [u8])];
+
+// What a check of a cache with other bytes returns.
+const CHECKED: &[(Changes, Result<(), SearchError>)] = &[
+    (&[], Ok(())),
+    // the value of libq10.so is the last byte, and past the end; then its key, and that in the middle
+    (&[(56, &[0x5f, 2])], Ok(())),
+    (&[(56, &[0x60, 2])], Err(SearchError::CacheEntry)),
+    (&[(52, &[0x60, 2])], Err(SearchError::CacheEntry)),
+    (&[(198, &[1])], Err(SearchError::CacheEntry)),
     // a name is before a less one, and before a greater one
-    ((384, b"libq03.so"), true),
-    ((384, b"libq01.so"), false),
+    (&[(384, b"libq03.so")], Ok(())),
+    (&[(384, b"libq01.so")], Err(SearchError::CacheEntryOrder)),
     // of equal names one in no subdirectory comes first
-    ((384, b"libq02.so"), false),
-    ((95, &[0]), false),
+    (&[(384, b"libq02.so")], Err(SearchError::CacheEntryOrder)),
+    (&[(95, &[0])], Err(SearchError::CacheEntryOrder)),
     // the greatest number that a name may have, and one more
-    ((384, b"lib2147483647"), true),
-    ((384, b"lib2147483648"), false),
+    (&[(384, b"lib2147483647")], Ok(())),
+    (&[(384, b"lib2147483648")], Err(SearchError::CacheNumber)),
+    // two errors of an entry; of two entries; of an entry and the extension; of the extension and a name in it
+    (
+        &[(58, &[1]), (384, b"lib2147483648")],
+        Err(SearchError::CacheEntry),
+    ),
+    (
+        &[(82, &[1]), (384, b"lib2147483648")],
+        Err(SearchError::CacheNumber),
+    ),
+    (
+        &[(384, b"libq01.so"), (572, &[0])],
+        Err(SearchError::CacheEntryOrder),
+    ),
+    (
+        &[(572, &[0]), (606, &[1])],
+        Err(SearchError::CacheExtension),
+    ),
+];
+
+// Bytes at a place of the extension, or of its place in the header, the path of libq2.so that `ld.so` loads with
+// them, `None` where it crashes, and what a check returns. Without an error a look-up finds this path.
+const EXTENSIONS: &[((usize, &[u8]), Option<&[u8]>, Result<(), SearchError>)] = &[
+    ((596, &[0x1d, 2]), Some(b"/v2.so"), Ok(())),
+    // no extension; its place is no multiple of 4, or its head is not in the file
+    ((32, &[0, 0]), Some(b"/v4.so"), Ok(())),
+    (
+        (32, &[0x3e, 2]),
+        Some(b"/v4.so"),
+        Err(SearchError::CacheExtension),
+    ),
+    (
+        (32, &[0x5c, 2]),
+        Some(b"/v4.so"),
+        Err(SearchError::CacheExtension),
+    ),
+    // another magic number
+    (
+        (572, &[1]),
+        Some(b"/v4.so"),
+        Err(SearchError::CacheExtension),
+    ),
+    // no section; one whose record, or a part, is past the end
+    ((576, &[0]), Some(b"/v4.so"), Ok(())),
+    (
+        (576, &[3]),
+        Some(b"/v4.so"),
+        Err(SearchError::CacheExtension),
+    ),
+    (
+        (592, &[16]),
+        Some(b"/v4.so"),
+        Err(SearchError::CacheExtension),
+    ),
+    // another tag; a size, or a place, that is no multiple of 4
+    ((580, &[7]), Some(b"/v4.so"), Ok(())),
+    ((592, &[11]), Some(b"/v4.so"), Ok(())),
+    ((588, &[0x53]), Some(b"/v4.so"), Ok(())),
+    // the first name is the last byte of the file; it is past the end, or the third is
+    ((596, &[0x5f, 2]), Some(b"/v2.so"), Ok(())),
+    ((596, &[0x60, 2]), None, Err(SearchError::HwcapsName)),
+    ((604, &[0x60, 2]), None, Err(SearchError::HwcapsName)),
+    // the first is the second, and the second the first; the first two are equal; the last is empty
+    (
+        (596, &[0x27, 2, 0, 0, 0x1d]),
+        Some(b"/v1.so"),
+        Err(SearchError::HwcapsOrder),
+    ),
+    (
+        (600, &[0x1d]),
+        Some(b"/v1.so"),
+        Err(SearchError::HwcapsOrder),
+    ),
+    (
+        (604, &[0x5f]),
+        Some(b"/v2.so"),
+        Err(SearchError::HwcapsOrder),
+    ),
+    // a byte above 127 is above all others
+    (
+        (541, &[0x80]),
+        Some(b"/v4.so"),
+        Err(SearchError::HwcapsOrder),
+    ),
+    // x86-64-v10, and what follows up to the next zero byte, is below x86-64-v3, though 10 is above 3
+    ((549, b"10"), Some(b"/v2.so"), Ok(())),
 ];
 
 // A change of one byte, and the error.
@@ -175,7 +264,7 @@ fn names_are_ordered(rt: HostRuntime) {
 #[test]
 fn a_name_gets_the_best_entry(rt: HostRuntime) -> Result<(), Fail> {
     let cache = Cache::read(&CACHE)?;
-    want_at(&rt, "check", cache.check(), true);
+    want_at(&rt, "check", cache.check(), Ok(()));
     for &(name, wanted) in FOUND {
         want_at(&rt, name, cache.look_up(name, &MACHINE), wanted);
     }
@@ -196,21 +285,38 @@ fn damaged_entries_are_passed_over(rt: HostRuntime) -> Result<(), Fail> {
 }
 
 #[test]
-fn a_damaged_cache_is_not_good(rt: HostRuntime) -> Result<(), Fail> {
-    for &(change, wanted) in CHECKED {
-        let bytes = with_bytes(CACHE, change.0, change.1);
+fn a_check_finds_the_first_error(rt: HostRuntime) -> Result<(), Fail> {
+    for &(changes, wanted) in CHECKED {
+        let mut bytes = CACHE;
+        for &change in changes {
+            bytes = with_bytes(bytes, change);
+        }
         let cache = Cache::read(&bytes)?;
-        want_at(&rt, change, cache.check(), wanted);
+        want_at(&rt, changes, cache.check(), wanted);
     }
     let cache = Cache::read(&AFTER_OLDER)?;
-    want_at(&rt, "after an older one", cache.check(), true);
+    want_at(&rt, "after an older one", cache.check(), Ok(()));
+    Ok(())
+}
+
+#[test]
+fn an_extension_is_read_as_by_the_loader(rt: HostRuntime) -> Result<(), Fail> {
+    for &(change, loaded, wanted) in EXTENSIONS {
+        let bytes = with_bytes(CACHE, change);
+        let cache = Cache::read(&bytes)?;
+        want_at(&rt, change, cache.check(), wanted);
+        if wanted.is_ok() {
+            let found = cache.look_up(b"libq2.so", &MACHINE);
+            want_at(&rt, change, found, loaded);
+        }
+    }
     Ok(())
 }
 
 // A cache with other bytes at a place.
-fn with_bytes(mut cache: [u8; 608], place: usize, bytes: &[u8]) -> [u8; 608] {
-    for (index, byte) in bytes.iter().enumerate() {
-        if let Some(old) = cache.get_mut(place.saturating_add(index)) {
+fn with_bytes(mut cache: [u8; 608], change: (usize, &[u8])) -> [u8; 608] {
+    for (index, byte) in change.1.iter().enumerate() {
+        if let Some(old) = cache.get_mut(change.0.saturating_add(index)) {
             *old = *byte;
         }
     }

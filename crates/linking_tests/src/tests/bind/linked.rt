@@ -284,8 +284,8 @@ fn binds_in_another_order(rt: HostRuntime) -> Result<(), LinkError> {
     check_bound::<DynEntry64>(&rt, files, OTHER_BINDINGS)
 }
 
-// A file, a place in it, and the byte there.
-type Change = (usize, usize, u8);
+/// A file, a place in it, and the byte there.
+pub type Change = (usize, usize, u8);
 
 // The changes in class 32 and in class 64, the file of a reference and its place among the
 // references of the file, and the file and the symbol that it gets.
@@ -335,7 +335,8 @@ const CHANGED: &[Row] = rows! {
     &[(2, 0x37c, 24), (2, 0x3e4, 24)], &[(2, 0x508, 24), (2, 0x5f8, 24)], (2, 0), (1, 1);
 };
 
-fn make_changes(program: &mut [u8], first: &mut [u8], second: &mut [u8], changes: &[Change]) {
+/// Changes bytes of the program and of the libraries.
+pub fn make_changes(program: &mut [u8], first: &mut [u8], second: &mut [u8], changes: &[Change]) {
     for &(file, place, byte) in changes {
         match file {
             0 => put(program, place, &[byte]),
@@ -345,8 +346,8 @@ fn make_changes(program: &mut [u8], first: &mut [u8], second: &mut [u8], changes
     }
 }
 
-// What the reference at a place among those of a file gets.
-fn bound_at<E: LinkedSymbol>(
+/// What the reference at a place among those of a file gets.
+pub fn bound_at<E: LinkedSymbol>(
     rt: &impl Abort,
     files: [&[u8]; 3],
     (from, place): (usize, usize),

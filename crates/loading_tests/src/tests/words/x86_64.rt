@@ -242,6 +242,33 @@ pub const X86_64: &[Row] = &[
             },
         ),
     ),
+    // a function of a file without thread-local storage: glibc 2.36 crashes (oracle/corners.toml)
+    (
+        62,
+        18,
+        1,
+        0x10,
+        (
+            8,
+            Value::Thread {
+                object: 0,
+                offset: 0x510,
+            },
+        ),
+    ),
+    (
+        62,
+        36,
+        1,
+        0x10,
+        (
+            16,
+            Value::Descriptor {
+                object: Some(0),
+                offset: 0x510,
+            },
+        ),
+    ),
     (62, 18, 2, 0x10, (0, Value::Unchanged)),
     (
         62,

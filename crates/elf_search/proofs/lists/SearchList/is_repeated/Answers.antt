@@ -1,4 +1,4 @@
-use Rattle.std.proofs.Common.{rules, ◌≡◌, ◌≤◌, [], ◌∷◌, ap, arith, drop, None, Some, sym, ◌∙◌}
+use Rattle.std.proofs.Common.{rules, ◌≡◌, [], ◌∷◌, ap, arith, drop, None, sym, ◌∙◌}
 use Rattle.elf_search.specs.Elements.{pieces_left}
 use Rattle.elf_search.specs.Lists.{elements_in, list_parts}
 use Rattle.elf_search.proofs.ListItems.{behind_is}
