@@ -9,7 +9,7 @@ use Rattle.elf_base.specs.declared.error.ElfError.TheVariants.{NotMultiple}
 use Rattle.elf_linking.specs.DynamicView.{IsSymbolCount, number_with}
 use Rattle.elf_linking.specs.Loaded.{bytes_at_of}
 use Rattle.elf_linking.specs.RelocationTypes.{row_of}
-use Rattle.elf_linking.specs.TableLocations.{table_by}
+use Rattle.elf_linking.specs.TableLocations.{table_but_zero, table_by}
 use Rattle.elf_linking.specs.declared.error.LinkError.{LinkError}
 use Rattle.elf_linking.specs.declared.error.LinkError.TheVariants.{Elf, NoEntry, RelocationKind, UnknownClass}
 use Rattle.elf_linking.specs.declared.references.Reference.{Reference}
@@ -82,8 +82,8 @@ pub record Tables : Type 0 where
 -- those of the three tables, or of two without that of DT_REL; or the first error
 unfoldable pub tables_with : Bool → ElfFile → List (Dynamic ℕ) → Result Tables LinkError
 tables_with with_rel file entries =
-    and_then (table_relocations file (table_by entries DT_RELA DT_RELASZ) (Some DT_RELA)) (λ rela.
-    and_then (if with_rel then table_relocations file (table_by entries DT_REL DT_RELSZ) (Some DT_REL) else Ok []) (λ rel.
+    and_then (table_relocations file (table_but_zero entries DT_RELA DT_RELASZ) (Some DT_RELA)) (λ rela.
+    and_then (if with_rel then table_relocations file (table_but_zero entries DT_REL DT_RELSZ) (Some DT_REL) else Ok []) (λ rel.
     and_then (table_relocations file (table_by entries DT_JMPREL DT_PLTRELSZ) (number_with DT_PLTREL entries)) (λ plt.
     Ok (record { rela = rela; rel = rel; plt = plt }))))
 

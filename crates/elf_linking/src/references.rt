@@ -143,10 +143,10 @@ impl<'a> DynamicView<'a> {
         ensures rel { IfOk result (λ all. length (relocations_left all.rel) < 2 ^ 61) }
         ensures plt { IfOk result (λ all. length (relocations_left all.plt) < 2 ^ 61) }
     {
-        let rela = self.table_by(DT_RELA, DT_RELASZ);
+        let rela = self.table_but_zero(DT_RELA, DT_RELASZ);
         let rela = Relocations::read(file, &rela, Some(DT_RELA))?;
         let rel = if with_rel {
-            let table = self.table_by(DT_REL, DT_RELSZ);
+            let table = self.table_but_zero(DT_REL, DT_RELSZ);
             Relocations::read(file, &table, Some(DT_REL))?
         } else {
             Relocations::Absent

@@ -17,7 +17,7 @@ use Rattle.elf_loading.specs.ImageWords.{AreMarksOf, AreWordsFrom, IsBegun, IsOw
 use Rattle.elf_loading.specs.Plan.{plan_loads, plan_size}
 use Rattle.elf_loading.specs.WordErrors.{IsFirstUnchecked}
 use Rattle.elf_loading.specs.Words.{HasWord}
-use Rattle.elf_loading.specs.WordsLeft.{HasWordOf, IsSame, relocation_of, relocations_left, own_relocations, words_own}
+use Rattle.elf_loading.specs.WordsLeft.{HasWordOf, IsSame, relocation_of, relocations_left, own_relocations}
 use Rattle.elf_loading.specs.declared.error.LoadError.TheVariants.{FewMarks, WordInTable, WordsOverlap}
 use Rattle.elf_loading.specs.declared.plan.LoadPlan.{LoadPlan}
 use Rattle.elf_loading.specs.declared.words.Words.{Words}
@@ -215,7 +215,7 @@ module _ {E : Type 0} {r : _} (size : ℕ) (fields : E → SymbolFields) (object
       → IsBegun size objects of own plan bits words → text ≡ asks_for_text (view_entries (object_view own)) → tables ≡ tables_of size own
       → AreWordsFrom fields (plan_loads plan) text tables words result → IsOwnCheck size fields objects.now of own plan bits result
   own_checked words text tables result begun text_is tables_are from =
-      let own_same : words_own words ≡ own = same_Some _ _ (sym begun.words_are.own_is ∙ own_is) in
+      let own_same : words.own.now ≡ own = same_Some _ _ (sym begun.words_are.own_is ∙ own_is) in
       let file_same : words.file ≡ object_file own = begun.words_are.file_is ∙ ap object_file own_same in
       by_words (relocations_left words) from.items begun.relocations_are
       (record {

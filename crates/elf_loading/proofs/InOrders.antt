@@ -11,7 +11,7 @@ use Rattle.elf_linking.specs.Loaded.{bytes_at_of}
 use Rattle.elf_linking.specs.References.{Tables, file_machine, reference_in, references_in, relocation_tables, table_relocations, tables_with}
 use Rattle.elf_linking.specs.RelocationRecords.{rela_reference}
 use Rattle.elf_linking.specs.RelocationTypes.{relative_kind}
-use Rattle.elf_linking.specs.TableLocations.{table_by}
+use Rattle.elf_linking.specs.TableLocations.{table_but_zero}
 use Rattle.elf_linking.specs.declared.error.LinkError.{LinkError}
 use Rattle.elf_linking.specs.declared.references.Reference.{Reference}
 use Rattle.elf_linking.specs.declared.view.tags.TheConstants.{DT_JMPREL, DT_PLTREL, DT_PLTRELSZ, DT_REL, DT_RELA, DT_RELASZ, DT_RELSZ}
@@ -137,9 +137,9 @@ rela_by (Ok one) (Ok two) (Err error) tables is = absurd (cc)
 rela_by (Ok one) (Ok two) (Ok three) tables is = let same : record { rela = one; rel = two; plt = three } ≡ tables = cc in ap (λ (all : Tables). Ok all.rela) same
 
 pub rela_of : (file : ElfFile) (entries : List (Dynamic ℕ)) (tables : Tables) → relocation_tables file entries ≡ Ok tables
-    → table_relocations file (table_by entries DT_RELA DT_RELASZ) (Some DT_RELA) ≡ Ok tables.rela
+    → table_relocations file (table_but_zero entries DT_RELA DT_RELASZ) (Some DT_RELA) ≡ Ok tables.rela
 unfolding relocation_tables tables_with
-rela_of file entries tables is = rela_by (table_relocations file (table_by entries DT_RELA DT_RELASZ) (Some DT_RELA)) (table_relocations file (table_by entries DT_REL DT_RELSZ) (Some DT_REL))
+rela_of file entries tables is = rela_by (table_relocations file (table_but_zero entries DT_RELA DT_RELASZ) (Some DT_RELA)) (table_relocations file (table_but_zero entries DT_REL DT_RELSZ) (Some DT_REL))
     (table_relocations file (table_by entries DT_JMPREL DT_PLTRELSZ) (number_with DT_PLTREL entries)) tables is
 
 -- the records and what is left of the table are those of the table that are kept
@@ -164,12 +164,12 @@ records_first order is = ap (λ packed. packed ++ (records_left order.records ++
 pub in_order : (file : ElfFile) (entries : List (Dynamic ℕ)) (addresses : List ℕ) (tables : Tables) (records : Option Records) (kind kept after kept_rel : ℕ) (in_place : Bool)
     → relr_addresses file entries ≡ Ok addresses → relocation_tables file entries ≡ Ok tables → kind ≡ relative_kind (file_machine file)
     → kept ≡ kept_records file entries DT_RELA DT_RELASZ
-    → HasRecords (table_relocations file (table_by entries DT_RELA DT_RELASZ) (Some DT_RELA)) kept records → after ≡ (if is_some records then 0 else kept)
+    → HasRecords (table_relocations file (table_but_zero entries DT_RELA DT_RELASZ) (Some DT_RELA)) kept records → after ≡ (if is_some records then 0 else kept)
     → kept_rel ≡ kept_records file entries DT_REL DT_RELSZ → in_place ≡ is_kind DT_REL (number_with DT_PLTREL entries)
     → relocations_in_order file entries ≡ Ok (map (relative_at kind) addresses ++ (records_left records ++ (placed false false (take after tables.rela)
     ++ (placed true false (take kept_rel tables.rel) ++ placed in_place true tables.plt))))
 unfolding relocations_in_order
 in_order file entries addresses tables records kind kept after kept_rel in_place addresses_are tables_are kind_is kept_is has after_is rel_is place_is =
     let later = placed true false (take kept_rel tables.rel) ++ placed in_place true tables.plt in
-    let all = kept_by (table_relocations file (table_by entries DT_RELA DT_RELASZ) (Some DT_RELA)) kept records tables.rela later has (rela_of file entries tables tables_are) in
+    let all = kept_by (table_relocations file (table_but_zero entries DT_RELA DT_RELASZ) (Some DT_RELA)) kept records tables.rela later has (rela_of file entries tables tables_are) in
     rw (addresses_are, tables_are, sym kind_is, sym kept_is, sym rel_is, sym place_is, after_is) (ap (λ rest. Ok (map (relative_at kind) addresses ++ rest)) (sym all))

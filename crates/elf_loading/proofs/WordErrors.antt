@@ -15,7 +15,7 @@ use Rattle.elf_loading.specs.Plan.{plan_loads}
 use Rattle.elf_loading.specs.Relocate.{is_wrong_size, sized_relocations, sources_of}
 use Rattle.elf_loading.specs.WordErrors.{IsCheckError, IsFirstError, IsFirstUnchecked, IsFirstUnwritten, IsImageError, IsRelocationError, IsRelocationErrorIn, error_of_none}
 use Rattle.elf_loading.specs.Words.{HasWord, binds_lazily}
-use Rattle.elf_loading.specs.WordsLeft.{HasWordOf, own_relocations, relocations_left, words_own}
+use Rattle.elf_loading.specs.WordsLeft.{HasWordOf, own_relocations, relocations_left}
 use Rattle.elf_loading.specs.declared.error.LoadError.TheVariants.{Link}
 use Rattle.elf_loading.specs.declared.plan.LoadPlan.{LoadPlan}
 use Rattle.elf_loading.specs.declared.relocate.Sources.{Sources}
@@ -65,7 +65,7 @@ module _ {E : Type 0} {r : _} (size : ℕ) (fields : E → SymbolFields) (object
       → IfErr result (IsFirstUnchecked (HasWordOf fields words) (plan_loads plan) text tables (relocations_left words)) → IfErr result (IsCheckError size fields objects.now of own plan bits)
   error_of_words words text tables (Ok done) begun text_is tables_are is = tt
   error_of_words words text tables (Err found) begun text_is tables_are is =
-      let own_same : words_own words ≡ own = same_Some _ _ (sym begun.words_are.own_is ∙ own_is) in
+      let own_same : words.own.now ≡ own = same_Some _ _ (sym begun.words_are.own_is ∙ own_is) in
       let file_same : words.file ≡ object_file own = begun.words_are.file_is ∙ ap object_file own_same in
       let Has = HasWord fields objects.now (object_file own) own of false in
       let first : IsFirstUnchecked Has (plan_loads plan) text tables (relocations_left words) found = first_weaker (HasWordOf fields words) Has _ _ (relocations_left words) found

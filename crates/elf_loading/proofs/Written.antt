@@ -17,7 +17,7 @@ use Rattle.elf_linking.specs.declared.error.LinkError.TheVariants.{ObjectIndex}
 use Rattle.elf_loading.specs.Relocate.{AreWordsFor, AreItemsWritten, IsRelocation, IsRelocationIn, IsWriting, all, has_no_number, is_copy_outside, is_outside, is_unresolved, is_wrong_size, lacks_number, relocated_byte, sized_relocations, some, sources_of, image_start, word_byte, write_item, write_word}
 use Rattle.elf_loading.specs.WordErrors.{IsFirstUnwritten}
 use Rattle.elf_loading.specs.Words.{HasWord, binds_lazily, IsBoundIf, formula_word, is_bound_at_once, is_later, needs_symbol, formula_has_symbol, word_of}
-use Rattle.elf_loading.specs.WordsLeft.{HasWordOf, IsSame, relocation_of, own_relocations, words_own}
+use Rattle.elf_loading.specs.WordsLeft.{HasWordOf, IsSame, relocation_of, own_relocations}
 use Rattle.elf_loading.specs.declared.plan.LoadPlan.{LoadPlan}
 use Rattle.elf_loading.specs.declared.relocate.Sources.{Sources}
 use Rattle.elf_loading.specs.declared.words.Words.{Words}
@@ -384,7 +384,7 @@ module _ {E : Type 0} {r : _} (fields : E → SymbolFields) (own : DynamicObject
 
 -- the object of an iterator is the one whose words it has
 pub of_words : {E : Type 0} {r : _} (fields : E → SymbolFields) (sources : Sources E r) (own : DynamicObject E r) (lazy : Bool) (words : Words E r) (relocation : Relocation) (before after : List ℕ) (result : Result Bool LoadError)
-    → AreWordsFor sources.objects.now own sources.of lazy words → IsItemWritten fields sources (words_own words) words.lazy relocation before after result
+    → AreWordsFor sources.objects.now own sources.of lazy words → IsItemWritten fields sources words.own.now words.lazy relocation before after result
     → IsItemWritten fields sources own lazy relocation before after result
 of_words fields sources own lazy words relocation before after result are is =
     subst (λ later. IsItemWritten fields sources own later relocation before after result) are.lazy_is
@@ -455,7 +455,7 @@ module _ {E : Type 0} {r : _} (fields : E → SymbolFields) (sources : Sources E
 
 -- the object of an iterator is the one whose words are written
 pub run_for : {E : Type 0} {r : _} (fields : E → SymbolFields) (sources : Sources E r) (own : DynamicObject E r) (lazy : Bool) (words : Words E r) (relocations left : List Relocation) (before after : List ℕ) (count index : ℕ)
-    → AreWordsFor sources.objects.now own sources.of lazy words → IsWrittenSoFar fields sources (words_own words) words.lazy relocations before left after count index
+    → AreWordsFor sources.objects.now own sources.of lazy words → IsWrittenSoFar fields sources words.own.now words.lazy relocations before left after count index
     → IsWrittenSoFar fields sources own lazy relocations before left after count index
 run_for fields sources own lazy words relocations left before after count index are is =
     subst (λ later. IsWrittenSoFar fields sources own later relocations before left after count index) are.lazy_is

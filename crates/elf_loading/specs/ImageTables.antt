@@ -11,7 +11,7 @@ use Rattle.elf_linking.specs.GnuHash as gnu
 use Rattle.elf_linking.specs.Loaded.{segment_at_of, word_at_of}
 use Rattle.elf_linking.specs.References.{Tables, file_machine, record_size}
 use Rattle.elf_linking.specs.RelocationTypes.{relative_kind, row_of}
-use Rattle.elf_linking.specs.TableLocations.{table_by}
+use Rattle.elf_linking.specs.TableLocations.{table_but_zero, table_by}
 use Rattle.elf_loading.specs.Types.{AnyTable, Dynamic, DynamicObject, Formula, LinkError, LoadError, Reference, Segment, TableLocation}
 use Rattle.elf_linking.specs.declared.any_table.AnyTable.TheVariants.{Gnu, Sysv}
 use Rattle.elf_linking.specs.declared.view.tags.TheConstants.{DT_FLAGS, DT_GNU_HASH, DT_HASH, DT_JMPREL, DT_PLTGOT, DT_PLTREL, DT_PLTRELSZ, DT_REL, DT_RELA, DT_RELACOUNT, DT_RELAENT, DT_RELASZ, DT_RELCOUNT, DT_RELENT, DT_RELR, DT_RELRENT, DT_RELRSZ, DT_RELSZ, DT_STRSZ, DT_STRTAB, DT_SYMTAB, DT_TEXTREL, DT_VERDEF, DT_VERNEED, DT_VERSYM}
@@ -44,7 +44,7 @@ table_of_size entries start size = record { start = number_with start entries; s
 
 -- the table of relocations with addends, of those without, the packed ones, and those of the procedure linkage table
 abbrev pub relocation_locations : List (Dynamic ℕ) → List TableLocation
-relocation_locations entries = table_by entries DT_RELA DT_RELASZ ∷ table_by entries DT_REL DT_RELSZ
+relocation_locations entries = table_but_zero entries DT_RELA DT_RELASZ ∷ table_but_zero entries DT_REL DT_RELSZ
     ∷ table_by entries DT_RELR DT_RELRSZ ∷ table_by entries DT_JMPREL DT_PLTRELSZ ∷ []
 
 -- the number of symbols that an index of 32 bits can name
@@ -170,8 +170,8 @@ is_other_machine file = let class = file_class file.header in let machine = file
 unfoldable pub check_all_relocations : ElfFile → List (Dynamic ℕ) → Result (Unit {0}) LoadError
 check_all_relocations file entries =
     and_then (unless (kind_rows file entries) (tt {0})) (λ kinds.
-    and_then (unless (relocation_rows file (record_size (address_size file) true) (number_with DT_RELAENT entries) (table_by entries DT_RELA DT_RELASZ)) (tt {0})) (λ rela.
-    and_then (unless (relocation_rows file (record_size (address_size file) false) (number_with DT_RELENT entries) (table_by entries DT_REL DT_RELSZ)) (tt {0})) (λ rel.
+    and_then (unless (relocation_rows file (record_size (address_size file) true) (number_with DT_RELAENT entries) (table_but_zero entries DT_RELA DT_RELASZ)) (tt {0})) (λ rela.
+    and_then (unless (relocation_rows file (record_size (address_size file) false) (number_with DT_RELENT entries) (table_but_zero entries DT_REL DT_RELSZ)) (tt {0})) (λ rel.
     and_then (unless (relocation_rows file (address_size file) (number_with DT_RELRENT entries) (table_by entries DT_RELR DT_RELRSZ)) (tt {0})) (λ packed.
     and_then (unless ((has_odd_first file (table_by entries DT_RELR DT_RELRSZ), error.FirstPacked) ∷ []) (tt {0})) (λ first.
     unless (slot_rows file (number_with DT_PLTREL entries) (table_by entries DT_JMPREL DT_PLTRELSZ)) tt)))))
@@ -200,7 +200,7 @@ lacks_kind kind count (one ∷ rest) =
 -- procedure linkage table again aside
 abbrev pub is_overcounted : ElfFile → List (Dynamic ℕ) → ℕ → ℕ → ℕ → List Reference → Bool
 is_overcounted file entries kind size counted references = let count = unwrap_or (number_with counted entries) 0 in
-    is_some (number_with kind entries) && (nat_lt (kept_records file entries kind size) count
+    is_some (table_but_zero entries kind size).start && (nat_lt (kept_records file entries kind size) count
     || lacks_kind (relative_kind (file_machine file)) count references)
 
 -- a relocation of a formula writes a descriptor, or what a function returns

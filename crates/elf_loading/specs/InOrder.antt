@@ -8,7 +8,7 @@ use Rattle.elf_linking.specs.LinkedSections.{relr_at}
 use Rattle.elf_linking.specs.References.{file_machine, record_size, references_in, relocation_tables, table_left}
 use Rattle.elf_linking.specs.RelocationTypes.{relative_kind}
 use Rattle.elf_linking.specs.Relr.{relr_rest}
-use Rattle.elf_linking.specs.TableLocations.{table_by}
+use Rattle.elf_linking.specs.TableLocations.{table_but_zero, table_by}
 use Rattle.elf_loading.specs.Types.{Dynamic, ElfFile, InOrder, LinkError, Packed, Part, Records, Reference, Relocation, Relr, TableLocation}
 use Rattle.elf_linking.specs.declared.view.tags.TheConstants.{DT_JMPREL, DT_PLTREL, DT_PLTRELSZ, DT_REL, DT_RELA, DT_RELASZ, DT_RELR, DT_RELRSZ, DT_RELSZ}
 use Rattle.elf_loading.specs.Words.{address_size}
@@ -43,7 +43,7 @@ ends_with table other = is_some other.start && nat_le (unwrap_or other.size 0) (
 -- ends with that table, and both are of one kind
 abbrev pub kept_records : ElfFile → List (Dynamic ℕ) → ℕ → ℕ → ℕ
 kept_records file entries kind size =
-    let table = table_by entries kind size in let slots = table_by entries DT_JMPREL DT_PLTRELSZ in
+    let table = table_but_zero entries kind size in let slots = table_by entries DT_JMPREL DT_PLTRELSZ in
     (unwrap_or table.size 0 - (if is_kind kind (number_with DT_PLTREL entries) && ends_with table slots then unwrap_or slots.size 0 else 0))
     / record_size (address_size file) (kind == DT_RELA)
 

@@ -15,7 +15,7 @@ use Rattle.elf_linking.specs.declared.error.LinkError.TheVariants.{ObjectIndex}
 use Rattle.elf_loading.specs.ImageWords.{MatchBoth, as_load_error, covers}
 use Rattle.elf_loading.specs.Plan.{plan_size, plan_span}
 use Rattle.elf_loading.specs.Words.{HasWord, binds_lazily, is_later, needs_symbol}
-use Rattle.elf_loading.specs.WordsLeft.{relocation_of, words_objects, own_relocations, words_own}
+use Rattle.elf_loading.specs.WordsLeft.{relocation_of, words_objects, own_relocations}
 use Rattle.elf_loading.specs.declared.error.LoadError.TheVariants as error
 use Rattle.elf_loading.specs.declared.plan.LoadPlan.{LoadPlan}
 use Rattle.elf_loading.specs.declared.relocate.Sources.{Sources}
@@ -154,7 +154,7 @@ write_item fields sources own lazy len item = and_then item.word (λ word.
 -- an iterator is over the words of an object, which is at index `of` of these, with its slots bound lazily or not
 pub record AreWordsFor {E : Type 0} {r : _} (objects : List (DynamicObject E r)) (own : DynamicObject E r) (of : ℕ) (lazy : Bool) (words : Words E r) : Type 0 where
   pub objects_are : (words_objects words).now ≡ objects
-  pub own_is : words_own words ≡ own
+  pub own_is : words.own.now ≡ own
   pub file_is : words.file ≡ object_file own
   pub index_is : words.of ≡ of
   pub lazy_is : words.lazy ≡ lazy

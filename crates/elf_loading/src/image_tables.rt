@@ -278,8 +278,8 @@ pub(crate) fn tables_of<E: LinkedSymbol>(object: &DynamicObject<'_, E>) -> [Tabl
     let (view, file, table) = (object.view(), object.file(), object.table());
     let count = symbol_number(object);
     [
-        view.table_by(DT_RELA, DT_RELASZ),
-        view.table_by(DT_REL, DT_RELSZ),
+        view.table_but_zero(DT_RELA, DT_RELASZ),
+        view.table_but_zero(DT_REL, DT_RELSZ),
         view.table_by(DT_RELR, DT_RELRSZ),
         view.table_by(DT_JMPREL, DT_PLTRELSZ),
         view.table_by(DT_STRTAB, DT_STRSZ),
@@ -296,9 +296,9 @@ fn check_all_relocations(file: &ElfFile<'_>, view: &DynamicView<'_>) -> Result<(
     ensures { result ≡ check_all_relocations file.now (view_entries view.now) }
 {
     check_kinds(file, view)?;
-    let rela = view.table_by(DT_RELA, DT_RELASZ);
+    let rela = view.table_but_zero(DT_RELA, DT_RELASZ);
     check_relocations(file, record_size(file, true), view.entry(DT_RELAENT), &rela)?;
-    let rel = view.table_by(DT_REL, DT_RELSZ);
+    let rel = view.table_but_zero(DT_REL, DT_RELSZ);
     check_relocations(file, record_size(file, false), view.entry(DT_RELENT), &rel)?;
     let packed = view.table_by(DT_RELR, DT_RELRSZ);
     check_relocations(file, address_size(file), view.entry(DT_RELRENT), &packed)?;
@@ -375,7 +375,7 @@ fn is_overcounted(
 {
     let count = view.entry(counted).unwrap_or(0);
     let relative = relative_type(file.header.pt2.machine().raw());
-    view.entry(kind).is_some()
+    view.table_but_zero(kind, size).start.is_some()
         && (kept_records(view, file, kind, size) < count || lacks_kind(rest, relative, count))
 }
 

@@ -7,7 +7,7 @@ ghost use Rattle.std.specs.Prelude.{MatchOption, MatchResult, Ok, Some, if◌the
 ghost use Rattle.std.specs.Iterator.{YieldsFirst, item_count};
 ghost use Rattle.elf_linking.specs.DynamicView.{view_entries};
 ghost use Rattle.elf_linking.specs.References.{record_size, table_left, table_relocations};
-ghost use Rattle.elf_linking.specs.TableLocations.{table_by};
+ghost use Rattle.elf_linking.specs.TableLocations.{table_but_zero};
 ghost use Rattle.elf_linking.specs.declared.references.Reference.{Reference};
 ghost use Rattle.elf_linking.specs.declared.view.tags.TheConstants.{DT_RELA, DT_RELASZ};
 ghost use Rattle.elf_loading.specs.InOrder.{ends_with, is_kind, kept_records, order_left};
@@ -223,7 +223,7 @@ fn ends_with(table: &TableLocation, other: &TableLocation) -> bool
 pub(crate) fn kept_records(view: &DynamicView<'_>, file: &ElfFile<'_>, kind: u64, size: u64) -> u64
     ensures { result ≡ kept_records file.now (view_entries view.now) kind size }
 {
-    let table = view.table_by(kind, size);
+    let table = view.table_but_zero(kind, size);
     let slots = view.table_by(DT_JMPREL, DT_PLTRELSZ);
     let is_again = is_kind(kind, view.entry(DT_PLTREL)) && ends_with(&table, &slots);
     let again = if is_again { slots.size.unwrap_or(0) } else { 0 };
@@ -232,13 +232,13 @@ pub(crate) fn kept_records(view: &DynamicView<'_>, file: &ElfFile<'_>, kind: u64
 
 // The records of DT_RELA in a file of class 64, of which as many are kept.
 fn records_of<'a>(view: &DynamicView<'a>, file: &ElfFile<'a>, kept: u64) -> Option<Records<'a>>
-    ensures { HasRecords (table_relocations file.now (table_by (view_entries view.now) DT_RELA DT_RELASZ)
+    ensures { HasRecords (table_relocations file.now (table_but_zero (view_entries view.now) DT_RELA DT_RELASZ)
         (Some DT_RELA)) kept result }
 {
     if file.header.pt1.class.raw() != 2 {
         return None;
     }
-    let table = view.table_by(DT_RELA, DT_RELASZ);
+    let table = view.table_but_zero(DT_RELA, DT_RELASZ);
     let (Some(start), Some(size)) = (table.start, table.size) else {
         return None;
     };

@@ -19,7 +19,6 @@ ghost use Rattle.elf_loading.specs.Relocate.{word_byte, write_item, write_word};
 ghost use Rattle.elf_loading.specs.WordErrors.{IsFirstUnwritten, IsRelocationError, error_alone};
 ghost use Rattle.elf_loading.specs.Words.{binds_lazily};
 ghost use Rattle.elf_loading.specs.WordsLeft.{HasWordOf, IsSame, relocations_left};
-ghost use Rattle.elf_loading.specs.WordsLeft.{words_own};
 ghost use Rattle.elf_loading.specs.declared.error.LoadError.TheVariants.{CopySource};
 
 use crate::LoadError;
@@ -392,12 +391,12 @@ impl<'b, 's, 'a, E: LinkedSymbol> Sources<'b, 's, 'a, E> {
         image: &mut [u8],
     ) -> Result<bool, LoadError>
         requires start { start ≡ image_start self.now self.now.of }
-        requires words { AreWordsFor self.now.objects.now (words_own words.now) self.now.of
+        requires words { AreWordsFor self.now.objects.now words.now.own.now self.now.of
             words.now.lazy words.now }
         requires last { IfSome last.old (HasWordOf E.fields words.now) }
         ensures last { IfSome last.new (HasWordOf E.fields words.now) }
         ensures len { length image.new ≡ length image.old }
-        ensures item { IsItemWritten E.fields self.now (words_own words.now) words.now.lazy
+        ensures item { IsItemWritten E.fields self.now words.now.own.now words.now.lazy
             relocation image.old image.new result }
     {
         let item = words.item_after(relocation, last);
@@ -418,13 +417,13 @@ impl<'b, 's, 'a, E: LinkedSymbol> Sources<'b, 's, 'a, E> {
         image: &mut [u8],
     ) -> Result<bool, LoadError>
         requires start { start ≡ image_start self.now self.now.of }
-        requires words { AreWordsFor self.now.objects.now (words_own words.now) self.now.of
+        requires words { AreWordsFor self.now.objects.now words.now.own.now self.now.of
             words.now.lazy words.now }
         requires relative { relative.now ≡ relative_of (file_machine words.now.file) }
         requires last { IfSome last.old (HasWordOf E.fields words.now) }
         ensures last { IfSome last.new (HasWordOf E.fields words.now) }
         ensures len { length image.new ≡ length image.old }
-        ensures item { IsItemWritten E.fields self.now (words_own words.now) words.now.lazy
+        ensures item { IsItemWritten E.fields self.now words.now.own.now words.now.lazy
             relocation image.old image.new result }
     {
         match relative_word(self.of, relative, &relocation) {
@@ -471,12 +470,12 @@ impl<'b, 's, 'a, E: LinkedSymbol> Sources<'b, 's, 'a, E> {
         image: &mut [u8],
     ) -> u64
         requires start { start ≡ image_start self.now self.now.of }
-        requires words { AreWordsFor self.now.objects.now (words_own words.old) self.now.of
+        requires words { AreWordsFor self.now.objects.now words.old.own.now self.now.of
             words.old.lazy words.old }
         requires relative { relative.now ≡ relative_of (file_machine words.old.file) }
         ensures same { IsSame words.old words.new }
         ensures len { length image.new ≡ length image.old }
-        ensures run { IsWrittenSoFar E.fields self.now (words_own words.old) words.old.lazy
+        ensures run { IsWrittenSoFar E.fields self.now words.old.own.now words.old.lazy
             (relocations_left words.old) image.old (relocations_left words.new) image.new 0 result }
     {
         if words.order.packed.rest.is_some() {

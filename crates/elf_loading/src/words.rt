@@ -16,7 +16,7 @@ ghost use Rattle.elf_loading.specs.Words.{own_size, takes_addend, takes_symbol, 
 ghost use Rattle.elf_loading.specs.Words.{value_word, word_in_memory, word_of};
 ghost use Rattle.elf_loading.specs.WordsLeft.{AreWordsOf, HasWordOf, IsSame, own_relocations};
 ghost use Rattle.elf_loading.specs.WordsLeft.{relocation_of, relocations_left};
-ghost use Rattle.elf_loading.specs.WordsLeft.{words_objects, words_own};
+ghost use Rattle.elf_loading.specs.WordsLeft.{words_objects};
 
 use crate::LoadError;
 use crate::in_order::{InOrder, Relocation};
@@ -355,7 +355,7 @@ impl<'s, 'a, E: LinkedSymbol> Words<'s, 'a, E> {
     // The symbol that a relocation gets, if its word depends on one.
     fn bound(&self, relocation: &Relocation) -> Result<Option<Bound<E>>, LinkError>
         ensures { IsBoundIf (needs_symbol (file_machine self.now.file)
-            (is_later E.fields self.now.file (words_own self.now) self.now.lazy relocation.now)
+            (is_later E.fields self.now.file self.now.own.now self.now.lazy relocation.now)
             relocation.now) E.fields (words_objects self.now).now self.now.of
             relocation.now.reference result }
     {
@@ -418,7 +418,7 @@ impl<'s, 'a, E: LinkedSymbol> Words<'s, 'a, E> {
         bound: Result<Option<Bound<E>>, LinkError>,
     ) -> Relocated<E>
         requires { IsBoundIf (needs_symbol (file_machine self.now.file)
-            (is_later E.fields self.now.file (words_own self.now) self.now.lazy relocation)
+            (is_later E.fields self.now.file self.now.own.now self.now.lazy relocation)
             relocation) E.fields (words_objects self.now).now self.now.of
             relocation.reference bound }
         ensures relocation { result.relocation ≡ relocation }

@@ -1,13 +1,14 @@
 -- Lemmas on the first error of tests, and on the entries of a cache without an error.
 use Rattle.std.proofs.Common.{◌≡◌, ℕ, zero, suc, ◌+◌, ◌<◌, Bool, true, false, refl, sym, subst, arith, add-one}
-use Rattle.std.specs.Prelude.{◌==◌, not, is_none, Result, Ok, Err, MatchResult, [], ◌∷◌}
+use Rattle.std.specs.Prelude.{◌==◌, not, is_none, is_some, Option, None, Some, List, Result, Ok, Err, IsOk, MatchResult, if◌then◌else◌, [], ◌∷◌}
 use Rattle.std.proofs.lemmas.Bool.{eqb-false, eqb-true}
+use Rattle.std.proofs.lemmas.Option.{same_Some}
 use Rattle.elf_base.specs.FirstError.{and_then, unless}
-use Rattle.elf_search.specs.Cache.{IsGood, cache_check, entry_check, first_error, is_entry_inside, is_in_order, key_of, name_check, words_of_header}
+use Rattle.elf_search.specs.Cache.{AreNamesGood, IsGood, cache_check, entry_check, first_error, hwcaps_name, is_above, is_entry_inside, is_in_order, key_of, name_check, name_error, words_of_header}
 use Rattle.elf_search.specs.Pieces.{are_small, pieces}
 use Rattle.elf_search.specs.declared.cache.Cache.{Cache}
 use Rattle.elf_search.specs.declared.error.SearchError.{SearchError}
-use Rattle.elf_search.specs.declared.error.SearchError.TheVariants.{CacheEntry, CacheEntryOrder, CacheNumber}
+use Rattle.elf_search.specs.declared.error.SearchError.TheVariants.{CacheEntry, CacheEntryOrder, CacheNumber, HwcapsOrder}
 
 both_ok : (one two : Result (Unit {0}) SearchError) → and_then one (λ _. two) ≡ Ok tt → (one ≡ Ok tt) × (two ≡ Ok tt)
 both_ok (Ok u) two e = (refl, e)
@@ -66,3 +67,28 @@ pub checked_after : (cache : Cache) (names : Result (Unit {0}) SearchError) → 
     → MatchResult names (λ _. cache_check cache ≡ Ok tt) (λ error. cache_check cache ≡ Err error)
 checked_after cache (Ok u) entries extension h = rw (entries, extension) h
 checked_after cache (Err error) entries extension h = rw (entries, extension) h
+
+above_ok : (above : Bool) → (if above then Ok {T = Unit {0}} {E = SearchError} tt else Err HwcapsOrder) ≡ Ok tt → above ≡ true
+above_ok true e = refl
+above_ok false e = cc
+
+name_ok : (last name : Option (List ℕ)) → name_error last name ≡ Ok tt
+    → (is_some name ≡ true) × ((text : List ℕ) → name ≡ Some text → is_above last text ≡ true)
+name_ok last None e = cc
+name_ok last (Some name) e = (refl, λ text is. subst (λ one. is_above last one ≡ true) (same_Some name text is) (above_ok (is_above last name) e))
+
+names_good : (cache : Cache) → is_some (words_of_header cache.bytes.now cache.start) ≡ true
+    → first_error (name_check cache) cache.name_count ≡ Ok tt → AreNamesGood cache
+names_good cache extension h = record {
+  extension = extension;
+  inside = λ i b. (name_ok _ (hwcaps_name cache i) (each_ok (name_check cache) cache.name_count i h b)).0;
+  rise = λ i name b second. let now : name_check cache (i + 1) ≡ Ok tt = each_ok (name_check cache) cache.name_count (i + 1) h b in
+      (name_ok (hwcaps_name cache i) (hwcaps_name cache (suc i)) (rw add-one at now)).1 name (rw add-one at second);
+}
+
+-- names without an error are good
+pub checked_names : (cache : Cache) (names : Result (Unit {0}) SearchError) → is_some (words_of_header cache.bytes.now cache.start) ≡ true
+    → MatchResult names (λ _. first_error (name_check cache) cache.name_count ≡ Ok tt) (λ error. first_error (name_check cache) cache.name_count ≡ Err error)
+    → IsOk names → AreNamesGood cache
+checked_names cache (Ok u) extension h ok = names_good cache extension h
+checked_names cache (Err error) extension h ok = absurd ok

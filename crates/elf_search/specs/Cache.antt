@@ -325,3 +325,10 @@ pub record IsGood (cache : Cache) : Type 0 where
   pub inside : (i : ℕ) → i < cache.count → is_entry_inside cache i ≡ true
   pub small : (i : ℕ) → i < cache.count → are_small (pieces (key_of cache i)) ≡ true
   pub pairs : (i : ℕ) → i + 1 < cache.count → is_pair_good cache i ≡ true
+
+-- the extension is not damaged, and each name of hwcaps there is in the file, and above the one before it
+pub record AreNamesGood (cache : Cache) : Type 0 where
+  pub extension : is_some (words_of_header cache.bytes.now cache.start) ≡ true
+  pub inside : (i : ℕ) → i < cache.name_count → is_some (hwcaps_name cache i) ≡ true
+  pub rise : (i : ℕ) (name : List ℕ) → i + 1 < cache.name_count → hwcaps_name cache (i + 1) ≡ Some name
+      → is_above (hwcaps_name cache i) name ≡ true

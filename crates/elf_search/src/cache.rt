@@ -68,8 +68,8 @@ pub struct Cache<'a> {
 }
 
 impl<'a> Cache<'a> {
-    ghost use Rattle.elf_search.specs.Cache.{IsGood, LooksUp, cache_bytes, cache_check, cache_of};
-    ghost use Rattle.elf_search.specs.Cache.{entry_count, header_place, looked_up, name_words, value_of};
+    ghost use Rattle.elf_search.specs.Cache.{AreNamesGood, IsGood, LooksUp, cache_bytes, cache_check};
+    ghost use Rattle.elf_search.specs.Cache.{cache_of, entry_count, header_place, looked_up, name_words, value_of};
 
     /// The cache in the bytes of a file. The older format may come before it.
     ///
@@ -141,6 +141,7 @@ impl<'a> Cache<'a> {
         ensures exact { MatchResult result (λ _. cache_check self.now ≡ Ok tt)
             (λ error. cache_check self.now ≡ Err error) }
         ensures good { IsOk result → IsGood self.now }
+        ensures names { IsOk result → AreNamesGood self.now }
     {
         self.check_entries()?;
         if words_of_header(self.bytes, self.start).is_none() {

@@ -286,7 +286,8 @@ fn run_steps<W: Write, E: Write>(
     ensures checked { result ≡ 0
         → AreImagesGood ⟦<DynEntry32 as Record>⟧ ⟦<DynEntry64 as Record>⟧ page inputs.now }
 {
-    match tree_steps(alloc, tree, inputs) {
+    let early = early_starts(&tree.list, &tree.starts, inputs);
+    match start_steps(alloc, &tree.list, &tree.starts, early) {
         Some(steps) => {
             let asked = Options {
                 page,
@@ -298,14 +299,6 @@ fn run_steps<W: Write, E: Write>(
         }
         None => say_memory(err),
     }
-}
-
-// The steps of the start of a tree, whose files these are; `None` if there is no memory for them.
-fn tree_steps(alloc: Global, tree: &Tree, inputs: &[Input<'_>]) -> Option<Vec<Step>> {
-    let list: &[u32] = &tree.list;
-    let starts: &[u32] = &tree.starts;
-    let early = early_starts(list, starts, inputs);
-    start_steps(alloc, list, starts, early)
 }
 
 // The plans of all files, and the status: 1 if that of one is. Once nobody reads the output, no other plan is written.

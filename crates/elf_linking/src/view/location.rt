@@ -2,7 +2,7 @@
 
 ghost use Rattle.std.specs.Prelude.{◌≡◌};
 ghost use Rattle.elf_linking.specs.DynamicView.{view_entries};
-ghost use Rattle.elf_linking.specs.TableLocations.{table_by};
+ghost use Rattle.elf_linking.specs.TableLocations.{table_but_zero, table_by};
 
 use crate::view::DynamicView;
 
@@ -23,6 +23,17 @@ impl DynamicView<'_> {
     {
         TableLocation {
             start: self.entry(start),
+            size: self.entry(size),
+        }
+    }
+
+    /// The same; without a start if its address is 0, at which glibc takes no table of `DT_RELA` or
+    /// `DT_REL`.
+    pub fn table_but_zero(&self, start: u64, size: u64) -> TableLocation
+        ensures { result ≡ table_but_zero (view_entries self.now) start size }
+    {
+        TableLocation {
+            start: self.entry(start).filter(|address| *address != 0),
             size: self.entry(size),
         }
     }
