@@ -1,5 +1,5 @@
 #!/usr/bin/env python3
-"""What glibc does in the corners that docs/LOADING.md and docs/LINKING.md list as not modelled, and what elfload or elfbind says there.
+"""What glibc does in the corners of corners.toml, and what elfload or elfbind says there.
 
     oracle/corners.py     prints what the dynamic linker does with each file of corners.toml, and fails where it isn't what is written there
     oracle/corners.py --elfload crates/elfload/out/elfload --elfbind crates/elfbind/out/elfbind     compares what these programs say too

@@ -100,8 +100,9 @@ fn defines(versions: &Versions<'_>, hash: u32, name: &str) -> Result<bool, LinkE
     Ok(false)
 }
 
-// Why an object lacks the version of a need, `None` if it has it or is missing itself.
-fn lack_in(provided: &Provided<'_>, need: &Need<'_>) -> Result<Option<Lack>, LinkError>
+/// Why an object lacks the version of a need, `None` if it has it or is missing itself. The errors are those
+/// of the definitions up to the one that is looked for, and of `Need::name`.
+pub fn lack_in(provided: &Provided<'_>, need: &Need<'_>) -> Result<Option<Lack>, LinkError>
     ensures { result ≡ lack_in (provided_parts provided.now) (need_parts need.now) }
 {
     match provided {

@@ -49,9 +49,11 @@ opened for reading, and nothing is run.
 /// status.
 ///
 /// The status is 0 once all is written and flushed and nothing is missing, `CLOSED`, and nothing is
-/// said, if a write failed since nobody reads the output, and 1 otherwise. What an auxiliary entry asks for, and a version that is needed weakly or of a library without versions, may be
-/// missing. By the contract the status is 0 only if each name that the files of the objects ask for, other
-/// than by an auxiliary entry, found an object.
+/// said, if a write failed since nobody reads the output, and 1 otherwise. What an auxiliary entry asks
+/// for, and a version that is needed weakly or of a library without versions, may be missing. By the
+/// contract the status is 0 only if each name that the files of the objects ask for, other than by an
+/// auxiliary entry, found an object, and if each other version that is needed of that object is defined
+/// there.
 pub fn run<'t, W: Write, E: Write>(
     alloc: Global,
     options: &Options<'_>,

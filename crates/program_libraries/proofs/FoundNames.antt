@@ -1,7 +1,7 @@
 -- Names and what they found, one after the other.
 use Rattle.std.proofs.Common.{◌≡◌, ◌&&◌, ℕ, List, [], ◌∷◌, true, false, ap, ◌∙◌}
 use Rattle.elf_search.specs.Names.{NameParts}
-use Rattle.program_libraries.specs.Complete.{after_first, are_found, is_found}
+use Rattle.program_libraries.specs.NeededNames.{after_first, are_found, is_found}
 
 pub found_end : (count : ℕ) (names : List NameParts) (edges : List ℕ) → names ≡ [] → are_found count names edges ≡ true
 found_end count names edges is = ap (λ some. are_found count some edges) is

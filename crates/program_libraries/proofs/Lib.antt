@@ -1,3 +1,4 @@
 pub mod FoundNames
 pub mod ListedInputs
+pub mod NeededVersions
 pub mod Served

@@ -1,2 +1,4 @@
 pub mod Complete
 pub mod Listed
+pub mod NeededNames
+pub mod NeededVersions

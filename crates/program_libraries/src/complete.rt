@@ -1,21 +1,32 @@
-//! Whether a program gets all libraries that it needs.
+//! Whether a program gets all libraries and versions that it needs.
 
 ghost use Rattle.std.specs.Prelude.{◌≡◌, IsTrue, length};
 ghost use Rattle.elf_linking.specs.DynamicView.{view_entries, view_strings};
 ghost use Rattle.elf_search.specs.Names.{names_in};
-ghost use Rattle.program_libraries.specs.Complete.{IsComplete, IsServed, IsServedBy, after_first};
-ghost use Rattle.program_libraries.specs.Complete.{are_found, has_object};
+ghost use Rattle.program_libraries.specs.Complete.{IsComplete};
+ghost use Rattle.program_libraries.specs.NeededNames.{AreNamesFound, IsServed, IsServedBy, after_first};
+ghost use Rattle.program_libraries.specs.NeededNames.{are_found, has_object};
 
+use crate::needed_versions::are_versions_met;
 use crate::objects::{Object, view_of};
 use crate::store::StoredFile;
 use elf_linking::view::DynamicView;
 use elf_search::names::{NameKind, needed_names};
 
-/// Whether there is an object, and each name that one of them asks for, other than by an auxiliary entry, found
-/// one of them. The names are those of the files, read anew.
-#[tactic(auto, using(crate::proofs::Served::served_none, crate::proofs::Served::served_more, crate::proofs::Served::served_all))]
+/// Whether there is an object, each name that one of them asks for, other than by an auxiliary entry, found one
+/// of them, and each version that is needed of that one, and not weakly, is defined there if it defines any. The names
+/// and the versions are those of the files, read anew.
 pub fn is_complete(files: &[StoredFile], objects: &[Object]) -> bool
     ensures { IsTrue result → IsComplete files.now objects.now }
+{
+    are_names_found(files, objects) && are_versions_met(files, objects)
+}
+
+// Whether there is an object, and each name that one of them asks for, other than by an auxiliary entry, found one
+// of them.
+#[tactic(auto, using(crate::proofs::Served::served_none, crate::proofs::Served::served_more, crate::proofs::Served::names_served))]
+pub(crate) fn are_names_found(files: &[StoredFile], objects: &[Object]) -> bool
+    ensures { IsTrue result → AreNamesFound files.now objects.now }
 {
     for index in 0..objects.len() {
         if !is_served(files, objects.len(), &objects[index]) {
@@ -74,7 +85,7 @@ fn has_object(count: usize, edges: &[u32]) -> bool
 }
 
 // What is after the first of some entries.
-fn after_first(edges: &[u32]) -> &[u32]
+pub(crate) fn after_first(edges: &[u32]) -> &[u32]
     ensures { result.now ≡ after_first edges.now }
 {
     match edges.split_first() {

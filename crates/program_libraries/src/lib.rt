@@ -10,6 +10,7 @@ mod finding;
 mod holders;
 mod listed;
 mod missing;
+mod needed_versions;
 mod objects;
 mod options;
 mod processor;

@@ -4,8 +4,9 @@ ghost use Rattle.std.specs.Prelude.{◌≡◌, ◌≢◌, ◌≤◌, IsFalse};
 ghost use Rattle.program_ends.specs.declared.TheConstants.{CLOSED};
 ghost use Rattle.program_libraries.specs.Complete.{IsComplete, with_missing};
 
-use crate::complete::is_complete;
+use crate::complete::are_names_found;
 use crate::error::{FindError, say_error};
+use crate::needed_versions::are_versions_met;
 use crate::objects::Object;
 use crate::store::StoredFile;
 use crate::trees::Tree;
@@ -31,8 +32,9 @@ pub fn say_missing<W: Write>(
 ) -> bool
     ensures { IsFalse result → IsComplete files.now tree.now.objects.items }
 {
-    if is_complete(files, &tree.objects) {
-        return say_lacked(alloc, program, files, tree, err);
+    if are_names_found(files, &tree.objects) {
+        let lacked = say_lacked(alloc, program, files, tree, err);
+        return lacked || !are_versions_met(files, &tree.objects);
     }
     for object in &tree.objects {
         let _ = write_missing(program, tree.objects.len(), object, err);

@@ -1,7 +1,7 @@
 //! The objects that a program gets, and what their files say of them.
 
 ghost use Rattle.std.specs.Prelude.{IfOk};
-ghost use Rattle.program_libraries.specs.Complete.{IsViewOf};
+ghost use Rattle.program_libraries.specs.NeededNames.{IsViewOf};
 
 use crate::error::{FindError, error_in};
 use crate::systems::System;

@@ -2,18 +2,17 @@
 
 use crate::error::{FindError, error_in, need_record};
 use crate::holders::{Holder, given_holders, tree_holders};
+use crate::needed_versions::{provided_by, versions_by};
 use crate::objects::view_of;
 use crate::records::{OtherRecord, is_passed, other_definition, other_need};
 use crate::store::StoredFile;
 use crate::trees::Tree;
 use elf_linking::LinkError;
 use elf_linking::versions::{Need, Versions};
-use elf_linking::view::DT_VERDEF;
 use elf_search::SearchError;
 use elf_search::versions::{Lack, MissingVersion, Provided, Provider, missing_versions};
 use linking_programs::Input;
 use std::alloc::{AllocError, Global};
-use xmas_elf::ElfFile;
 
 /// A version that a library lacks.
 #[derive(Clone, Copy, Debug, Drop)]
@@ -91,25 +90,9 @@ fn lacked_among<'t>(
 
 // The versions of the file of an object.
 fn versions_in(bytes: &[u8]) -> Result<Option<Versions<'_>>, LinkError> {
-    let file = match ElfFile::new(bytes) {
-        Ok(file) => file,
-        Err(error) => return Err(LinkError::Elf(error)),
-    };
     match view_of(bytes)? {
-        Some(view) => Ok(Some(Versions::read(&view, &file, 0)?)),
+        Some(view) => Ok(Some(versions_by(bytes, &view)?)),
         None => Ok(None),
-    }
-}
-
-// What the file of an object provides.
-fn provided_by(bytes: &[u8]) -> Result<Provided<'_>, LinkError> {
-    let has_versions = match view_of(bytes)? {
-        Some(view) => view.entry(DT_VERDEF).is_some(),
-        None => false,
-    };
-    match versions_in(bytes)? {
-        Some(versions) if has_versions => Ok(Provided::Versions(versions)),
-        _ => Ok(Provided::NoVersions),
     }
 }
 

@@ -1,7 +1,7 @@
 use Rattle.std.proofs.Common.{◌≡◌}
 use Rattle.elf_linking.specs.DynamicView.{view_entries, view_strings}
 use Rattle.elf_search.specs.Names.{names_in, names_left}
-use Rattle.program_libraries.specs.Complete.{are_found}
+use Rattle.program_libraries.specs.NeededNames.{are_found}
 use Rattle.program_libraries.proofs.complete.are_found.Given as goal
 
 -- the names that are left have found what they need just if all have

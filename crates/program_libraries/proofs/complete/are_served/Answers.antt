@@ -1,6 +1,6 @@
 use Rattle.std.proofs.Common.{◌≡◌, ◌∙◌, Some, None, Ok, ap, refl, sym, subst}
 use Rattle.std.specs.Prelude.{IfOk}
-use Rattle.program_libraries.specs.Complete.{IsViewOf}
+use Rattle.program_libraries.specs.NeededNames.{IsViewOf}
 use Rattle.program_libraries.proofs.complete.are_served.Goals as goal
 
 pub returns-in-Ok-Some : goal.returns-in-Ok-Some
