@@ -286,6 +286,11 @@ const RECORDS_64: &[Row] = &[
         ],
         Ok(()),
     ),
+    // at address 0 there is none
+    (
+        &[(TAG_AT, TAG, COUNT), (OTHER, WIDE, 9), (RELA, WIDE, 0)],
+        Ok(()),
+    ),
     // types of the procedure linkage table: a descriptor and what a function returns are allowed
     (&[(SLOT, KIND, 1)], Err(LoadError::SlotType)),
     (&[(SLOT, KIND, 6)], Err(LoadError::SlotType)),

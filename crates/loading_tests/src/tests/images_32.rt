@@ -79,6 +79,15 @@ const ALL_32: &[Row] = &[
         ],
         Err(LoadError::RelativeCount),
     ),
+    // the same at address 0, where there is no table
+    (
+        &[
+            (PACKED_32 - 4, NARROW, COUNT_OF_REL),
+            (PACKED_32, NARROW, 2),
+            (REL, NARROW, 0),
+        ],
+        Ok(()),
+    ),
     (&[(TABLE + 20, NARROW, 0x106)], Err(LoadError::SlotType)),
     (&[(TABLE + 12, NARROW, 0x226)], Err(LoadError::NoSize)),
     (&[(REL_EACH, NARROW, 12)], Err(LoadError::RelocationSize)),
