@@ -11,5 +11,6 @@ table_by entries start size = record { start = number_with start entries; size =
 -- the same; at address 0 there is no table, as glibc takes DT_RELA and DT_REL
 abbrev pub table_but_zero : List (Dynamic ℕ) → ℕ → ℕ → TableLocation
 table_but_zero entries start size = record {
-  start = option_and_then (λ address. if address == 0 then None else Some address) (number_with start entries)
-  size = number_with size entries }
+  start = option_and_then (λ address. if address == 0 then None else Some address) (number_with start entries);
+  size = number_with size entries;
+}
