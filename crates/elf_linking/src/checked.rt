@@ -132,6 +132,7 @@ impl<'a, E: LinkedSymbol> CheckedObject<'a, E> {
     }
 
     // The result of `find_bytes`, by the hash number of the name for GNU's table.
+    #[inline(always)]
     pub(crate) fn find_hashed(
         &self,
         name: &[u8],

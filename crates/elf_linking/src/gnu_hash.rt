@@ -2,7 +2,7 @@
 //! 0x6ffffff6, `.gnu.hash`, and the dynamic entry `DT_GNU_HASH`).
 
 ghost use Rattle.std.specs.Prelude.{◌≡◌, ◌↔◌, ◌+◌, ◌*◌, ◌/◌, ◌^◌, ◌==◌, ◌<◌, ◌≤◌};
-ghost use Rattle.std.specs.Prelude.{length, IfOk, IsOk, IsTrue, MatchResult};
+ghost use Rattle.std.specs.Prelude.{◌%◌, length, IfOk, IsOk, IsTrue, MatchResult};
 ghost use Rattle.elf_linking.specs.Layouts.{IsGnuTable, bloom_count_in, bloom_size, chains_in};
 ghost use Rattle.elf_linking.specs.Layouts.{gnu_hash_number, gnu_table_of, is_known};
 ghost use Rattle.std.specs.Int.{bit_at, is_power_of_two};
@@ -63,6 +63,16 @@ fn is_set(word: u64, bit: u32) -> bool
     ensures { result ≡ (bit_at word bit == 1) }
 {
     (word >> bit) & 1 == 1
+}
+
+// The remainder of a number by a power of two, without a division.
+#[tactic(auto, using(crate::proofs::Shifts::masked, crate::proofs::Shifts::some_bit))]
+#[inline(always)]
+fn remainder(number: u32, power: u32) -> u32
+    requires { IsTrue (is_power_of_two power) }
+    ensures { result ≡ number % power }
+{
+    number & (power - 1)
 }
 
 // A hash number, shifted to the right by any number of bits.
@@ -267,7 +277,7 @@ impl<'a> GnuHashTable<'a> {
         requires { width ≡ 8 * bloom_size (gnu_class self.now) }
         ensures { result ≡ may_hold self.now hash }
     {
-        let word = self.bloom(hash / width % self.bloom_count());
+        let word = self.bloom(remainder(hash / width, self.bloom_count()));
         let shifted = shifted(hash, self.bloom_shift());
         is_set(word, hash % width) && is_set(word, shifted % width)
     }

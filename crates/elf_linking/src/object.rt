@@ -384,6 +384,7 @@ impl<'a, E: LinkedSymbol> DynamicObject<'a, E> {
 
     // The result of `find_bytes`, by the hash number of the name for GNU's table, so that a look-up in
     // many objects computes it once.
+    #[inline(always)]
     pub(crate) fn find_hashed(
         &self,
         name: &[u8],

@@ -291,6 +291,7 @@ impl<'s, 'a, E: LinkedSymbol> Scope<'s, 'a, E> {
 
     // What the object at an index gives.
     #[tactic(auto, using(crate::proofs::Scopes::over))]
+    #[inline(always)]
     fn given(
         &self,
         place: usize,

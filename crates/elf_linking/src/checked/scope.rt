@@ -184,6 +184,7 @@ impl<'s, 'a, E: LinkedSymbol> CheckedScope<'s, 'a, E> {
     }
 
     // What the object at an index gives.
+    #[inline(always)]
     fn given(
         &self,
         place: usize,

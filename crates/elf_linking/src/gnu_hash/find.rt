@@ -1,8 +1,9 @@
 //! The search by GNU's table for the symbol that a reference gets, in one pass over the run of its
 //! name.
 
-ghost use Rattle.std.specs.Prelude.{◌≡◌};
+ghost use Rattle.std.specs.Prelude.{◌≡◌, Some};
 ghost use Rattle.elf_linking.specs.Find.{IsFound, dynamic_symbols};
+ghost use Rattle.elf_linking.specs.GnuHash.{start_at};
 ghost use Rattle.elf_linking.specs.Layouts.{gnu_hash_number};
 ghost use Rattle.elf_linking.specs.Versions.{version_list};
 ghost use Rattle.elf_linking.specs.declared.any_table.AnyTable.TheVariants.{Gnu};
@@ -18,7 +19,9 @@ use elf_base::bytes::Record;
 use xmas_elf::symbol_table::{Entry, SymbolTable};
 
 impl<'a> GnuHashTable<'a> {
-    // The symbol that a reference gets, by the name and its hash number.
+    // The symbol that a reference gets, by the name and its hash number. Most files of a scope have no
+    // symbol of a name, so this part is made one with its caller.
+    #[inline(always)]
     pub(crate) fn find_in<E: Entry + Record>(
         &self,
         name: &[u8],
@@ -32,9 +35,28 @@ impl<'a> GnuHashTable<'a> {
         ensures { IsFound (dynamic_symbols (Gnu self.now) (table_symbols symbols.now)
             (version_list versions.now)) name.now wanted.now use_ result }
     {
-        let Some(from) = self.start(hash) else {
-            return Ok(None);
-        };
+        match self.start(hash) {
+            Some(from) => self.find_from(from, name, hash, symbols, versions, wanted, use_),
+            None => Ok(None),
+        }
+    }
+
+    // The same from the first symbol of the run on.
+    fn find_from<E: Entry + Record>(
+        &self,
+        from: u32,
+        name: &[u8],
+        hash: u32,
+        symbols: &SymbolTable<'_, E>,
+        versions: &Versions<'_>,
+        wanted: &Wanted<'_>,
+        use_: Use,
+    ) -> Result<Option<(u32, E)>, LinkError>
+        requires hashed { hash ≡ gnu_hash_number name.now }
+        requires starts { start_at self.now hash ≡ Some from }
+        ensures { IsFound (dynamic_symbols (Gnu self.now) (table_symbols symbols.now)
+            (version_list versions.now)) name.now wanted.now use_ result }
+    {
         if from < self.first_symbol() {
             return Err(LinkError::ChainIndex);
         }

@@ -5,7 +5,7 @@ use Rattle.elf_linking.specs.declared.any_table.AnyTable.TheVariants.{Gnu}
 use Rattle.xmas_elf.specs.SymbolTable.{table_symbols}
 use Rattle.elf_linking.proofs.GnuFinds.{MissedUpTo}
 use Rattle.elf_linking.proofs.Kept.{Comes}
-use Rattle.elf_linking.proofs.gnu_hash.GnuHashTable.find_in.Given as goal
+use Rattle.elf_linking.proofs.gnu_hash.GnuHashTable.find_from.Given as goal
 
 abbrev pub invariant-loop-index : goal.invariant-loop-index
 invariant-loop-index g l =
