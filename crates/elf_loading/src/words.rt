@@ -353,6 +353,7 @@ impl<'s, 'a, E: LinkedSymbol> Words<'s, 'a, E> {
     }
 
     // The symbol that a relocation gets, if its word depends on one.
+    #[inline(always)]
     fn bound(&self, relocation: &Relocation) -> Result<Option<Bound<E>>, LinkError>
         ensures { IsBoundIf (needs_symbol (file_machine self.now.file)
             (is_later E.fields self.now.file self.now.own.now self.now.lazy relocation.now)
@@ -368,7 +369,8 @@ impl<'s, 'a, E: LinkedSymbol> Words<'s, 'a, E> {
         }
     }
 
-    // A relocation with its word.
+    // A relocation with its word. It has 200 bytes and more, which calls would copy.
+    #[inline(always)]
     fn item(&self, relocation: Relocation) -> Relocated<E>
         ensures relocation { result.relocation ≡ relocation }
         ensures word { HasWordOf E.fields self.now result }
@@ -394,6 +396,7 @@ impl<'s, 'a, E: LinkedSymbol> Words<'s, 'a, E> {
 
     // The same after an item. Linkers put relocations of one symbol one after the other, and each of
     // these gets the symbol of the last.
+    #[inline(always)]
     pub(crate) fn item_after(
         &self,
         relocation: Relocation,
@@ -412,6 +415,7 @@ impl<'s, 'a, E: LinkedSymbol> Words<'s, 'a, E> {
     }
 
     // A relocation with its word, by the symbol that it gets.
+    #[inline(always)]
     fn item_with(
         &self,
         relocation: Relocation,
