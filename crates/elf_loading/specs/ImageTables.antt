@@ -216,16 +216,9 @@ is_no_slot machine one = let row = row_of machine one.kind in not (row.slot || i
 -- why glibc can't apply the relocations of these tables: counts of relative ones; types of the procedure linkage table, if
 -- the file doesn't ask for its symbols before it runs
 abbrev pub record_rows : ElfFile → List (Dynamic ℕ) → Tables → List (Bool × LoadError)
-record_rows file entries tables = (
-  is_overcounted file entries DT_RELA DT_RELASZ DT_RELACOUNT tables.rela
-      || is_overcounted file entries DT_REL DT_RELSZ DT_RELCOUNT tables.rel,
-  error.RelativeCount,
-)
-    ∷ (
-      binds_lazily entries Lazy
-          && list_any (is_no_slot (file_machine file)) tables.plt,
-      error.SlotType,
-    )
+record_rows file entries tables =
+    (is_overcounted file entries DT_RELA DT_RELASZ DT_RELACOUNT tables.rela || is_overcounted file entries DT_REL DT_RELSZ DT_RELCOUNT tables.rel, error.RelativeCount)
+    ∷ (binds_lazily entries Lazy && list_any (is_no_slot (file_machine file)) tables.plt, error.SlotType)
     ∷ []
 
 -- the file asks for writes to loads that are not writable: by an entry DT_TEXTREL, or by the flag DF_TEXTREL (4)
