@@ -68,7 +68,10 @@ pub checked_after : (cache : Cache) (names : Result (Unit {0}) SearchError) → 
 checked_after cache (Ok u) entries extension h = rw (entries, extension) h
 checked_after cache (Err error) entries extension h = rw (entries, extension) h
 
-above_ok : (above : Bool) → (if above then Ok {T = Unit {0}} {E = SearchError} tt else Err HwcapsOrder) ≡ Ok tt → above ≡ true
+abbrev order_error : Bool → Result (Unit {0}) SearchError
+order_error above = if above then Ok tt else Err HwcapsOrder
+
+above_ok : (above : Bool) → order_error above ≡ Ok tt → above ≡ true
 above_ok true e = refl
 above_ok false e = cc
 
@@ -91,4 +94,4 @@ pub checked_names : (cache : Cache) (names : Result (Unit {0}) SearchError) → 
     → MatchResult names (λ _. first_error (name_check cache) cache.name_count ≡ Ok tt) (λ error. first_error (name_check cache) cache.name_count ≡ Err error)
     → IsOk names → AreNamesGood cache
 checked_names cache (Ok u) extension h ok = names_good cache extension h
-checked_names cache (Err error) extension h ok = absurd ok
+checked_names cache (Err error) extension h ok = cc
