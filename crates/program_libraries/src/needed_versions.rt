@@ -96,7 +96,7 @@ fn are_all_met(
     needs: Needs<'_>,
 ) -> bool
     ensures { IsTrue result
-        → AreAllMet (IsMet files.now objects.now view.now edges.now) (needs_left needs) }
+        → AreAllMet (IsMet files.now objects.now view.now edges.now) (needs_left needs.entry) }
 {
     for item in needs {
         let Ok(need) = item else {
@@ -121,7 +121,12 @@ fn is_met(
 {
     match need.file() {
         Ok(file) => {
-            is_first_provided(files, objects, edges_from(file.as_bytes(), view, edges), need)
+            is_first_provided(
+                files,
+                objects,
+                edges_from(file.as_bytes(), view, edges),
+                need,
+            )
         }
         Err(_) => false,
     }
@@ -143,12 +148,7 @@ fn is_first_provided(
 }
 
 // Whether the library with a number, if there is one, does.
-fn is_provided_by(
-    files: &[StoredFile],
-    objects: &[Object],
-    number: u32,
-    need: &Need<'_>,
-) -> bool
+fn is_provided_by(files: &[StoredFile], objects: &[Object], number: u32, need: &Need<'_>) -> bool
     ensures { IsTrue result → IsProvidedBy files.now objects.now (need_parts need.now) number }
 {
     let Some(library) = objects.get(number as usize) else {
