@@ -1,6 +1,6 @@
 -- Whether the libraries that a program gets define the versions that it needs of them (LSB, "Symbol Versioning"; which of
 -- them keep a program from starting, as in glibc 2.36).
-use Rattle.std.specs.Prelude.{◌≡◌, ℕ, Bool, true, false, List, [], ◌∷◌, Option, None, Some, Result, Ok, Err, IfOk, IfSome, is_some, nat_eq, slice_get, ⊤, if◌then◌else◌}
+use Rattle.std.specs.Prelude.{◌≡◌, ℕ, Bool, true, false, List, [], ◌∷◌, Option, None, Some, Result, Ok, Err, IfSome, is_some, nat_eq, slice_get, ⊤, if◌then◌else◌}
 use Rattle.std.specs.Cmp.Lexicographic.{pointwise}
 use Rattle.elf_linking.specs.DynamicObject.{IsFileOf}
 use Rattle.elf_linking.specs.DynamicView.{number_with, view_entries, view_strings}
