@@ -11,7 +11,7 @@ use Rattle.elf_linking.specs.Loaded.{bytes_at_of}
 use Rattle.elf_linking.specs.References.{Tables, file_machine, reference_in, references_in, relocation_tables, table_relocations, tables_with}
 use Rattle.elf_linking.specs.RelocationRecords.{rela_reference}
 use Rattle.elf_linking.specs.RelocationTypes.{relative_kind}
-use Rattle.elf_linking.specs.TableLocations.{table_but_zero}
+use Rattle.elf_linking.specs.TableLocations.{table_but_zero, table_by}
 use Rattle.elf_linking.specs.declared.error.LinkError.{LinkError}
 use Rattle.elf_linking.specs.declared.references.Reference.{Reference}
 use Rattle.elf_linking.specs.declared.view.tags.TheConstants.{DT_JMPREL, DT_PLTREL, DT_PLTRELSZ, DT_REL, DT_RELA, DT_RELASZ, DT_RELSZ}

@@ -1,9 +1,9 @@
 -- The words of an object that are left (this project's own).
-use Rattle.std.specs.Prelude.{◌≡◌, ℕ, Bool, List, Option, None, Some, Result, Err, slice_get}
+use Rattle.std.specs.Prelude.{◌≡◌, ℕ, List, Option, None, Some, Result, Err, slice_get}
 use Rattle.std.specs.Borrow.{Bor}
 use Rattle.elf_linking.specs.DynamicObject.{object_file, object_view}
 use Rattle.elf_linking.specs.DynamicView.{view_entries}
-use Rattle.elf_loading.specs.Types.{Binding, DynamicObject, ElfFile, LinkError, Relocated, Relocation}
+use Rattle.elf_loading.specs.Types.{Binding, DynamicObject, LinkError, Relocated, Relocation}
 use Rattle.elf_linking.specs.declared.error.LinkError.TheVariants.{ObjectIndex}
 use Rattle.elf_linking.specs.Scope.{scope_objects}
 use Rattle.elf_loading.specs.InOrder.{order_left, relocations_in_order}

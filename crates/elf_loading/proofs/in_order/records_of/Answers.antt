@@ -1,5 +1,5 @@
 use Rattle.std.proofs.Common.{◌≡◌, ◌∙◌, ap, sym}
-use Rattle.std.specs.Prelude.{Ok, false, take, true}
+use Rattle.std.specs.Prelude.{false, take, true}
 use Rattle.elf_base.specs.FileHeader.{file_class, file_order}
 use Rattle.elf_linking.specs.DynamicView.{view_entries}
 use Rattle.elf_linking.specs.References.{references_in}
@@ -17,5 +17,5 @@ returns c = λ references is.
     ap (λ order. placed false false (take c.args.kept (references_in 8 true order c.in-Ok-new.table.bytes.now))) (c.in-Ok-new.ensures.2 ∙ c.byte_order.ensures)
     ∙ ap (λ bytes. placed false false (take c.args.kept (references_in 8 true (file_order file.header) bytes))) c.in-Ok-new.ensures.1
     ∙ records_kept file table c.in-Some-Some.start c.in-Some-Some.size c.in-Ok.bytes.now class_is
-    (ap (λ one. one.start) (sym c.table_by-table.ensures) ∙ c.in-Some-Some.is-0) (ap (λ one. one.size) (sym c.table_by-table.ensures) ∙ c.in-Some-Some.is-1)
+    (ap (λ one. one.start) (sym c.table_but_zero-table.ensures) ∙ c.in-Some-Some.is-0) (ap (λ one. one.size) (sym c.table_but_zero-table.ensures) ∙ c.in-Some-Some.is-1)
     (sym c.in-Ok.ensures.exact) c.in-Ok-new.ensures.0 c.args.kept references is
