@@ -369,7 +369,7 @@ impl<'s, 'a, E: LinkedSymbol> Words<'s, 'a, E> {
         }
     }
 
-    // A relocation with its word. It has 200 bytes and more, which calls would copy.
+    // A relocation with its word. It has 200 bytes and more, which a call would copy.
     #[inline(always)]
     fn item(&self, relocation: Relocation) -> Relocated<E>
         ensures relocation { result.relocation ≡ relocation }

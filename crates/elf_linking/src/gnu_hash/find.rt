@@ -20,7 +20,7 @@ use xmas_elf::symbol_table::{Entry, SymbolTable};
 
 impl<'a> GnuHashTable<'a> {
     // The symbol that a reference gets, by the name and its hash number. Most files of a scope have no
-    // symbol of a name, so this part is made one with its caller.
+    // symbol of a name, and for these no call is made: this part is inlined.
     #[inline(always)]
     pub(crate) fn find_in<E: Entry + Record>(
         &self,
@@ -41,7 +41,7 @@ impl<'a> GnuHashTable<'a> {
         }
     }
 
-    // The same from the first symbol of the run on.
+    // The symbol that a reference gets, from the first symbol of the run of its name on.
     fn find_from<E: Entry + Record>(
         &self,
         from: u32,

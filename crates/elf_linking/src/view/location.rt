@@ -27,8 +27,8 @@ impl DynamicView<'_> {
         }
     }
 
-    /// The same; without a start if its address is 0, at which glibc takes no table of `DT_RELA` or
-    /// `DT_REL`.
+    /// The table of `DT_RELA` or of `DT_REL`, by the entries for its address and its size in bytes:
+    /// without a start if the address is 0, where glibc 2.36 applies none of its relocations.
     pub fn table_but_zero(&self, start: u64, size: u64) -> TableLocation
         ensures { result ≡ table_but_zero (view_entries self.now) start size }
     {
