@@ -15,7 +15,8 @@ use elf_search::names::{NameKind, needed_names};
 
 /// Whether there is an object, each name that one of them asks for, other than by an auxiliary entry, found one
 /// of them, and each version that is needed of that one, and not weakly, is defined there if it defines any. The names
-/// and the versions are those of the files, read anew.
+/// and the versions are those of the files, read anew. For each version that is needed this takes a pass over the names of
+/// its object, and over the dynamic entries and the definitions of the library.
 pub fn is_complete(files: &[StoredFile], objects: &[Object]) -> bool
     ensures { IsTrue result → IsComplete files.now objects.now }
 {
